@@ -8,14 +8,14 @@ use Rattle.debug_session.specs.Answers.{refusal_line}
 use Rattle.debug_session.specs.Prompt.{AtPrompt, ObeysAtPrompt, MovesAgain, FollowsTyped, AnswersTyped}
 use Rattle.debug_session.specs.TypedGrammar.{TypedReading, typed_reading}
 
-pub nothing_again : (start : State) (old : AtPrompt) (out : List ℕ) → old.last ≡ None → out ≡ [] → MovesAgain start old.last old old out
+pub nothing_again : (start : State) (old : AtPrompt) (out : List ℕ) → old.memo.last ≡ None → out ≡ [] → MovesAgain start old.memo.last old old out
 nothing_again start old out none told = subst (λ (m : Option Typed). MovesAgain start m old old out) (sym none) (record { same = refl; told = told })
 
-pub done_again : (start : State) (old new : AtPrompt) (out : List ℕ) (move : Typed) → old.last ≡ Some move → ObeysAtPrompt start move old new out → MovesAgain start old.last old new out
+pub done_again : (start : State) (old new : AtPrompt) (out : List ℕ) (move : Typed) → old.memo.last ≡ Some move → ObeysAtPrompt start move old new out → MovesAgain start old.memo.last old new out
 done_again start old new out move is obeys = subst (λ (m : Option Typed). MovesAgain start m old new out) (sym is) obeys
 
 module _ (limits : Limits) (start : State) (line : List ℕ) (old new : AtPrompt) (out : List ℕ) where
-  pub is_again : None ≡ typed_reading limits line → MovesAgain start old.last old new out → AnswersTyped limits start line old new out
+  pub is_again : None ≡ typed_reading limits line → MovesAgain start old.memo.last old new out → AnswersTyped limits start line old new out
   is_again read again = subst (λ (r : Option TypedReading). FollowsTyped start r old new out) read again
 
   pub is_obeyed : (asked : Typed) → Some (Ok asked) ≡ typed_reading limits line → ObeysAtPrompt start asked old new out → AnswersTyped limits start line old new out

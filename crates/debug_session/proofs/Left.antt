@@ -13,11 +13,12 @@ use Rattle.debug_session.specs.declared.window_move.WindowMove.{WindowMove}
 use Rattle.debug_session.specs.declared.window_move.WindowMove.TheVariants.{Run, Until}
 use Rattle.debug_session.specs.Answers.{Standing, standing, Obeys, Follows, Answers, refusal_line}
 use Rattle.debug_session.specs.Grammar.{Reading, reading}
-use Rattle.debug_session.specs.Prompt.{AtPrompt, Rests, ObeysAtPrompt, AnswersTyped, TypedAnswers, at_prompt, is_long, is_quit}
-use Rattle.debug_session.specs.TypedAnswers.{ObeysTyped, last_after}
-use Rattle.debug_session.specs.WindowMoves.{MoveGoesTo, IsAsked, IsTyped, IsLeft, IsTypedLeft, command_of}
+use Rattle.debug_session.specs.Memos.{knowing}
+use Rattle.debug_session.specs.Prompt.{AtPrompt, Rests, ObeysAtPrompt, AnswersTyped, TypedAnswers, at_prompt, memo_after, is_long, is_quit}
+use Rattle.debug_session.specs.TypedAnswers.{ObeysTyped}
+use Rattle.debug_session.specs.WindowMoves.{MoveGoesTo, IsAsked, IsTyped, IsLeft, IsTypedLeft, command_of, report_of}
 use Rattle.debug_session.proofs.Moved.{Gone}
-use Rattle.debug_session.proofs.TypedMoving.{GoneOn}
+use Rattle.debug_session.proofs.TypedMoving.{GonePast}
 
 -- what is obeyed, or asks for a move
 pub asked_as : (r : Option WindowMove) (asked other : Command) (old new : Debugging) (P Q : Type 0) → asked ≡ other → (P → Q) → MatchOption r P (IsAsked other old new) → MatchOption r Q (IsAsked asked old new)
@@ -40,21 +41,21 @@ line_obeyed limits line command old new (Some left) out read move = record {
 }
 
 -- so at a prompt
-pub typed_obeyed : (asked : Typed) (old new : Dialogue) (r : Option WindowMove) (out : List ℕ) → new.last ≡ last_after asked old.last
-    → MatchOption r (ObeysTyped old.debugger.start asked (standing old.debugger) (standing new.debugger) out) (IsTyped asked old.debugger new.debugger)
+pub typed_obeyed : (asked : Typed) (old new : Dialogue) (r : Option WindowMove) (out : List ℕ) → new.memo ≡ memo_after asked (at_prompt old)
+    → MatchOption r (ObeysTyped old.debugger.start (knowing new.memo.known asked) (standing old.debugger) (standing new.debugger) out) (IsTyped (knowing new.memo.known asked) old.debugger new.debugger)
     → MatchOption r (ObeysAtPrompt old.debugger.start asked (at_prompt old) (at_prompt new) out) (IsTypedLeft old new (ObeysAtPrompt old.debugger.start asked (at_prompt old)))
-typed_obeyed asked old new None out last obeys = record { obeyed = obeys; last = last }
-typed_obeyed asked old new (Some left) out last move = record {
+typed_obeyed asked old new None out memo obeys = record { obeyed = obeys; memo = memo }
+typed_obeyed asked old new (Some left) out memo move = record {
   same = move.1;
   answers = λ at said obeys.
-      record { obeyed = subst (λ (k : Typed). ObeysTyped old.debugger.start k (standing old.debugger) at said) (sym move.0) obeys; last = last };
+      record { obeyed = subst (λ (k : Typed). ObeysTyped old.debugger.start k (standing old.debugger) at said) (sym move.0) obeys; memo = memo };
 }
 
 -- what is done or left comes to what follows of it
 pub typed_as : (old new : Dialogue) (P Q : AtPrompt → List ℕ → Type 0) (r : Option WindowMove) (out : List ℕ) → ((at : AtPrompt) (said : List ℕ) → P at said → Q at said)
     → MatchOption r (P (at_prompt new) out) (IsTypedLeft old new P) → MatchOption r (Q (at_prompt new) out) (IsTypedLeft old new Q)
 typed_as old new P Q None out says is = says (at_prompt new) out is
-typed_as old new P Q (Some left) out says is = record { same = is.same; answers = λ at said obeys. says (record { standing = at; last = new.last }) said (is.answers at said obeys) }
+typed_as old new P Q (Some left) out says is = record { same = is.same; answers = λ at said obeys. says (record { standing = at; memo = new.memo }) said (is.answers at said obeys) }
 
 module _ (limits : Limits) (start : State) (line : List ℕ) (old new : AtPrompt) (out : List ℕ) where
   abbrev Short : Type 0
@@ -75,7 +76,7 @@ move_obeyed : (left : WindowMove) (old new : Debugging) (out : List ℕ) → Gon
 move_obeyed Run old new out gone = gone.went
 move_obeyed (Until time) old new out gone = gone.went
 
-typed_move_obeyed : (left : WindowMove) (old new : Debugging) (out : List ℕ) → GoneOn (MoveGoesTo left old) old new out → ObeysTyped old.start (Plain (command_of left)) (standing old) (standing new) out
+typed_move_obeyed : (left : WindowMove) (old new : Debugging) (out : List ℕ) → GonePast (report_of left old.shown.position) (MoveGoesTo left old) old new out → ObeysTyped old.start (Plain (command_of left)) (standing old) (standing new) out
 typed_move_obeyed Run old new out gone = gone.went
 typed_move_obeyed (Until time) old new out gone = gone.went
 
@@ -85,6 +86,6 @@ left_answered old here new IsAnswer left out is gone =
     is.answers (standing new) out (move_obeyed left old new out (subst (λ (d : Debugging). Gone (MoveGoesTo left d) d new out) is.same gone))
 
 pub typed_left_answered : (old here : Dialogue) (new : Debugging) (IsAnswer : AtPrompt → List ℕ → Type 0) (left : WindowMove) (out : List ℕ) → IsTypedLeft old here IsAnswer left
-    → GoneOn (MoveGoesTo left here.debugger) here.debugger new out → IsAnswer (record { standing = standing new; last = here.last }) out
+    → GonePast (report_of left here.debugger.shown.position) (MoveGoesTo left here.debugger) here.debugger new out → IsAnswer (record { standing = standing new; memo = here.memo }) out
 typed_left_answered old here new IsAnswer left out is gone =
-    is.answers (standing new) out (typed_move_obeyed left old.debugger new out (subst (λ (d : Debugging). GoneOn (MoveGoesTo left d) d new out) is.same gone))
+    is.answers (standing new) out (typed_move_obeyed left old.debugger new out (subst (λ (d : Debugging). GonePast (report_of left d.shown.position) (MoveGoesTo left d) d new out) is.same gone))

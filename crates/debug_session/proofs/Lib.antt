@@ -7,6 +7,7 @@ pub mod Deleting
 pub mod Parted
 pub mod Moved
 pub mod TypedMoving
+pub mod Going
 pub mod Setting
 pub mod Running
 pub mod Meanings

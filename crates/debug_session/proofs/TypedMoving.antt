@@ -1,13 +1,14 @@
 -- What is answered to a move that is typed, and to `lines`.
-use Rattle.std.proofs.Common.{◌≡◌, ◌<◌, ◌≤◌, ◌+◌, ◌-◌, ◌⊎◌, ◌∙◌, ℕ, List, [], ◌∷◌, ◌++◌, Bool, min, length, take, drop, reverse, inl, inr, ⊎_elim, refl, sym, ap, subst, arith, append_assoc, append-nil, None, is_none, Result, Ok, Err, if◌then◌else◌}
+use Rattle.std.proofs.Common.{◌≡◌, ◌≢◌, ◌<◌, ◌≤◌, ◌+◌, ◌-◌, ◌⊎◌, ◌∙◌, ℕ, List, [], ◌∷◌, ◌++◌, Bool, true, false, min, length, drop, reverse, inl, inr, ⊎_elim, refl, sym, ap, subst, arith, append_assoc, append-nil, Option, None, Some, is_none, Result, Ok, Err, if◌then◌else◌, codes, true≢false}
 use Rattle.std.proofs.lemmas.Bool.{cases_lt}
-use Rattle.std.proofs.lemmas.List.{take_min, length-reverse, reverse-append}
+use Rattle.std.proofs.lemmas.List.{length-reverse, reverse-append}
+use Rattle.std.specs.Prelude.{nat_lt}
 use Rattle.std.specs.List.{concat}
 use Rattle.std.specs.Result.{IfOk, OnErr}
 use borrow.Author.Tests.{lt-ltb, le-ltb}
-use lib.Seq.{take_at}
+use lib.Seq.{drop_at}
 use Rattle.node_core.specs.TraceLine.{TraceLine}
-use Rattle.table_run.specs.State.{State, due}
+use Rattle.table_run.specs.State.{State, due, step}
 use Rattle.net_machine.specs.Run.{Reached}
 use Rattle.debugger.specs.declared.fault.MoveFault.{MoveFault}
 use Rattle.debugger.specs.declared.passed.LastEvent.{LastEvent}
@@ -15,105 +16,120 @@ use Rattle.debugger.specs.declared.passed.Order.TheVariants.{Rising, Falling}
 use Rattle.debugger.specs.declared.passed.Stretch.{Stretch}
 use Rattle.debugger.specs.Debugging.{Debugging, HasMoved}
 use Rattle.debugger.specs.LastEvents.{IsLastEvent}
-use Rattle.debugger.specs.Moves.{Passes, HasPosition, GivesAt}
+use Rattle.debugger.specs.Moves.{Passes, HasPosition, GivesAt, EndsAt, StepGoesTo}
 use Rattle.debugger.specs.Passed.{lines_between, texts_between, stretch_texts}
 use Rattle.debugger.proofs.Between.{one_line, length_between, between_parts}
-use Rattle.debugger.proofs.Walks.{has_earlier}
+use Rattle.debugger.proofs.Walks.{has_earlier, none_due, passes_next, step_done}
+use Rattle.debug_session.specs.declared.memo.Extent.{Extent}
 use Rattle.debug_session.specs.declared.refusal.Refusal.TheVariants.{M}
+use Rattle.debug_session.specs.declared.report.Report.{Report}
 use Rattle.debug_session.specs.Answers.{Standing, standing, Stays, refusal_line}
-use Rattle.debug_session.specs.Told.{GoesBack, ToldPast, ToldMove, AddsPlace, AddsMove, told_hit, shown_stretch}
-use Rattle.debug_session.specs.TypedMoves.{passed, more_line, first_ten, last_time, place_line, where_line, hit_line, TellsPast, MovesPast}
+use Rattle.debug_session.specs.Told.{GoesBack, ToldPast, ToldMove, AddsPlace, AddsMove, passed_count, told_hit, shown_stretch}
+use Rattle.debug_session.specs.TypedMoves.{lowest, passed, more_line, last_ten, passed_lines, last_time, place_line, where_line, hit_line, onwards, next_text, known_line, where_text, TellsPast, MovesPast}
 use Rattle.debug_session.proofs.Moved.{left_of, start_of, breaks_of}
 
--- ten are as many as there are, where there are fewer
-ten : (texts : List (List ℕ)) (n : ℕ) → length texts ≡ n → take (min n 10) texts ≡ take 10 texts
-ten texts n many = ap (λ j. take j texts) {x = min n 10} {y = min 10 (length texts)} (omega (arith, many)) ∙ take_min 10 texts
+-- where the lines of a move backwards begin
+lowest_upto : (bound p : ℕ) → lowest bound p ≤ p
+lowest_upto bound p = elim (nat_lt bound p) as (λ b. (if b then p - 1 else p) ≤ p) [
+  | true ↦ omega arith
+  | false ↦ omega arith
+]
 
-module _ (start : State) (m : ℕ) (at : Reached) (has : HasPosition start m) (here : Passes start at) where
+module _ (start : State) (m bound : ℕ) (at : Reached) (has : HasPosition start m) (here : Passes start at) where
   abbrev from : Reached
   from = record { state = has.0; position = m }
 
-  forwards : m < at.position → passed start m at.position ≡ texts_between start m at.position
-  forwards under = ap (λ b. if b then texts_between start m at.position else reverse (texts_between start at.position m)) (lt-ltb m at.position under)
+  abbrev low : ℕ
+  low = lowest bound at.position
 
-  backwards : at.position ≤ m → passed start m at.position ≡ reverse (texts_between start at.position m)
-  backwards past = ap (λ b. if b then texts_between start m at.position else reverse (texts_between start at.position m)) (le-ltb m at.position past)
+  abbrev risen : List (List ℕ)
+  risen = texts_between start m at.position
+
+  abbrev fallen : List (List ℕ)
+  fallen = reverse (texts_between start low m)
+
+  forwards : m < at.position → passed start m bound at.position ≡ risen
+  forwards under = ap (λ b. if b then risen else fallen) (lt-ltb m at.position under)
+
+  backwards : at.position ≤ m → passed start m bound at.position ≡ fallen
+  backwards past = ap (λ b. if b then risen else fallen) (le-ltb m at.position past)
 
   abbrev on_stretch : Stretch
-  on_stretch = record { from = m; count = min (at.position - m) 10; order = Rising }
+  on_stretch = record { from = at.position - min (at.position - m) 10; count = min (at.position - m) 10; order = Rising }
 
   abbrev back_stretch : Stretch
-  back_stretch = record { from = m - min (m - at.position) 10; count = min (m - at.position) 10; order = Falling }
+  back_stretch = record { from = low; count = min (m - low) 10; order = Falling }
 
-  stretch_on : m < at.position → shown_stretch m at.position ≡ on_stretch
+  stretch_on : m < at.position → shown_stretch m low at.position ≡ on_stretch
   stretch_on under = ap (λ b. if b then on_stretch else back_stretch) (lt-ltb m at.position under)
 
-  stretch_back : at.position ≤ m → shown_stretch m at.position ≡ back_stretch
+  stretch_back : at.position ≤ m → shown_stretch m low at.position ≡ back_stretch
   stretch_back past = ap (λ b. if b then on_stretch else back_stretch) (le-ltb m at.position past)
 
   -- the run has the stretch
-  pub has_stretch : HasPosition start ((shown_stretch m at.position).from + (shown_stretch m at.position).count)
+  pub has_stretch : HasPosition start ((shown_stretch m low at.position).from + (shown_stretch m low at.position).count)
   has_stretch =
+      let below = lowest_upto bound at.position in
       ⊎_elim
       (λ (under : m < at.position).
-      subst (λ (s : Stretch). HasPosition start (s.from + s.count)) (sym (stretch_on under)) (has_earlier start at (m + min (at.position - m) 10) here (omega (arith, under))))
+      subst (λ (s : Stretch). HasPosition start (s.from + s.count)) (sym (stretch_on under))
+      (subst (HasPosition start) {x = at.position} {y = at.position - min (at.position - m) 10 + min (at.position - m) 10} (omega (arith, under)) (at.state, here)))
       (λ (past : at.position ≤ m).
-      subst (λ (s : Stretch). HasPosition start (s.from + s.count)) (sym (stretch_back past))
-      (subst (HasPosition start) {x = m} {y = m - min (m - at.position) 10 + min (m - at.position) 10} (omega (arith, past)) has))
+      subst (λ (s : Stretch). HasPosition start (s.from + s.count)) (sym (stretch_back past)) (has_earlier start from (low + min (m - low) 10) has.1 (omega (arith, past, below))))
       (cases_lt m at.position)
 
-  -- the first lines of those that a move forwards passed
-  first_up : m < at.position → texts_between start m (m + min (at.position - m) 10) ≡ take 10 (texts_between start m at.position)
-  first_up under =
+  -- the last lines of those that a move forwards passed
+  last_up : m < at.position → texts_between start (at.position - min (at.position - m) 10) (at.position - min (at.position - m) 10 + min (at.position - m) 10) ≡ drop (length risen - 10) risen
+  last_up under =
       let k = min (at.position - m) 10 in
-      let upto : m + k ≤ at.position = omega (arith, under) in
-      let there = has_earlier start at (m + k) here upto in
-      let many : length (texts_between start m (m + k)) ≡ k = length_between start m (record { state = there.0; position = m + k }) there.1 ∙ omega arith in
-      sym (ap (take k) (between_parts start m (m + k) at (omega arith) upto here) ∙ take_at (texts_between start m (m + k)) (texts_between start (m + k) at.position) k many)
-      ∙ ten (texts_between start m at.position) (at.position - m) (length_between start m at here)
+      let q = at.position - k in
+      let whole : q + k ≡ at.position = omega (arith, under) in
+      let there = has_earlier start at q here (omega arith) in
+      let many : length (texts_between start m q) ≡ q - m = length_between start m (record { state = there.0; position = q }) there.1 in
+      let count = length_between start m at here in
+      let gap : length risen - 10 ≡ q - m = omega (arith, count, under) in
+      ap (texts_between start q) whole
+      ∙ sym (ap (λ n. drop n risen) gap ∙ ap (drop (q - m)) (between_parts start m q at (omega (arith, under)) (omega arith) here) ∙ drop_at (texts_between start m q) (texts_between start q at.position) (q - m) many)
 
-  -- and the last of those that one backwards took back
-  last_down : at.position ≤ m → reverse (texts_between start (m - min (m - at.position) 10) (m - min (m - at.position) 10 + min (m - at.position) 10)) ≡ take 10 (reverse (texts_between start at.position m))
+  -- and the last of those that one backwards tells
+  last_down : at.position ≤ m → reverse (texts_between start low (low + min (m - low) 10)) ≡ drop (length fallen - 10) fallen
   last_down past =
-      let k = min (m - at.position) 10 in
-      let q = m - k in
-      let whole : q + k ≡ m = omega (arith, past) in
+      let below = lowest_upto bound at.position in
+      let q = low + min (m - low) 10 in
+      let first = texts_between start low q in
       let last = texts_between start q m in
-      let first = texts_between start at.position q in
-      let both : reverse (texts_between start at.position m) ≡ reverse last ++ reverse first =
-      ap reverse (between_parts start at.position q from (omega (arith, past)) (omega arith) has.1) ∙ reverse-append first last in
-      let many : length (reverse last) ≡ k = length-reverse last ∙ length_between start q from has.1 ∙ omega (arith, past) in
-      let all : length (reverse (texts_between start at.position m)) ≡ m - at.position = length-reverse (texts_between start at.position m) ∙ length_between start at.position from has.1 in
-      ap (λ n. reverse (texts_between start q n)) whole
-      ∙ sym (ap (take k) both ∙ take_at (reverse last) (reverse first) k many)
-      ∙ ten (reverse (texts_between start at.position m)) (m - at.position) all
+      let both : fallen ≡ reverse last ++ reverse first = ap reverse (between_parts start low q from (omega arith) (omega (arith, past, below)) has.1) ∙ reverse-append first last in
+      let many : length (reverse last) ≡ m - q = length-reverse last ∙ length_between start q from has.1 in
+      let count : length fallen ≡ m - low = length-reverse (texts_between start low m) ∙ length_between start low from has.1 in
+      let gap : length fallen - 10 ≡ m - q = omega (arith, count, past, below) in
+      sym (ap (λ n. drop n fallen) gap ∙ ap (drop (m - q)) both ∙ drop_at (reverse last) (reverse first) (m - q) many)
 
-  pub shown_are : concat (stretch_texts start (shown_stretch m at.position)) ≡ concat (take 10 (passed start m at.position))
+  pub shown_are : concat (stretch_texts start (shown_stretch m low at.position)) ≡ concat (drop (length (passed start m bound at.position) - 10) (passed start m bound at.position))
   shown_are =
       ⊎_elim
       (λ (under : m < at.position).
-      ap (λ (s : Stretch). concat (stretch_texts start s)) (stretch_on under) ∙ ap concat (first_up under) ∙ ap (λ ts. concat (take 10 ts)) (sym (forwards under)))
+      ap (λ (s : Stretch). concat (stretch_texts start s)) (stretch_on under) ∙ ap concat (last_up under) ∙ ap (λ ts. concat (drop (length ts - 10) ts)) (sym (forwards under)))
       (λ (past : at.position ≤ m).
-      ap (λ (s : Stretch). concat (stretch_texts start s)) (stretch_back past) ∙ ap concat (last_down past) ∙ ap (λ ts. concat (take 10 ts)) (sym (backwards past)))
+      ap (λ (s : Stretch). concat (stretch_texts start s)) (stretch_back past) ∙ ap concat (last_down past) ∙ ap (λ ts. concat (drop (length ts - 10) ts)) (sym (backwards past)))
       (cases_lt m at.position)
 
-  so_many : length (passed start m at.position) ≡ (at.position - m) + (m - at.position)
+  so_many : length (passed start m bound at.position) ≡ passed_count m low at.position
   so_many =
       ⊎_elim
-      (λ (under : m < at.position). let n = length_between start m at here in ap length (forwards under) ∙ omega (arith, n, under))
+      (λ (under : m < at.position).
+      ap length (forwards under) ∙ length_between start m at here ∙ sym (ap (λ b. if b then at.position - m else m - low) (lt-ltb m at.position under)))
       (λ (past : at.position ≤ m).
-      let n = length_between start at.position from has.1 in
-      let turned = length-reverse (texts_between start at.position m) in
-      ap length (backwards past) ∙ omega (arith, n, turned, past))
+      ap length (backwards past) ∙ length-reverse (texts_between start low m) ∙ length_between start low from has.1 ∙ sym (ap (λ b. if b then at.position - m else m - low) (le-ltb m at.position past)))
       (cases_lt m at.position)
 
-  -- the lines that were passed, and how many more
-  pub passed_told : (out made all : List ℕ) (count : ℕ) → made ≡ out ++ concat (stretch_texts start (shown_stretch m at.position)) → all ≡ made ++ more_line count → count ≡ (at.position - m) + (m - at.position) → all ≡ out ++ first_ten (passed start m at.position)
-  passed_told out made all count lines more is =
-      let texts = passed start m at.position in
-      more ∙ ap (λ l. l ++ more_line count) (lines ∙ ap (λ l. out ++ l) shown_are)
-      ∙ append_assoc out (concat (take 10 texts)) (more_line count)
-      ∙ ap (λ n. out ++ (concat (take 10 texts) ++ more_line n)) (is ∙ sym so_many)
+  -- how many more there are, and then the last lines
+  pub passed_told : (out made all : List ℕ) (count : ℕ) → made ≡ out ++ more_line count → count ≡ passed_count m low at.position → all ≡ made ++ concat (stretch_texts start (shown_stretch m low at.position)) → all ≡ out ++ last_ten (passed start m bound at.position)
+  passed_told out made all count more is lines =
+      let texts = passed start m bound at.position in
+      let shown = concat (stretch_texts start (shown_stretch m low at.position)) in
+      lines ∙ ap (λ l. l ++ shown) (more ∙ ap (λ n. out ++ more_line n) (is ∙ sym so_many))
+      ∙ append_assoc out (more_line (length texts)) shown
+      ∙ ap (λ l. out ++ (more_line (length texts) ++ l)) shown_are
 
 last_append : (time : ℕ) (lines : List TraceLine) (line : TraceLine) → last_time time (lines ++ line ∷ []) ≡ line.key.time
 last_append time [] line = refl
@@ -150,36 +166,36 @@ module _ (start : State) (m : ℕ) (at : Standing) (out made : List ℕ) (at_end
       )
 
 -- what was passed, and then where that is
-pub move_told : (start : State) (m bound : ℕ) (at : Standing) (out made all : List ℕ) → made ≡ out ++ first_ten (passed start m at.shown.position) → AddsPlace start bound at made all → AddsMove start m bound at out all
-move_told start m bound at out made all lines place =
-    let texts = first_ten (passed start m at.shown.position) in
+pub move_told : (start : State) (m : ℕ) (report : Report) (at : Standing) (out made all : List ℕ) → made ≡ out ++ passed_lines start m report at.shown.position → AddsPlace start report.bound at made all → AddsMove start m report at out all
+move_told start m report at out made all lines place =
+    let texts = passed_lines start m report at.shown.position in
     let behind = where_line start at.shown ++ place.0 in
     (texts ++ behind, record { matched = place.0; matches = place.1; told = refl }, place.2 ∙ ap (λ l. l ++ behind) lines ∙ append_assoc out texts behind)
 
 -- the answer alone
-pub only_move : (start : State) (m bound : ℕ) (at : Standing) (out all : List ℕ) → out ≡ [] → AddsMove start m bound at out all → TellsPast start m bound at all
-only_move start m bound at out all none adds =
-    subst (TellsPast start m bound at) (sym (adds.2 ∙ ap (λ l. l ++ adds.0) none)) adds.1
+pub only_move : (start : State) (m : ℕ) (report : Report) (at : Standing) (out all : List ℕ) → out ≡ [] → AddsMove start m report at out all → TellsPast start m report at all
+only_move start m report at out all none adds =
+    subst (TellsPast start m report at) (sym (adds.2 ∙ ap (λ l. l ++ adds.0) none)) adds.1
 
 -- the move is told, or nothing changed and memory was refused
-abbrev pub WentPast : State → ℕ → (ℕ → Type 0) → Standing → Standing → List ℕ → Type 0
-WentPast start bound goes old new out = MovesPast start bound goes old new out ⊎ (Unit {0} × Stays old new out (refusal_line M))
+abbrev pub WentPast : State → Report → (ℕ → Type 0) → Standing → Standing → List ℕ → Type 0
+WentPast start report goes old new out = MovesPast start report goes old new out ⊎ (Unit {0} × Stays old new out (refusal_line M))
 
-pub record GonePast (bound : ℕ) (goes : ℕ → Type 0) (old new : Debugging) (out : List ℕ) : Type 0 where
+pub record GonePast (report : Report) (goes : ℕ → Type 0) (old new : Debugging) (out : List ℕ) : Type 0 where
   pub start : new.start ≡ old.start
-  pub went : WentPast old.start bound goes (standing old) (standing new) out
+  pub went : WentPast old.start report goes (standing old) (standing new) out
 
 -- so a move that a breakpoint stops forwards alone
 abbrev pub GoneOn : (ℕ → Type 0) → Debugging → Debugging → List ℕ → Type 0
-GoneOn goes old new out = GonePast old.shown.position goes old new out
+GoneOn goes old new out = GonePast (onwards old.shown.position) goes old new out
 
 -- where a move began the run has a position
 pub has_from : (old between : Debugging) (moved : Result ℕ MoveFault) (m : ℕ) → m ≡ old.shown.position → Passes old.start old.shown → IfOk moved (HasMoved old between) → OnErr moved (between ≡ old) → HasPosition between.start m
 has_from old between (Ok p) m is here has err = subst (λ (s : State). HasPosition s m) (sym (start_of old between p has)) (subst (HasPosition old.start) (sym is) (old.shown.state, here))
 has_from old between (Err fault) m is here has err = subst (λ (d : Debugging). HasPosition d.start m) (sym err) (subst (HasPosition old.start) (sym is) (old.shown.state, here))
 
-on_told : (bound : ℕ) (goes : ℕ → Type 0) (old new : Debugging) (m b p : ℕ) (out : List ℕ) → m ≡ old.shown.position → b ≡ bound → HasMoved old new p → goes p → TellsPast new.start m b (standing new) out → GonePast bound goes old new out
-on_told bound goes old new m b p out is bound_is moved there told =
+on_told : (report : Report) (goes : ℕ → Type 0) (old new : Debugging) (m : ℕ) (w : Report) (p : ℕ) (out : List ℕ) → m ≡ old.shown.position → w ≡ report → HasMoved old new p → goes p → TellsPast new.start m w (standing new) out → GonePast report goes old new out
+on_told report goes old new m w p out is report_is moved there told =
     let same = start_of old new p moved in
     record {
       start = same;
@@ -188,13 +204,13 @@ on_told bound goes old new m b p out is bound_is moved there told =
         on_run = subst (λ (s : State). Passes s new.shown) same moved.on_run;
         breaks = breaks_of old new p moved;
         told =
-            subst (λ n. TellsPast old.start n bound (standing new) out) is
-            (subst (λ n. TellsPast old.start m n (standing new) out) bound_is (subst (λ (s : State). TellsPast s m b (standing new) out) same told));
+            subst (λ n. TellsPast old.start n report (standing new) out) is
+            (subst (λ (v : Report). TellsPast old.start m v (standing new) out) report_is (subst (λ (s : State). TellsPast s m w (standing new) out) same told));
       });
     }
 
-back_again : (bound : ℕ) (goes : ℕ → Type 0) (old between new : Debugging) (p : ℕ) (out : List ℕ) → HasMoved old between p → GoesBack between new → out ≡ refusal_line M → GonePast bound goes old new out
-back_again bound goes old between new p out moved back told =
+back_again : (report : Report) (goes : ℕ → Type 0) (old between new : Debugging) (p : ℕ) (out : List ℕ) → HasMoved old between p → GoesBack between new → out ≡ refusal_line M → GonePast report goes old new out
+back_again report goes old between new p out moved back told =
     let undone : new ≡ record between { shown = old.shown; left = None } = back old.shown (left_of old between p moved) in
     let shown : new.shown ≡ old.shown = ap (λ (d : Debugging). d.shown) undone in
     let breaks : new.breaks ≡ old.breaks = ap (λ (d : Debugging). d.breaks) undone ∙ breaks_of old between p moved in
@@ -203,20 +219,56 @@ back_again bound goes old between new p out moved back told =
       went = inr (tt, record { same = λ i. record { shown = shown i; breaks = breaks i }; told = told });
     }
 
-pub gone_past : (bound : ℕ) (goes : ℕ → Type 0) (old between new : Debugging) (m b : ℕ) (moved : Result ℕ MoveFault) (out : List ℕ) → m ≡ old.shown.position → b ≡ bound
+pub gone_past : (report : Report) (goes : ℕ → Type 0) (old between new : Debugging) (m : ℕ) (w : Report) (moved : Result ℕ MoveFault) (out : List ℕ) → m ≡ old.shown.position → w ≡ report
     → IfOk moved (HasMoved old between) → IfOk moved goes → OnErr moved (between ≡ old)
-    → IfOk moved (λ _. ToldPast m b between new out) → OnErr moved ((new ≡ between) × (out ≡ refusal_line M)) → GonePast bound goes old new out
-gone_past bound goes old between new m b (Ok p) out is bound_is has there err told refused =
+    → IfOk moved (λ _. ToldPast m w between new out) → OnErr moved ((new ≡ between) × (out ≡ refusal_line M)) → GonePast report goes old new out
+gone_past report goes old between new m w (Ok p) out is report_is has there err told refused =
     ⊎_elim
-    (λ (t : (new ≡ between) × TellsPast between.start m b (standing between) out).
-    subst (λ (d : Debugging). GonePast bound goes old d out) (sym t.0) (on_told bound goes old between m b p out is bound_is has there t.1))
-    (λ (t : GoesBack between new × (out ≡ refusal_line M)). back_again bound goes old between new p out has t.0 t.1)
+    (λ (t : (new ≡ between) × TellsPast between.start m w (standing between) out).
+    subst (λ (d : Debugging). GonePast report goes old d out) (sym t.0) (on_told report goes old between m w p out is report_is has there t.1))
+    (λ (t : GoesBack between new × (out ≡ refusal_line M)). back_again report goes old between new p out has t.0 t.1)
     told
-gone_past bound goes old between new m b (Err fault) out is bound_is has there err told refused =
+gone_past report goes old between new m w (Err fault) out is report_is has there err told refused =
     let same = refused.0 ∙ err in
     record { start = ap (λ (d : Debugging). d.start) same; went = inr (tt, record { same = ap standing same; told = refused.1 }) }
 
 pub gone_on : (goes : ℕ → Type 0) (old between new : Debugging) (m : ℕ) (moved : Result ℕ MoveFault) (out : List ℕ) → m ≡ old.shown.position
     → IfOk moved (HasMoved old between) → IfOk moved goes → OnErr moved (between ≡ old)
     → IfOk moved (λ _. ToldMove m between new out) → OnErr moved ((new ≡ between) × (out ≡ refusal_line M)) → GoneOn goes old new out
-gone_on goes old between new m moved out is has there err told refused = gone_past old.shown.position goes old between new m m moved out is is has there err told refused
+gone_on goes old between new m moved out is has there err told refused = gone_past (onwards old.shown.position) goes old between new m (onwards m) moved out is (ap onwards is) has there err told refused
+
+-- `where`: behind the place, where no breakpoint is told, the next event and how far the run is known to go
+pub where_told : (start : State) (at : Standing) (known : Extent) (out made all : List ℕ) → AddsPlace start at.shown.position at out made → all ≡ made ++ (next_text start at.shown ++ known_line known) → all ≡ out ++ where_text start at.shown known
+where_told start at known out made all place more =
+    let behind = next_text start at.shown ++ known_line known in
+    let none : place.0 ≡ [] = place.1.before (omega arith) in
+    let here = where_line start at.shown in
+    more ∙ ap (λ l. l ++ behind) (place.2 ∙ ap (λ l. out ++ (here ++ l)) none ∙ ap (λ l. out ++ l) (append-nil here)) ∙ append_assoc out here behind
+
+-- the next event, and where there is none
+pub next_none : (start : State) (at : Reached) → is_none (due at.state) ≡ true → next_text start at ≡ codes "next: none\n"
+next_none start at none = ap (λ b. if b then codes "next: none\n" else codes "next: " ++ concat (texts_between start at.position (at.position + 1))) none
+
+pub next_due : (start : State) (at : Reached) → is_none (due at.state) ≡ false → next_text start at ≡ codes "next: " ++ concat (texts_between start at.position (at.position + 1))
+next_due start at some = ap (λ b. if b then codes "next: none\n" else codes "next: " ++ concat (texts_between start at.position (at.position + 1))) some
+
+pub is_due_where : (at : Reached) → is_none (due at.state) ≡ false → due at.state ≢ None
+is_due_where at some none = true≢false (sym (ap is_none none) ∙ some)
+
+-- where an event is due, the run has one position more
+pub has_next : (start : State) (at : Reached) → Passes start at → due at.state ≢ None → HasPosition start (at.position + 1)
+has_next start at here more = go (step at.state) refl
+  where
+    go : (o : Option (TraceLine × State)) → step at.state ≡ o → HasPosition start (at.position + 1)
+    go None none = absurd (more (none_due at.state none))
+    go (Some next) is = (next.1, passes_next start at (record { state = next.1; position = at.position + 1 }) next.0 here (is, refl))
+
+-- `goto`: back to a position, or on to it
+pub went_back : (start : State) (at : Reached) (m target : ℕ) → Passes start at → target < m → at.position ≡ m - (m - target) → StepGoesTo start 0 target at.position
+went_back start at m target here under is = step_done start at 0 target here (omega (arith, under, is))
+
+pub went_on : (start : State) (m target p : ℕ) → m ≤ target → StepGoesTo start m (target - m) p → StepGoesTo start 0 target p
+went_on start m target p from goes = record {
+  holds = ⊎_elim (λ (e : p ≡ m + (target - m)). inl (omega (arith, e, from))) (λ (ends : EndsAt start p). inr ends) goes.holds;
+  least = λ q. ⊎_elim (λ (e : q ≡ 0 + target). goes.least q (inl (omega (arith, e, from)))) (λ (ends : EndsAt start q). goes.least q (inr ends));
+}

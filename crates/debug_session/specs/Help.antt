@@ -2,7 +2,7 @@
 use Rattle.std.specs.Prelude.{ℕ, List, [], ◌∷◌, ◌++◌, codes}
 use Rattle.std.specs.List.{flat_map}
 use Rattle.debug_session.specs.declared.name.Name.{Name}
-use Rattle.debug_session.specs.declared.name.Name.TheVariants.{Step, Back, Break, Breaks, Run, Reverse, Until, State, Delete, Clear, Lines, Why, Help, Quit}
+use Rattle.debug_session.specs.declared.name.Name.TheVariants.{Step, Back, Break, Breaks, Run, Reverse, Until, Goto, Where, State, Delete, Clear, Lines, Why, Help, Quit}
 use Rattle.debug_session.specs.declared.topic.Topic.{Topic}
 use Rattle.debug_session.specs.declared.topic.Topic.TheVariants.{Command, Numbers, Trace, Kinds, Stall}
 
@@ -13,6 +13,8 @@ usage Back = codes "back [K]     take the last K events back (1)\n"
 usage Run = codes "run          run until a breakpoint matches, or to the end\n"
 usage Reverse = codes "reverse      go back until a breakpoint matches, or to the beginning\n"
 usage Until = codes "until T      run all events before the moment T, as 1.5s, 20ms or 10000ns\n"
+usage Goto = codes "goto N       go to position N, forwards or back, or to the end\n"
+usage Where = codes "where        show the position, the next event, and how far the run is known to go\n"
 usage State = codes "state [PART] show all of the state, or of it: node N, link L or flow F\n"
 usage Break = codes "break COND.. stop where all match: node N, flow F, kind K, drop, link L, byte B; or stall [F]\n"
 usage Breaks = codes "breaks       list the breakpoints\n"
@@ -25,11 +27,13 @@ usage Quit = codes "quit         end the session\n"
 
 -- what else there is to say of it
 abbrev pub more : Name → List ℕ
-more Step = codes "It shows the lines of the trace that it passes, ten at most, and where it came to.\n"
-more Back = codes "It shows the lines that it takes back, the latest first, ten at most, and where it came to.\n"
+more Step = codes "It shows the last ten lines of the trace that it passes, how many more there are, and where it came to.\n"
+more Back = codes "It shows the last ten lines that it takes back, the latest first, and where it came to.\n"
 more Run = codes "It stops after the next event whose line a breakpoint matches, and shows that breakpoint.\n"
 more Reverse = codes "It stops after the last event before this position whose line a breakpoint matches, else at position 0.\n"
-more Until = codes "T is a number of nanoseconds, or has a unit: ns, us, ms or s. It only goes forwards.\n"
+more Until = codes "T is a number of nanoseconds, or has a unit: ns, us, ms or s. It only goes forwards, and else says so.\n"
+more Goto = codes "N is how many events were run there, as the first number of a line of the trace.\n"
+more Where = codes "The next event is shown by the line that it gives. A run is known to go to where the session was.\n"
 more State =
     codes "node N and link L show one line each, flow F all that there is of a flow: both of its ends, the links\n"
     ++ codes "where its packets wait, and its events to come. N, L and F are numbers from 0: help numbers\n"
@@ -57,6 +61,8 @@ example Back = codes "back 10\n"
 example Run = codes "run\n"
 example Reverse = codes "reverse\n"
 example Until = codes "until 20ms\n"
+example Goto = codes "goto 25\n"
+example Where = codes "where\n"
 example State = codes "state flow 0\n"
 example Break = codes "break flow 0 kind rto\n"
 example Breaks = codes "breaks\n"
@@ -68,7 +74,7 @@ example Help = codes "help until\n"
 example Quit = codes "quit\n"
 
 abbrev pub all_names : List Name
-all_names = Step ∷ Back ∷ Run ∷ Reverse ∷ Until ∷ State ∷ Break ∷ Breaks ∷ Delete ∷ Clear ∷ Lines ∷ Why ∷ Help ∷ Quit ∷ []
+all_names = Step ∷ Back ∷ Run ∷ Reverse ∷ Until ∷ Goto ∷ Where ∷ State ∷ Break ∷ Breaks ∷ Delete ∷ Clear ∷ Lines ∷ Why ∷ Help ∷ Quit ∷ []
 
 -- one line a command, one on numbers, and one on the empty line
 abbrev pub help_text : List ℕ

@@ -8,6 +8,7 @@ pub mod Told
 pub mod Names
 pub mod Topics
 pub mod Times
+pub mod Memos
 pub mod TypedGrammar
 pub mod Numbered
 pub mod Help

@@ -2,13 +2,13 @@
 use Rattle.std.specs.Prelude.{ℕ, nat_eq, Bool, if◌then◌else◌, List, codes, Option, None, Some}
 use Rattle.std.specs.List.{starts_with}
 use Rattle.debug_session.specs.declared.name.Name.{Name}
-use Rattle.debug_session.specs.declared.name.Name.TheVariants.{Step, Back, Break, Breaks, Run, Reverse, Until, State, Lines, Delete, Clear, Help, Quit, Why}
+use Rattle.debug_session.specs.declared.name.Name.TheVariants.{Step, Back, Break, Breaks, Run, Reverse, Until, State, Lines, Delete, Clear, Help, Quit, Why, Goto, Where}
 
 -- a word is the beginning of a name, or all of it
 abbrev pub begins : List ℕ → List ℕ → Bool
 begins word name = starts_with nat_eq name word
 
--- so `s` means step, `sta` state, `r` run, `re` reverse, `b` back, `br` break, and `breaks` alone breaks
+-- so `s` means step, `sta` state, `r` run, `re` reverse, `b` back, `br` break, `breaks` alone breaks, and `whe` where
 abbrev pub name_of : List ℕ → Option Name
 name_of word =
     if begins word (codes "step") then Some Step
@@ -25,4 +25,6 @@ name_of word =
     else (if begins word (codes "help") then Some Help
     else (if begins word (codes "quit") then Some Quit
     else (if begins word (codes "why") then Some Why
-    else None)))))))))))))
+    else (if begins word (codes "goto") then Some Goto
+    else (if begins word (codes "where") then Some Where
+    else None)))))))))))))))

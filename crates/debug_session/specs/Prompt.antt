@@ -5,25 +5,27 @@ use Rattle.table_run.specs.State.{State}
 use Rattle.debug_session.specs.declared.command.Limits.{Limits}
 use Rattle.debug_session.specs.declared.command.Typed.{Typed as TypedCommand}
 use Rattle.debug_session.specs.declared.dialogue.Dialogue.{Dialogue}
+use Rattle.debug_session.specs.declared.memo.Memo.{Memo}
 use Rattle.debug_session.specs.declared.refusal.Refusal.TheVariants.{B2}
 use Rattle.debug_session.specs.Answers.{Standing, standing, refusal_line}
 use Rattle.debug_session.specs.Input.{words_in}
+use Rattle.debug_session.specs.Memos.{known_after, knowing, no_memo}
 use Rattle.debug_session.specs.Names.{begins}
 use Rattle.debug_session.specs.Taking.{Takes}
 use Rattle.debug_session.specs.TypedAnswers.{ObeysTyped, last_after}
 use Rattle.debug_session.specs.TypedGrammar.{TypedReading, typed_reading}
 
--- where a session at a prompt stands, with the last move: the last of `step`, `back`, `run`, `reverse` and `until` that was read
+-- where a session at a prompt stands, with what it keeps in mind
 pub record AtPrompt : Type 0 where
   pub standing : Standing
-  pub last : Option TypedCommand
+  pub memo : Memo
 
 abbrev pub at_prompt : Dialogue → AtPrompt
-at_prompt d = record { standing = standing d.debugger; last = d.last }
+at_prompt d = record { standing = standing d.debugger; memo = d.memo }
 
--- no move was read yet
+-- no line was typed yet
 abbrev pub unmoved : Standing → AtPrompt
-unmoved s = record { standing = s; last = None }
+unmoved s = record { standing = s; memo = no_memo }
 
 -- nothing changes, and this is answered
 pub record Rests (old new : AtPrompt) (out said : List ℕ) : Type 0 where
@@ -44,10 +46,14 @@ quits (first ∷ second ∷ more) = false
 abbrev pub is_quit : List ℕ → Bool
 is_quit line = if is_long line then false else quits (words_in line)
 
+-- what is in mind once a command was read: a move is the last of `step`, `back`, `run`, `reverse`, `until` and `goto`; and the run goes on to where the session stood
+abbrev pub memo_after : TypedCommand → AtPrompt → Memo
+memo_after asked at = record { last = last_after asked at.memo.last; known = known_after at.memo.known at.standing }
+
 -- a command is done, or refused for want of memory or of workers; a move is the last one either way
 pub record ObeysAtPrompt (start : State) (asked : TypedCommand) (old new : AtPrompt) (out : List ℕ) : Type 0 where
-  pub obeyed : ObeysTyped start asked old.standing new.standing out
-  pub last : new.last ≡ last_after asked old.last
+  pub obeyed : ObeysTyped start (knowing new.memo.known asked) old.standing new.standing out
+  pub memo : new.memo ≡ memo_after asked old
 
 -- the last move is done again, where there was one
 abbrev pub MovesAgain : State → Option TypedCommand → AtPrompt → AtPrompt → List ℕ → Type 0
@@ -55,7 +61,7 @@ MovesAgain start None old new out = Rests old new out []
 MovesAgain start (Some move) old new out = ObeysAtPrompt start move old new out
 
 abbrev pub FollowsTyped : State → Option TypedReading → AtPrompt → AtPrompt → List ℕ → Type 0
-FollowsTyped start None old new out = MovesAgain start old.last old new out
+FollowsTyped start None old new out = MovesAgain start old.memo.last old new out
 FollowsTyped start (Some (Err refusal)) old new out = Rests old new out (refusal_line refusal)
 FollowsTyped start (Some (Ok asked)) old new out = ObeysAtPrompt start asked old new out
 

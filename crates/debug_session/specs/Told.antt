@@ -8,8 +8,9 @@ use Rattle.debugger.specs.declared.passed.Order.TheVariants.{Rising, Falling}
 use Rattle.debugger.specs.declared.passed.Stretch.{Stretch}
 use Rattle.debugger.specs.Debugging.{Debugging}
 use Rattle.debug_session.specs.declared.refusal.Refusal.TheVariants.{M}
+use Rattle.debug_session.specs.declared.report.Report.{Report}
 use Rattle.debug_session.specs.Answers.{Standing, standing, refusal_line}
-use Rattle.debug_session.specs.TypedMoves.{where_line, TellsMatch, TellsPast}
+use Rattle.debug_session.specs.TypedMoves.{where_line, onwards, TellsMatch, TellsPast}
 
 -- the state that the last move left is shown again
 abbrev pub GoesBack : Debugging → Debugging → Type 0
@@ -20,26 +21,30 @@ abbrev pub Told : Debugging → Debugging → List ℕ → Type 0
 Told old new out = ((new ≡ old) × (out ≡ dump_bytes old.shown)) ⊎ (GoesBack old new × (out ≡ refusal_line M))
 
 -- a move from a position is told with a breakpoint past a bound, or that memory was refused, and then it is undone
-abbrev pub ToldPast : ℕ → ℕ → Debugging → Debugging → List ℕ → Type 0
-ToldPast m bound old new out = ((new ≡ old) × TellsPast old.start m bound (standing old) out) ⊎ (GoesBack old new × (out ≡ refusal_line M))
+abbrev pub ToldPast : ℕ → Report → Debugging → Debugging → List ℕ → Type 0
+ToldPast m report old new out = ((new ≡ old) × TellsPast old.start m report (standing old) out) ⊎ (GoesBack old new × (out ≡ refusal_line M))
 
 -- and so one that a breakpoint stops forwards alone
 abbrev pub ToldMove : ℕ → Debugging → Debugging → List ℕ → Type 0
-ToldMove m old new out = ToldPast m m old new out
+ToldMove m old new out = ToldPast m (onwards m) old new out
 
 -- where a session stands after a move, and past a bound which breakpoint stopped it, behind other bytes
 abbrev pub AddsPlace : NetState → ℕ → Standing → List ℕ → List ℕ → Type 0
 AddsPlace start bound at old new = (matched : List ℕ) × TellsMatch start at.breaks bound at.shown.position matched × (new ≡ old ++ (where_line start at.shown ++ matched))
 
 -- a move's answer behind other bytes
-abbrev pub AddsMove : NetState → ℕ → ℕ → Standing → List ℕ → List ℕ → Type 0
-AddsMove start m bound at old new = (told : List ℕ) × TellsPast start m bound at told × (new ≡ old ++ told)
+abbrev pub AddsMove : NetState → ℕ → Report → Standing → List ℕ → List ℕ → Type 0
+AddsMove start m report at old new = (told : List ℕ) × TellsPast start m report at told × (new ≡ old ++ told)
 
 -- the breakpoint that is told at a position
 abbrev pub told_hit : ℕ → ℕ → Option Hit → Option Hit
 told_hit bound p hit = if nat_lt bound p then hit else None
 
--- the lines that a move shows of those that it passed
-abbrev pub shown_stretch : ℕ → ℕ → Stretch
-shown_stretch m p =
-    if nat_lt m p then record { from = m; count = min (p - m) 10; order = Rising } else record { from = m - min (m - p) 10; count = min (m - p) 10; order = Falling }
+-- how many lines a move has
+abbrev pub passed_count : ℕ → ℕ → ℕ → ℕ
+passed_count m low p = if nat_lt m p then p - m else m - low
+
+-- the lines that a move shows, where those of one backwards begin behind a lowest position
+abbrev pub shown_stretch : ℕ → ℕ → ℕ → Stretch
+shown_stretch m low p =
+    if nat_lt m p then record { from = p - min (p - m) 10; count = min (p - m) 10; order = Rising } else record { from = low; count = min (m - low) 10; order = Falling }

@@ -7,7 +7,7 @@ use Rattle.trace_text.specs.declared.dump.DumpPart.TheVariants as part
 use Rattle.debug_session.specs.declared.command.Command.TheVariants.{Step, Back, Until, Run, State, Clear}
 use Rattle.debug_session.specs.declared.command.Limits.{Limits}
 use Rattle.debug_session.specs.declared.command.Typed.{Typed}
-use Rattle.debug_session.specs.declared.command.Typed.TheVariants.{Plain, Reverse, Part, Why, Breaks, Delete, Lines, Help, HelpOn}
+use Rattle.debug_session.specs.declared.command.Typed.TheVariants.{Plain, Reverse, Goto, Part, Why, Breaks, Delete, Lines, Where, Help, HelpOn}
 use Rattle.debug_session.specs.declared.name.Name.{Name}
 use Rattle.debug_session.specs.declared.name.Name.TheVariants as name
 use Rattle.debug_session.specs.declared.refusal.Refusal.{Refusal}
@@ -16,6 +16,7 @@ use Rattle.debug_session.specs.declared.topic.Topic.{Topic}
 use Rattle.debug_session.specs.Conditions.{break_asked}
 use Rattle.debug_session.specs.Grammar.{Word, Reading, number_below, one_number, with_number, alone}
 use Rattle.debug_session.specs.Input.{words_in}
+use Rattle.debug_session.specs.Memos.{nothing_known}
 use Rattle.debug_session.specs.Names.{name_of}
 use Rattle.debug_session.specs.Times.{moment_in}
 use Rattle.debug_session.specs.Topics.{topic_of}
@@ -84,6 +85,15 @@ abbrev pub lists : Result ℕ Refusal → TypedReading
 lists (Ok count) = Ok (Lines count)
 lists (Err refusal) = Err refusal
 
+-- of `goto`: the position
+abbrev pub goes_to : Result ℕ Refusal → TypedReading
+goes_to (Ok target) = Ok (Goto target)
+goes_to (Err refusal) = Err refusal
+
+-- the position that is the only word behind `goto`: at most 10^15
+abbrev pub goto_asked : List Word → TypedReading
+goto_asked words = goes_to (one_number 1000000000000001 words)
+
 -- no word
 abbrev pub typed_alone : Typed → List Word → TypedReading
 typed_alone asked [] = Ok asked
@@ -115,6 +125,8 @@ command_typed limits (Some name.Clear) words = plain (alone Clear words)
 command_typed limits (Some name.Help) words = help_asked words
 command_typed limits (Some name.Quit) words = Err B2
 command_typed limits (Some name.Why) words = why_asked limits words
+command_typed limits (Some name.Goto) words = goto_asked words
+command_typed limits (Some name.Where) words = typed_alone (Where nothing_known) words
 
 -- nothing where there are no words
 abbrev pub typed_of : Limits → List Word → Option TypedReading

@@ -1,5 +1,5 @@
 -- What is answered at a prompt to a move, and to `lines`: lines of the trace, and where the session stands.
-use Rattle.std.specs.Prelude.{◌≡◌, ◌<◌, ◌≤◌, ◌-◌, ℕ, nat_eq, nat_lt, Bool, if◌then◌else◌, List, [], ◌∷◌, ◌++◌, length, take, reverse, codes, decimal, Option, None, Some, is_none}
+use Rattle.std.specs.Prelude.{◌≡◌, ◌<◌, ◌≤◌, ◌+◌, ◌-◌, ℕ, nat_eq, nat_lt, Bool, if◌then◌else◌, List, [], ◌∷◌, ◌++◌, length, drop, reverse, codes, decimal, Option, None, Some, is_none}
 use Rattle.std.specs.List.{concat}
 use Rattle.node_core.specs.TraceLine.{TraceLine}
 use Rattle.table_run.specs.State.{State as NetState, due}
@@ -9,20 +9,35 @@ use Rattle.debugger.specs.declared.breaks.Hit.{Hit}
 use Rattle.debugger.specs.Breaks.{IsFirstHit}
 use Rattle.debugger.specs.Moves.{Passes, GivesAt}
 use Rattle.debugger.specs.Passed.{lines_between, texts_between}
+use Rattle.debug_session.specs.declared.memo.Extent.{Extent}
+use Rattle.debug_session.specs.declared.report.Report.{Report}
 use Rattle.debug_session.specs.Answers.{Standing}
 use Rattle.debug_session.specs.Numbered.{set_line}
 
--- the lines that a move from one position to another passed: forwards as they came, backwards the latest first
-abbrev pub passed : NetState → ℕ → ℕ → List (List ℕ)
-passed start m p = if nat_lt m p then texts_between start m p else reverse (texts_between start p m)
+-- the position behind which the lines of a move backwards begin: where a breakpoint is told, its line is among them
+abbrev pub lowest : ℕ → ℕ → ℕ
+lowest bound p = if nat_lt bound p then p - 1 else p
+
+-- the lines of a move from one position to another: forwards as they came, backwards the latest first
+abbrev pub passed : NetState → ℕ → ℕ → ℕ → List (List ℕ)
+passed start m bound p = if nat_lt m p then texts_between start m p else reverse (texts_between start (lowest bound p) m)
 
 -- how many there are beside ten
 abbrev pub more_line : ℕ → List ℕ
 more_line count = if nat_lt 10 count then codes ".. " ++ decimal (count - 10) ++ codes " more\n" else []
 
--- ten of them at most
-abbrev pub first_ten : List (List ℕ) → List ℕ
-first_ten texts = concat (take 10 texts) ++ more_line (length texts)
+-- the last of them, ten at most, and before them how many more there are
+abbrev pub last_ten : List (List ℕ) → List ℕ
+last_ten texts = more_line (length texts) ++ concat (drop (length texts - 10) texts)
+
+-- `until` a moment that is past does nothing
+abbrev pub idle_line : Option ℕ → ℕ → ℕ → List ℕ
+idle_line None m p = []
+idle_line (Some time) m p = if nat_eq m p then codes "nothing was done: no event before " ++ (decimal time ++ codes " ns is left\n") else []
+
+-- what a move from one position to another passed
+abbrev pub passed_lines : NetState → ℕ → Report → ℕ → List ℕ
+passed_lines start m report p = idle_line report.until m p ++ last_ten (passed start m report.bound p)
 
 -- the moment of the last line; where there is none, that which is given
 abbrev pub last_time : ℕ → List TraceLine → ℕ
@@ -63,25 +78,44 @@ pub record TellsMatch (start : NetState) (breaks : List Break) (bound p : ℕ) (
   pub before : p ≤ bound → told ≡ []
 
 -- a move from a position m is told: the lines that it passed, where it came to, and past a bound which breakpoint matches there
-pub record TellsPast (start : NetState) (m bound : ℕ) (at : Standing) (out : List ℕ) : Type 0 where
+pub record TellsPast (start : NetState) (m : ℕ) (report : Report) (at : Standing) (out : List ℕ) : Type 0 where
   pub matched : List ℕ
-  pub matches : TellsMatch start at.breaks bound at.shown.position matched
-  pub told : out ≡ first_ten (passed start m at.shown.position) ++ (where_line start at.shown ++ matched)
-
--- which one stopped it, where a breakpoint stops it forwards alone
-abbrev pub TellsMove : NetState → ℕ → Standing → List ℕ → Type 0
-TellsMove start m at out = TellsPast start m m at out
+  pub matches : TellsMatch start at.breaks report.bound at.shown.position matched
+  pub told : out ≡ passed_lines start m report at.shown.position ++ (where_line start at.shown ++ matched)
 
 -- the state at a position that the move goes to is shown, and the move is told
-pub record MovesPast (start : NetState) (bound : ℕ) (goes : ℕ → Type 0) (old new : Standing) (out : List ℕ) : Type 0 where
+pub record MovesPast (start : NetState) (report : Report) (goes : ℕ → Type 0) (old new : Standing) (out : List ℕ) : Type 0 where
   pub at : goes new.shown.position
   pub on_run : Passes start new.shown
   pub breaks : new.breaks ≡ old.breaks
-  pub told : TellsPast start old.shown.position bound new out
+  pub told : TellsPast start old.shown.position report new out
 
 -- a breakpoint is told after a move forwards, and after no other
+abbrev pub onwards : ℕ → Report
+onwards m = record { bound = m; until = None }
+
+-- so after `until`, which says where it does nothing
+abbrev pub until_report : ℕ → ℕ → Report
+until_report time m = record { bound = m; until = Some time }
+
+-- a breakpoint is told wherever one can be
+abbrev pub back_to_break : Report
+back_to_break = record { bound = 0; until = None }
+
 abbrev pub Moves : NetState → (ℕ → Type 0) → Standing → Standing → List ℕ → Type 0
-Moves start goes old new out = MovesPast start old.shown.position goes old new out
+Moves start goes old new out = MovesPast start (onwards old.shown.position) goes old new out
+
+-- the line that the next event gives, where one is due
+abbrev pub next_text : NetState → Reached → List ℕ
+next_text start at = if is_none (due at.state) then codes "next: none\n" else codes "next: " ++ concat (texts_between start at.position (at.position + 1))
+
+-- how far the run is known to go
+abbrev pub known_line : Extent → List ℕ
+known_line known = (if known.ends then codes "known to end at " else codes "known to go to ") ++ (decimal known.upto ++ codes "\n")
+
+-- what `where` tells
+abbrev pub where_text : NetState → Reached → Extent → List ℕ
+where_text start at known = where_line start at ++ (next_text start at ++ known_line known)
 
 -- the last so many lines up to a position
 abbrev pub last_lines : NetState → ℕ → ℕ → List ℕ

@@ -9,9 +9,11 @@ use Rattle.debug_session.specs.declared.command.Typed.TheVariants.{Plain}
 use Rattle.debug_session.specs.declared.dialogue.Dialogue.{Dialogue}
 use Rattle.debug_session.specs.declared.window_move.WindowMove.{WindowMove}
 use Rattle.debug_session.specs.declared.window_move.WindowMove.TheVariants.{Run, Until}
+use Rattle.debug_session.specs.declared.report.Report.{Report}
 use Rattle.debug_session.specs.Answers.{Standing, standing, Obeys}
 use Rattle.debug_session.specs.Prompt.{AtPrompt}
 use Rattle.debug_session.specs.TypedAnswers.{ObeysTyped}
+use Rattle.debug_session.specs.TypedMoves.{onwards, until_report}
 
 -- the command that asks for it
 abbrev pub command_of : WindowMove → Command
@@ -22,6 +24,11 @@ command_of (Until time) = commands.Until time
 abbrev pub MoveGoesTo : WindowMove → Debugging → ℕ → Type 0
 MoveGoesTo Run d = RunGoesTo d.start d.breaks d.shown.position
 MoveGoesTo (Until time) d = UntilGoesTo d.start time d.shown.position
+
+-- how it is told, from where it began
+abbrev pub report_of : WindowMove → ℕ → Report
+report_of Run m = onwards m
+report_of (Until time) m = until_report time m
 
 -- a command asks for it, and nothing has changed
 abbrev pub IsAsked : Command → Debugging → Debugging → WindowMove → Type 0
@@ -36,7 +43,7 @@ pub record IsLeft (old new : Debugging) (IsAnswer : Standing → List ℕ → Ty
   pub same : new ≡ old
   pub answers : (at : Standing) (out : List ℕ) → Obeys old.start (command_of left) (standing old) at out → IsAnswer at out
 
--- so at a prompt, where it may have become the last move
+-- so at a prompt, where it may be the last move now
 pub record IsTypedLeft (old new : Dialogue) (IsAnswer : AtPrompt → List ℕ → Type 0) (left : WindowMove) : Type 0 where
   pub same : new.debugger ≡ old.debugger
-  pub answers : (at : Standing) (out : List ℕ) → ObeysTyped old.debugger.start (Plain (command_of left)) (standing old.debugger) at out → IsAnswer (record { standing = at; last = new.last }) out
+  pub answers : (at : Standing) (out : List ℕ) → ObeysTyped old.debugger.start (Plain (command_of left)) (standing old.debugger) at out → IsAnswer (record { standing = at; memo = new.memo }) out

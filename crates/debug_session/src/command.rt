@@ -2,6 +2,7 @@
 ghost use Rattle.std.specs.Prelude.{◌≡◌};
 ghost use Rattle.debug_session.specs.Sessions.{limits_of};
 
+use crate::memo::Extent;
 use crate::topic::Topic;
 use debugger::Break;
 use scenario_image::Scenario;
@@ -34,6 +35,8 @@ pub enum Typed {
     Plain(Command),
     /// Back until a breakpoint matches.
     Reverse,
+    /// To this position.
+    Goto(u64),
     /// Nothing but to see a part of the state.
     Part(DumpPart),
     /// Nothing but to see what a flow waits for.
@@ -44,6 +47,8 @@ pub enum Typed {
     Delete(u64),
     /// Nothing but to see the last so many lines of the trace.
     Lines(u64),
+    /// Nothing but to see where the session stands, and how far the run is known to go.
+    Where(Extent),
     /// Nothing but to see what can be typed.
     Help,
     /// Nothing but to be told of a topic.

@@ -1,9 +1,8 @@
 //! A debugger that is told what to do line by line.
-ghost use Rattle.std.specs.Prelude.{◌≡◌, IfOk, None};
-ghost use Rattle.debugger.specs.Debugging.{opened};
-ghost use Rattle.table_run.specs.State.{opening};
+ghost use Rattle.std.specs.Prelude.{◌≡◌};
+ghost use Rattle.debug_session.specs.Memos.{no_memo};
 
-use crate::command::Typed;
+use crate::memo::Memo;
 use debugger::Debugger;
 
 /// A debugger at a prompt.
@@ -11,19 +10,19 @@ use debugger::Debugger;
 pub struct Dialogue {
     /// The debugger.
     pub debugger: Debugger,
-    /// The last move that was asked for, which an empty line asks for again.
-    pub last: Option<Typed>,
+    /// What is kept in mind from line to line.
+    pub memo: Memo,
 }
 
 impl Dialogue {
-    /// No move was asked for yet.
+    /// Nothing was asked for yet.
     pub fn new(debugger: Debugger) -> Dialogue
         ensures debugger { result.debugger ≡ debugger }
-        ensures last { result.last ≡ None }
+        ensures memo { result.memo ≡ no_memo }
     {
         Dialogue {
             debugger,
-            last: None,
+            memo: Memo::new(),
         }
     }
 }

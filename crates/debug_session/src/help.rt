@@ -7,12 +7,14 @@ use crate::name::Name;
 use std::alloc::AllocError;
 
 /// The commands, in the order in which they are told of.
-const ALL_NAMES: [Name; 14] = [
+const ALL_NAMES: [Name; 16] = [
     Name::Step,
     Name::Back,
     Name::Run,
     Name::Reverse,
     Name::Until,
+    Name::Goto,
+    Name::Where,
     Name::State,
     Name::Break,
     Name::Breaks,
@@ -35,6 +37,9 @@ fn usage(name: Name) -> &'static [u8]
         Name::Reverse => b"reverse      go back until a breakpoint matches, or to the beginning\n",
         Name::Until =>
             b"until T      run all events before the moment T, as 1.5s, 20ms or 10000ns\n",
+        Name::Goto => b"goto N       go to position N, forwards or back, or to the end\n",
+        Name::Where =>
+            b"where        show the position, the next event, and how far the run is known to go\n",
         Name::State => b"state [PART] show all of the state, or of it: node N, link L or flow F\n",
         Name::Break =>
             b"break COND.. stop where all match: node N, flow F, kind K, drop, link L, byte B; or stall [F]\n",
@@ -55,15 +60,19 @@ fn more(name: Name) -> &'static [u8]
 {
     match name {
         Name::Step =>
-            b"It shows the lines of the trace that it passes, ten at most, and where it came to.\n",
+            b"It shows the last ten lines of the trace that it passes, how many more there are, and where it came to.\n",
         Name::Back =>
-            b"It shows the lines that it takes back, the latest first, ten at most, and where it came to.\n",
+            b"It shows the last ten lines that it takes back, the latest first, and where it came to.\n",
         Name::Run =>
             b"It stops after the next event whose line a breakpoint matches, and shows that breakpoint.\n",
         Name::Reverse =>
             b"It stops after the last event before this position whose line a breakpoint matches, else at position 0.\n",
         Name::Until =>
-            b"T is a number of nanoseconds, or has a unit: ns, us, ms or s. It only goes forwards.\n",
+            b"T is a number of nanoseconds, or has a unit: ns, us, ms or s. It only goes forwards, and else says so.\n",
+        Name::Goto =>
+            b"N is how many events were run there, as the first number of a line of the trace.\n",
+        Name::Where =>
+            b"The next event is shown by the line that it gives. A run is known to go to where the session was.\n",
         Name::State =>
             b"node N and link L show one line each, flow F all that there is of a flow: both of its ends, the links
 where its packets wait, and its events to come. N, L and F are numbers from 0: help numbers
@@ -102,6 +111,8 @@ fn example(name: Name) -> &'static [u8]
         Name::Run => b"run\n",
         Name::Reverse => b"reverse\n",
         Name::Until => b"until 20ms\n",
+        Name::Goto => b"goto 25\n",
+        Name::Where => b"where\n",
         Name::State => b"state flow 0\n",
         Name::Break => b"break flow 0 kind rto\n",
         Name::Breaks => b"breaks\n",

@@ -34,6 +34,10 @@ pub enum Name {
     Quit,
     /// What a flow waits for is shown.
     Why,
+    /// A position is gone to.
+    Goto,
+    /// Where the session stands is shown.
+    Where,
 }
 
 /// Whether a word is the beginning of a name, or all of it.
@@ -75,6 +79,10 @@ pub(crate) fn name_of(word: &[u8]) -> Option<Name>
         Some(Name::Quit)
     } else if begins(word, b"why") {
         Some(Name::Why)
+    } else if begins(word, b"goto") {
+        Some(Name::Goto)
+    } else if begins(word, b"where") {
+        Some(Name::Where)
     } else {
         None
     }

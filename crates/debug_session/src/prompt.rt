@@ -3,16 +3,18 @@ ghost use Rattle.std.specs.Prelude.{◌≡◌, false, MatchOption};
 ghost use Rattle.debug_session.specs.Input.{words_in};
 ghost use Rattle.debug_session.specs.Prompt as prompt;
 ghost use Rattle.debug_session.specs.TypedAnswers as answers;
-ghost use Rattle.debug_session.specs.WindowMoves.{IsTypedLeft};
+ghost use Rattle.debug_session.specs.WindowMoves.{IsTypedLeft, report_of};
 
 use crate::command::{Command, Limits, Typed};
 use crate::dialogue::Dialogue;
 use crate::grammar::one_word;
+use crate::memo::{Memo, knowing};
 use crate::name::begins;
 use crate::reading::read_typed;
 use crate::refusal::Refusal;
+use crate::report::Report;
 use crate::said::Said;
-use crate::typed_reply::{obey_typed, show_passed};
+use crate::typed_reply::{obey_typed, onwards, show_past};
 use crate::window_move::{WindowMove, go};
 use window_engine::{Gate, Hands};
 
@@ -63,13 +65,25 @@ fn last_after(asked: Typed, last: Option<Typed>) -> Option<Typed>
         Typed::Plain(Command::SetBreak(_)) => last,
         Typed::Plain(Command::Clear) => last,
         Typed::Reverse => Some(asked),
+        Typed::Goto(_) => Some(asked),
         Typed::Part(_) => last,
         Typed::Why(_) => last,
         Typed::Breaks => last,
         Typed::Delete(_) => last,
         Typed::Lines(_) => last,
+        Typed::Where(_) => last,
         Typed::Help => last,
         Typed::HelpOn(_) => last,
+    }
+}
+
+/// What is in mind, once a command was read.
+fn memo_after(asked: Typed, dialogue: &Dialogue) -> Memo
+    ensures { result ≡ prompt.memo_after asked (prompt.at_prompt dialogue.now) }
+{
+    Memo {
+        last: last_after(asked, dialogue.memo.last),
+        known: dialogue.memo.known.and(&dialogue.debugger),
     }
 }
 
@@ -80,17 +94,18 @@ fn obey_at_prompt(dialogue: &mut Dialogue, asked: Typed, said: &mut Said) -> Opt
     ensures obeys { MatchOption result (prompt.ObeysAtPrompt dialogue.old.debugger.start asked (prompt.at_prompt dialogue.old) (prompt.at_prompt dialogue.new) said.new) (IsTypedLeft dialogue.old dialogue.new (prompt.ObeysAtPrompt dialogue.old.debugger.start asked (prompt.at_prompt dialogue.old))) }
     ensures start { dialogue.new.debugger.start ≡ dialogue.old.debugger.start }
 {
-    dialogue.last = last_after(asked, dialogue.last);
-    obey_typed(&mut dialogue.debugger, asked, said)
+    dialogue.memo = memo_after(asked, dialogue);
+    let known = dialogue.memo.known;
+    obey_typed(&mut dialogue.debugger, knowing(known, asked), said)
 }
 
 /// Does the last move again, where there was one; a move by windows is left.
 #[tactic(none)]
 fn move_again(dialogue: &mut Dialogue, said: &mut Said) -> Option<WindowMove>
-    ensures moves { MatchOption result (prompt.MovesAgain dialogue.old.debugger.start dialogue.old.last (prompt.at_prompt dialogue.old) (prompt.at_prompt dialogue.new) said.new) (IsTypedLeft dialogue.old dialogue.new (prompt.MovesAgain dialogue.old.debugger.start dialogue.old.last (prompt.at_prompt dialogue.old))) }
+    ensures moves { MatchOption result (prompt.MovesAgain dialogue.old.debugger.start dialogue.old.memo.last (prompt.at_prompt dialogue.old) (prompt.at_prompt dialogue.new) said.new) (IsTypedLeft dialogue.old dialogue.new (prompt.MovesAgain dialogue.old.debugger.start dialogue.old.memo.last (prompt.at_prompt dialogue.old))) }
     ensures start { dialogue.new.debugger.start ≡ dialogue.old.debugger.start }
 {
-    match dialogue.last {
+    match dialogue.memo.last {
         None => {
             said.clear();
             None
@@ -139,6 +154,19 @@ fn begin_typed(
     }
 }
 
+/// How a move by windows from a position is told.
+fn report_of(left: WindowMove, from: u64) -> Report
+    ensures { result ≡ report_of left from }
+{
+    match left {
+        WindowMove::Run => onwards(from),
+        WindowMove::Until(time) => Report {
+            bound: from,
+            until: Some(time),
+        },
+    }
+}
+
 /// Answers a line that doesn't end the session: one that is too long is refused, and what any other
 /// says is followed. The moves `run` and `until` go by the debugger's workers.
 #[tactic(none)]
@@ -159,7 +187,8 @@ pub fn answer_typed<H: Hands>(
         Some(left) => {
             let from = dialogue.debugger.position();
             let moved = go(hands, gate, &mut dialogue.debugger, left);
-            show_passed(&mut dialogue.debugger, from, moved, said);
+            let report = report_of(left, from);
+            show_past(&mut dialogue.debugger, from, report, moved, said);
         }
     }
 }

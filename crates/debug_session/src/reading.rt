@@ -1,12 +1,13 @@
 //! From a line that is typed to a command.
 ghost use Rattle.std.specs.Prelude.{◌≡◌, ◌<◌, ◌≤◌, ◌^◌, ◌-◌, IfOk};
 ghost use Rattle.debug_session.specs.Input.{words_in};
-ghost use Rattle.debug_session.specs.TypedGrammar.{number_or, one_moment, break_number, one_break_number, plain, tells_part, part_asked, state_asked, why_asked, typed_alone, help_asked, command_typed, typed_reading};
+ghost use Rattle.debug_session.specs.TypedGrammar.{number_or, one_moment, goto_asked, break_number, one_break_number, plain, tells_part, part_asked, state_asked, why_asked, typed_alone, help_asked, command_typed, typed_reading};
 
 use crate::command::{Command, Limits, Typed};
 use crate::conditions::break_asked;
 use crate::cut::next_word;
 use crate::grammar::{AMOUNTS, alone, is, is_numeral, number_below, one_number, one_word};
+use crate::memo::Extent;
 use crate::moment::moment_in;
 use crate::name::{Name, name_of};
 use crate::refusal::Refusal;
@@ -133,6 +134,13 @@ fn why_asked(limits: Limits, line: &[u8]) -> Result<Typed, Refusal>
     Ok(Typed::Why(flow as u16))
 }
 
+/// The position that is gone to.
+fn goto_asked(line: &[u8]) -> Result<Typed, Refusal>
+    ensures { result ≡ goto_asked (words_in line.now) }
+{
+    Ok(Typed::Goto(one_number(line, AMOUNTS)?))
+}
+
 /// How many events are asked for.
 fn count_typed(line: &[u8]) -> Result<u64, Refusal>
     ensures { result ≡ number_or 1 1000000000000001 (words_in line.now) }
@@ -167,6 +175,8 @@ fn command_typed(limits: Limits, name: Option<Name>, rest: &[u8]) -> Result<Type
         Some(Name::Help) => help_asked(rest),
         Some(Name::Quit) => Err(Refusal::B2),
         Some(Name::Why) => why_asked(limits, rest),
+        Some(Name::Goto) => goto_asked(rest),
+        Some(Name::Where) => typed_alone(Typed::Where(Extent::nothing()), rest),
     }
 }
 

@@ -7,13 +7,15 @@ ghost use Rattle.debugger.specs.Moves.{HasPosition};
 ghost use Rattle.debug_session.specs.Answers.{standing, refusal_line, break_line, clear_line};
 ghost use Rattle.debug_session.specs.Help.{help_text, help_on};
 ghost use Rattle.debug_session.specs.Numbered.{set_line, deleted_line, listing};
-ghost use Rattle.debug_session.specs.TypedMoves.{TellsPast, last_lines};
+ghost use Rattle.debug_session.specs.TypedMoves.{TellsPast, where_text, last_lines};
 
 use crate::help::append_help;
+use crate::memo::Extent;
 use crate::numbered::{append_listing, put_numbered};
 use crate::refusal::Refusal;
+use crate::report::Report;
 use crate::topic::{Topic, append_help_on};
-use crate::typed_move::{append_last, append_move};
+use crate::typed_move::{append_last, append_move, append_whereabouts};
 use debugger::{Break, Debugger, MoveFault};
 use itoa::write_digits;
 use std::alloc::{AllocError, Global};
@@ -197,21 +199,35 @@ impl Said {
         append_help_on(&mut self.dump, topic)
     }
 
-    /// Answers a move from a position, with a breakpoint where it came past a bound. On a fault the
-    /// answer is a part of that.
+    /// Answers a move from a position. On a fault the answer is a part of that.
     pub(crate) fn say_move(
         &mut self,
         debugger: &mut Debugger,
         from: u64,
-        bound: u64,
+        report: Report,
     ) -> Result<(), MoveFault>
         requires { HasPosition debugger.old.start from }
-        ensures ok { OnOk result (TellsPast debugger.old.start from bound (standing debugger.old) self.new) }
+        ensures ok { OnOk result (TellsPast debugger.old.start from report (standing debugger.old) self.new) }
         ensures same { debugger.new ≡ debugger.old }
     {
         self.dump.clear();
         self.is_short = false;
-        append_move(&mut self.dump, debugger, from, bound)
+        append_move(&mut self.dump, debugger, from, report)
+    }
+
+    /// Answers where a session stands, and how far the run is known to go. On a fault the answer is a
+    /// part of that.
+    pub(crate) fn say_where(
+        &mut self,
+        debugger: &mut Debugger,
+        known: Extent,
+    ) -> Result<(), MoveFault>
+        ensures ok { OnOk result (self.new ≡ where_text debugger.old.start debugger.old.shown known) }
+        ensures same { debugger.new ≡ debugger.old }
+    {
+        self.dump.clear();
+        self.is_short = false;
+        append_whereabouts(&mut self.dump, debugger, known)
     }
 
     /// Answers the last so many lines of the trace. On a fault the answer is a part of that.

@@ -1,11 +1,16 @@
 //! What a move that is typed answers.
-ghost use Rattle.std.specs.Prelude.{◌≡◌, ◌+◌, ◌-◌, ◌≤◌, ◌++◌, decimal, drop, length, OnOk};
+ghost use Rattle.std.specs.Prelude.{◌≡◌, ◌≢◌, ◌+◌, ◌≤◌, ◌++◌, None, Some, decimal, drop, length, OnOk};
+ghost use Rattle.table_run.specs.State.{due};
+ghost use Rattle.std.specs.List.{concat};
 ghost use Rattle.debugger.specs.Moves.{HasPosition};
+ghost use Rattle.debugger.specs.Passed.{texts_between};
 ghost use Rattle.debug_session.specs.Answers.{standing};
-ghost use Rattle.debug_session.specs.Told.{shown_stretch, told_hit, AddsPlace, AddsMove};
-ghost use Rattle.debug_session.specs.TypedMoves.{passed, more_line, first_ten, end_words, time_words, place_line, hit_line, last_lines};
+ghost use Rattle.debug_session.specs.Told.{passed_count, shown_stretch, told_hit, AddsPlace, AddsMove};
+ghost use Rattle.debug_session.specs.TypedMoves.{lowest, passed, more_line, last_ten, idle_line, passed_lines, end_words, time_words, place_line, hit_line, next_text, known_line, where_text, last_lines};
 
+use crate::memo::Extent;
 use crate::numbered::put_numbered;
+use crate::report::Report;
 use crate::said::{ROOM, put_count, put_text};
 use debugger::{Debugger, Hit, LastEvent, MoveFault, Order, Stretch};
 
@@ -15,32 +20,44 @@ const MOST_SHOWN: u64 = 10;
 /// The room for the line of a place in the run, in bytes.
 const PLACE_ROOM: usize = 80;
 
-/// The lines that a move from one position to another shows of those that it passed.
-fn shown_stretch(from: u64, to: u64) -> Stretch
-    ensures { result ≡ shown_stretch from to }
+/// The position behind which the lines of a move backwards begin. Past a bound a breakpoint is told, and
+/// then its line is among them.
+fn lowest(bound: u64, to: u64) -> u64
+    ensures { result ≡ lowest bound to }
+{
+    if bound < to { to - 1 } else { to }
+}
+
+/// The lines that a move from one position to another shows, where those of one backwards begin behind
+/// a lowest position.
+fn shown_stretch(from: u64, low: u64, to: u64) -> Stretch
+    ensures { result ≡ shown_stretch from low to }
 {
     if from < to {
         let count = (to - from).min(MOST_SHOWN);
         Stretch {
-            from,
+            from: to - count,
             count,
             order: Order::Rising,
         }
     } else {
-        let count = (from - to).min(MOST_SHOWN);
         Stretch {
-            from: from - count,
-            count,
+            from: low,
+            count: from.saturating_sub(low).min(MOST_SHOWN),
             order: Order::Falling,
         }
     }
 }
 
-/// How many lines a move passed.
-fn passed_count(from: u64, to: u64) -> u64
-    ensures { result ≡ (to - from) + (from - to) }
+/// How many lines a move has.
+fn passed_count(from: u64, low: u64, to: u64) -> u64
+    ensures { result ≡ passed_count from low to }
 {
-    if from < to { to - from } else { from - to }
+    if from < to {
+        to - from
+    } else {
+        from.saturating_sub(low)
+    }
 }
 
 // Appends how many lines there are beside ten.
@@ -59,17 +76,70 @@ fn append_more(out: &mut Vec<u8>, count: u64) -> Result<(), MoveFault>
     }
 }
 
-/// Appends the lines that a move from a position passed, and how many there are beside ten.
+/// Appends the last ten lines of a move from a position, and before them how many more there are.
 #[tactic(none)]
-fn append_passed(out: &mut Vec<u8>, debugger: &mut Debugger, from: u64) -> Result<(), MoveFault>
+fn append_passed(
+    out: &mut Vec<u8>,
+    debugger: &mut Debugger,
+    from: u64,
+    bound: u64,
+) -> Result<(), MoveFault>
     requires { HasPosition debugger.old.start from }
-    ensures ok { OnOk result (out.new.items ≡ out.old.items ++ first_ten (passed debugger.old.start from debugger.old.shown.position)) }
+    ensures ok { OnOk result (out.new.items ≡ out.old.items ++ last_ten (passed debugger.old.start from bound debugger.old.shown.position)) }
     ensures same { debugger.new ≡ debugger.old }
 {
     let to = debugger.position();
-    let stretch = shown_stretch(from, to);
-    match debugger.append_lines(&stretch, out) {
-        Ok(()) => append_more(out, passed_count(from, to)),
+    let low = lowest(bound, to);
+    let stretch = shown_stretch(from, low, to);
+    match append_more(out, passed_count(from, low, to)) {
+        Ok(()) => debugger.append_lines(&stretch, out),
+        Err(fault) => Err(fault),
+    }
+}
+
+// Appends that nothing was done.
+fn append_nothing(out: &mut Vec<u8>, time: u64) -> Result<(), MoveFault>
+    ensures { OnOk result (out.new.items ≡ out.old.items ++ idle_line (Some time) 0 0) }
+{
+    let mut line = [0; ROOM];
+    let at = put_text(&mut line, ROOM, b" ns is left\n");
+    let at = put_count(&mut line, at, time as usize);
+    let start = put_text(&mut line, at, b"nothing was done: no event before ");
+    out.extend_from_slice(&line[start..])?;
+    Ok(())
+}
+
+/// Appends that `until` did nothing, where it did not.
+fn append_idle(out: &mut Vec<u8>, until: Option<u64>, from: u64, to: u64) -> Result<(), MoveFault>
+    ensures { OnOk result (out.new.items ≡ out.old.items ++ idle_line until from to) }
+{
+    match until {
+        None => Ok(()),
+        Some(time) => {
+            if from == to {
+                append_nothing(out, time)
+            } else {
+                Ok(())
+            }
+        }
+    }
+}
+
+/// Appends what a move from a position passed.
+#[tactic(none)]
+fn append_lines(
+    out: &mut Vec<u8>,
+    debugger: &mut Debugger,
+    from: u64,
+    report: Report,
+) -> Result<(), MoveFault>
+    requires { HasPosition debugger.old.start from }
+    ensures ok { OnOk result (out.new.items ≡ out.old.items ++ passed_lines debugger.old.start from report debugger.old.shown.position) }
+    ensures same { debugger.new ≡ debugger.old }
+{
+    let to = debugger.position();
+    match append_idle(out, report.until, from, to) {
+        Ok(()) => append_passed(out, debugger, from, report.bound),
         Err(fault) => Err(fault),
     }
 }
@@ -192,20 +262,104 @@ fn append_where(out: &mut Vec<u8>, debugger: &mut Debugger, bound: u64) -> Resul
     }
 }
 
-/// Appends what a move from a position answers, with a breakpoint where it came past a bound.
+/// Appends what a move from a position answers.
 #[tactic(none)]
 pub(crate) fn append_move(
     out: &mut Vec<u8>,
     debugger: &mut Debugger,
     from: u64,
-    bound: u64,
+    report: Report,
 ) -> Result<(), MoveFault>
     requires { HasPosition debugger.old.start from }
-    ensures ok { OnOk result (AddsMove debugger.old.start from bound (standing debugger.old) out.old.items out.new.items) }
+    ensures ok { OnOk result (AddsMove debugger.old.start from report (standing debugger.old) out.old.items out.new.items) }
     ensures same { debugger.new ≡ debugger.old }
 {
-    match append_passed(out, debugger, from) {
-        Ok(()) => append_where(out, debugger, bound),
+    match append_lines(out, debugger, from, report) {
+        Ok(()) => append_where(out, debugger, report.bound),
+        Err(fault) => Err(fault),
+    }
+}
+
+// Appends the line that the next event gives, which is run on a copy.
+#[tactic(none)]
+fn append_due(out: &mut Vec<u8>, debugger: &mut Debugger) -> Result<(), MoveFault>
+    requires { due debugger.old.shown.state ≢ None }
+    ensures ok { OnOk result (out.new.items ≡ out.old.items ++ concat (texts_between debugger.old.start debugger.old.shown.position (debugger.old.shown.position + 1))) }
+    ensures same { debugger.new ≡ debugger.old }
+{
+    let stretch = Stretch {
+        from: debugger.position(),
+        count: 1,
+        order: Order::Rising,
+    };
+    debugger.append_lines(&stretch, out)
+}
+
+// Appends a short text.
+fn append_text(out: &mut Vec<u8>, text: &[u8]) -> Result<(), MoveFault>
+    ensures { OnOk result (out.new.items ≡ out.old.items ++ text.now) }
+{
+    out.extend_from_slice(text)?;
+    Ok(())
+}
+
+/// Appends the line that the next event gives, or that none is due.
+#[tactic(none)]
+fn append_next(out: &mut Vec<u8>, debugger: &mut Debugger) -> Result<(), MoveFault>
+    ensures ok { OnOk result (out.new.items ≡ out.old.items ++ next_text debugger.old.start debugger.old.shown) }
+    ensures same { debugger.new ≡ debugger.old }
+{
+    if debugger.is_at_end() {
+        append_text(out, b"next: none\n")
+    } else {
+        match append_text(out, b"next: ") {
+            Ok(()) => append_due(out, debugger),
+            Err(fault) => Err(fault),
+        }
+    }
+}
+
+/// Appends how far the run is known to go.
+fn append_known(out: &mut Vec<u8>, known: Extent) -> Result<(), MoveFault>
+    ensures { OnOk result (out.new.items ≡ out.old.items ++ known_line known) }
+{
+    let mut line = [0; ROOM];
+    let at = put_text(&mut line, ROOM, b"\n");
+    let at = put_count(&mut line, at, known.upto as usize);
+    let start = if known.ends {
+        put_text(&mut line, at, b"known to end at ")
+    } else {
+        put_text(&mut line, at, b"known to go to ")
+    };
+    out.extend_from_slice(&line[start..])?;
+    Ok(())
+}
+
+/// Appends what is to come: the next event, and how far the run is known to go.
+#[tactic(none)]
+fn append_ahead(out: &mut Vec<u8>, debugger: &mut Debugger, known: Extent) -> Result<(), MoveFault>
+    ensures ok { OnOk result (out.new.items ≡ out.old.items ++ (next_text debugger.old.start debugger.old.shown ++ known_line known)) }
+    ensures same { debugger.new ≡ debugger.old }
+{
+    match append_next(out, debugger) {
+        Ok(()) => append_known(out, known),
+        Err(fault) => Err(fault),
+    }
+}
+
+/// Appends what `where` answers.
+#[tactic(none)]
+pub(crate) fn append_whereabouts(
+    out: &mut Vec<u8>,
+    debugger: &mut Debugger,
+    known: Extent,
+) -> Result<(), MoveFault>
+    ensures ok { OnOk result (out.new.items ≡ out.old.items ++ where_text debugger.old.start debugger.old.shown known) }
+    ensures same { debugger.new ≡ debugger.old }
+{
+    let here = debugger.position();
+    match append_where(out, debugger, here) {
+        Ok(()) => append_ahead(out, debugger, known),
         Err(fault) => Err(fault),
     }
 }

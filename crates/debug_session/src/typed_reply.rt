@@ -2,19 +2,22 @@
 ghost use Rattle.std.specs.Prelude.{◌≡◌, ◌<◌, ◌≤◌, ◌⊎◌, ℕ, Contains, IfOk, MatchBool, MatchOption, OnErr, length};
 ghost use Rattle.trace_text.specs.DumpParts.{part_bytes};
 ghost use Rattle.flow_waits.specs.Waits.{waits_bytes};
-ghost use Rattle.debugger.specs.Moves.{HasPosition};
+ghost use Rattle.debugger.specs.Debugging.{HasMoved};
+ghost use Rattle.debugger.specs.Moves.{HasPosition, StepGoesTo};
 ghost use Rattle.debug_session.specs.Answers.{standing, refusal_line};
 ghost use Rattle.debug_session.specs.Help.{help_text, help_on};
 ghost use Rattle.debug_session.specs.Numbered.{IsNumber, HasNumber, set_line};
 ghost use Rattle.debug_session.specs.Told.{ToldPast, ToldMove};
 ghost use Rattle.debug_session.specs.TypedAnswers.{ObeysTyped};
-ghost use Rattle.debug_session.specs.TypedMoves.{TellsPast};
+ghost use Rattle.debug_session.specs.TypedMoves.{TellsPast, onwards};
 ghost use Rattle.debug_session.specs.WindowMoves.{IsAsked, IsTyped};
 
 use crate::command::{Command, Typed};
+use crate::memo::Extent;
 use crate::numbered::number_of;
 use crate::refusal::Refusal;
 use crate::reply::obey;
+use crate::report::Report;
 use crate::said::Said;
 use crate::topic::Topic;
 use crate::window_move::WindowMove;
@@ -132,15 +135,14 @@ fn tell_help_on(topic: Topic, said: &mut Said)
     }
 }
 
-/// Tells a move from a position, with a breakpoint where it came past a bound. The answer is whether
-/// it could be told.
+/// Tells a move from a position. The answer is whether it could be told.
 #[tactic(none)]
-fn tell_move(debugger: &mut Debugger, from: u64, bound: u64, said: &mut Said) -> bool
+fn tell_move(debugger: &mut Debugger, from: u64, report: Report, said: &mut Said) -> bool
     requires { HasPosition debugger.old.start from }
-    ensures told { MatchBool result (TellsPast debugger.old.start from bound (standing debugger.old) said.new) (said.new ≡ refusal_line Refusal.M) }
+    ensures told { MatchBool result (TellsPast debugger.old.start from report (standing debugger.old) said.new) (said.new ≡ refusal_line Refusal.M) }
     ensures same { debugger.new ≡ debugger.old }
 {
-    match said.say_move(debugger, from, bound) {
+    match said.say_move(debugger, from, report) {
         Ok(()) => true,
         Err(_) => {
             said.say_refused(Refusal::M);
@@ -149,23 +151,22 @@ fn tell_move(debugger: &mut Debugger, from: u64, bound: u64, said: &mut Said) ->
     }
 }
 
-/// Tells what a move from a position came to, with a breakpoint past a bound. Where that cannot be
-/// told, the move is undone.
+/// Tells what a move from a position came to. Where that cannot be told, the move is undone.
 #[tactic(none)]
-fn show_past(
+pub(crate) fn show_past(
     debugger: &mut Debugger,
     from: u64,
-    bound: u64,
+    report: Report,
     moved: Result<u64, MoveFault>,
     said: &mut Said,
 )
     requires { HasPosition debugger.old.start from }
-    ensures told { IfOk moved (λ _. ToldPast from bound debugger.old debugger.new said.new) }
+    ensures told { IfOk moved (λ _. ToldPast from report debugger.old debugger.new said.new) }
     ensures refused { OnErr moved ((debugger.new ≡ debugger.old) × (said.new ≡ refusal_line Refusal.M)) }
 {
     match moved {
         Ok(_) => {
-            if !tell_move(debugger, from, bound, said) {
+            if !tell_move(debugger, from, report, said) {
                 let _undone = debugger.undo_move();
             }
         }
@@ -173,20 +174,26 @@ fn show_past(
     }
 }
 
+/// A breakpoint is told past a position.
+pub(crate) fn onwards(from: u64) -> Report
+    ensures { result ≡ onwards from }
+{
+    Report {
+        bound: from,
+        until: None,
+    }
+}
+
 /// Tells what a move from a position came to, with a breakpoint where it went forwards. Where that
 /// cannot be told, the move is undone.
 #[tactic(none)]
-pub(crate) fn show_passed(
-    debugger: &mut Debugger,
-    from: u64,
-    moved: Result<u64, MoveFault>,
-    said: &mut Said,
-)
+fn show_passed(debugger: &mut Debugger, from: u64, moved: Result<u64, MoveFault>, said: &mut Said)
     requires { HasPosition debugger.old.start from }
     ensures told { IfOk moved (λ _. ToldMove from debugger.old debugger.new said.new) }
     ensures refused { OnErr moved ((debugger.new ≡ debugger.old) × (said.new ≡ refusal_line Refusal.M)) }
 {
-    show_past(debugger, from, from, moved, said);
+    let report = onwards(from);
+    show_past(debugger, from, report, moved, said);
 }
 
 /// Goes back until a breakpoint matches, and tells that one.
@@ -197,7 +204,45 @@ fn reverse(debugger: &mut Debugger, said: &mut Said)
 {
     let from = debugger.position();
     let moved = debugger.reverse();
-    show_past(debugger, from, 0, moved, said);
+    let report = onwards(0);
+    show_past(debugger, from, report, moved, said);
+}
+
+/// Moves to a position, or to the run's end where that comes first.
+fn move_to(debugger: &mut Debugger, target: u64) -> Result<u64, MoveFault>
+    ensures moved { IfOk result (HasMoved debugger.old debugger.new) }
+    ensures goes { IfOk result (StepGoesTo debugger.old.start 0 target) }
+    ensures err { OnErr result (debugger.new ≡ debugger.old) }
+{
+    let from = debugger.position();
+    if target < from {
+        debugger.back(from - target)
+    } else {
+        debugger.step(target - from)
+    }
+}
+
+/// Goes to a position.
+#[tactic(none)]
+fn go_to(debugger: &mut Debugger, target: u64, said: &mut Said)
+    ensures obeyed { ObeysTyped debugger.old.start (Typed.Goto target) (standing debugger.old) (standing debugger.new) said.new }
+    ensures start { debugger.new.start ≡ debugger.old.start }
+{
+    let from = debugger.position();
+    let moved = move_to(debugger, target);
+    show_passed(debugger, from, moved, said);
+}
+
+/// Tells where a session stands.
+#[tactic(none)]
+fn tell_where(debugger: &mut Debugger, known: Extent, said: &mut Said)
+    ensures obeyed { ObeysTyped debugger.old.start (Typed.Where known) (standing debugger.old) (standing debugger.new) said.new }
+    ensures start { debugger.new.start ≡ debugger.old.start }
+{
+    match said.say_where(debugger, known) {
+        Ok(()) => {}
+        Err(_) => said.say_refused(Refusal::M),
+    }
 }
 
 /// Tells the last so many lines of the trace.
@@ -258,6 +303,10 @@ pub(crate) fn obey_typed(
             reverse(debugger, said);
             None
         }
+        Typed::Goto(target) => {
+            go_to(debugger, target, said);
+            None
+        }
         Typed::Part(part) => {
             tell_part(debugger, part, said);
             None
@@ -276,6 +325,10 @@ pub(crate) fn obey_typed(
         }
         Typed::Lines(count) => {
             tell_lines(debugger, count, said);
+            None
+        }
+        Typed::Where(known) => {
+            tell_where(debugger, known, said);
             None
         }
         Typed::Help => {

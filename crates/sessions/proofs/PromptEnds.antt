@@ -4,9 +4,10 @@ use Rattle.scenario_image.specs.declared.parts.ScenarioParts.{ScenarioParts}
 use Rattle.table_run.specs.State.{opening}
 use Rattle.debugger.specs.Debugging.{Debugging, opened}
 use Rattle.debug_session.specs.declared.command.Limits.{Limits}
-use Rattle.debug_session.specs.declared.command.Typed.{Typed as TypedCommand}
 use Rattle.debug_session.specs.declared.dialogue.Dialogue.{Dialogue}
+use Rattle.debug_session.specs.declared.memo.Memo.{Memo}
 use Rattle.debug_session.specs.Answers.{standing}
+use Rattle.debug_session.specs.Memos.{no_memo}
 use Rattle.debug_session.specs.Sessions.{limits_of}
 use Rattle.debug_session.specs.Prompt.{Typing, Typed, at_prompt, unmoved}
 use Rattle.sessions.specs.declared.fault.SessionFault.{SessionFault}
@@ -27,11 +28,11 @@ pub over_scenario : (p : ScenarioParts) (ended : Ended) (before after : Streams)
 over_scenario p (Err NoMemory) before after session = absurd session.ending
 over_scenario p _ before after session = session
 
-pub typed_over : (p : ScenarioParts) (d : Dialogue) (limits : Limits) (ended : Ended) (before after : Streams) → d.debugger ≡ opened (opening p) → d.last ≡ None → limits ≡ limits_of p
+pub typed_over : (p : ScenarioParts) (d : Dialogue) (limits : Limits) (ended : Ended) (before after : Streams) → d.debugger ≡ opened (opening p) → d.memo ≡ no_memo → limits ≡ limits_of p
     → IsTypedSession limits d.debugger.start (at_prompt d) ended before after → IsOverScenario p ended before after
 typed_over p d limits ended before after is none bounds session =
     let bounded = subst (λ (l : Limits). IsTypedSession l d.debugger.start (at_prompt d) ended before after) bounds session in
-    let unasked = subst (λ (m : Option TypedCommand). IsTypedSession (limits_of p) d.debugger.start (record { standing = standing d.debugger; last = m }) ended before after) none bounded in
+    let unasked = subst (λ (m : Memo). IsTypedSession (limits_of p) d.debugger.start (record { standing = standing d.debugger; memo = m }) ended before after) none bounded in
     over_scenario p ended before after (subst (λ (e : Debugging). IsTypedSession (limits_of p) e.start (unmoved (standing e)) ended before after) is unasked)
 
 pub no_memory_over : (p : ScenarioParts) (ended : Ended) (streams : Streams) → ended ≡ Err NoMemory → IsOverScenario p ended streams streams

@@ -7,6 +7,7 @@ use Rattle.scenario_asm.specs.Meaning.{MeansScenario}
 use Rattle.table_run.specs.State.{opening}
 use Rattle.debugger.specs.Debugging.{opened}
 use Rattle.debug_session.specs.Input.{text_lines, command_lines}
+use Rattle.debug_session.specs.Memos.{no_memo}
 use Rattle.debug_session.specs.Sessions.{IsEnding as IsCommandsEnding, limits_of}
 use Rattle.debug_session.specs.declared.session.SessionFault.{SessionFault as CommandsFault}
 use Rattle.debug_session.specs.declared.session.SessionFault.TheVariants.{NoMemory as commands_NoMemory, OutputFailed}
@@ -127,7 +128,7 @@ commands_told parts lines fault told out is put = subst (λ (f : SessionFault). 
 
 -- lines were typed at a prompt that was opened over an input, and so its session has ended
 pub typed_end : (groups input : List ℕ) (p : ScenarioParts) (prompt : Prompt) (ended : Ended) (now after : Streams) → IsWithin input → HasScenario input p → HasGroups groups p → prompt.dialogue.debugger ≡ opened (opening p)
-    → prompt.dialogue.last ≡ None → prompt.limits ≡ limits_of p → WasTyped prompt ended now after → IsPromptDone groups input now ended after
+    → prompt.dialogue.memo ≡ no_memo → prompt.limits ≡ limits_of p → WasTyped prompt ended now after → IsPromptDone groups input now ended after
 typed_end groups input p prompt ended now after within means has stands none limits typed =
     record {
       over = input_over groups input p ended now after within means has (typed_over p prompt.dialogue prompt.limits ended now after stands none limits typed.session);

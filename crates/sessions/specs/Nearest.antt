@@ -3,7 +3,7 @@ use Rattle.std.specs.Prelude.{◌≡◌, ◌<◌, ◌≤◌, ℕ, nat_eq, nat_lt
 use Rattle.std.specs.List.{All}
 use Rattle.strsim.specs.Edits.{levenshtein_row}
 use Rattle.debug_session.specs.declared.name.Name.{Name}
-use Rattle.debug_session.specs.declared.name.Name.TheVariants.{Step, Back, Break, Breaks, Run, Reverse, Until, State, Lines, Delete, Clear, Help, Quit, Why}
+use Rattle.debug_session.specs.declared.name.Name.TheVariants.{Step, Back, Break, Breaks, Run, Reverse, Until, State, Lines, Delete, Clear, Help, Quit, Why, Goto, Where}
 use Rattle.sessions.specs.declared.nearest.Near.{Near}
 
 -- how a name is spelled
@@ -22,6 +22,8 @@ spelling Clear = codes "clear"
 spelling Help = codes "help"
 spelling Quit = codes "quit"
 spelling Why = codes "why"
+spelling Goto = codes "goto"
+spelling Where = codes "where"
 
 -- how many bytes have to be put in, taken out or replaced until a word is a name
 abbrev pub edits_to : List ℕ → Name → ℕ

@@ -12,7 +12,7 @@ use strsim::generic_levenshtein;
 const MOST_WORD: usize = 32;
 
 /// The names, in the order in which a word that begins several of them is read.
-const NAMES: [Name; 14] = [
+const NAMES: [Name; 16] = [
     Name::Step,
     Name::Back,
     Name::Break,
@@ -27,6 +27,8 @@ const NAMES: [Name; 14] = [
     Name::Help,
     Name::Quit,
     Name::Why,
+    Name::Goto,
+    Name::Where,
 ];
 
 /// How a name is spelled.
@@ -48,6 +50,8 @@ fn spelling(name: Name) -> &'static str
         Name::Help => "help",
         Name::Quit => "quit",
         Name::Why => "why",
+        Name::Goto => "goto",
+        Name::Where => "where",
     }
 }
 
@@ -95,7 +99,7 @@ fn nearest(alloc: Global, names: &[Name], word: &[u8]) -> Result<Option<Near>, A
 }
 
 /// The first word of a line; no byte where it has none.
-fn first_word(line: &[u8]) -> &[u8] {
+pub(crate) fn first_word(line: &[u8]) -> &[u8] {
     let start = line
         .iter()
         .position(|byte| *byte != b' ')

@@ -1,9 +1,10 @@
 //! A debugging session at a prompt: the scenario is a file's, and commands are typed, one a line.
-ghost use Rattle.std.specs.Prelude.{◌≡◌, ◌<◌, ◌≤◌, false, length, IfOk, OnOk, OnErr, None};
+ghost use Rattle.std.specs.Prelude.{◌≡◌, ◌<◌, ◌≤◌, false, length, IfOk, OnOk, OnErr};
 ghost use Rattle.std.specs.Io.KnownBytes.{Appends};
 ghost use Rattle.table_run.specs.State.{opening};
 ghost use Rattle.debugger.specs.Debugging.{opened};
 ghost use Rattle.debug_session.specs.Prompt.{TypedAnswers, at_prompt, is_quit, put_out};
+ghost use Rattle.debug_session.specs.Memos.{no_memo};
 ghost use Rattle.debug_session.specs.Sessions.{limits_of};
 ghost use Rattle.sessions.specs.Ended.{writes_after, reads_after};
 ghost use Rattle.sessions.specs.Prompt.{IsTypedSession};
@@ -174,7 +175,7 @@ fn open_prompt(
     requires workers { (0 < workers) × (workers ≤ 64) }
     ensures room { IfOk result (λ prompt. 65536 < length prompt.room.items) }
     ensures debugger { IfOk result (λ prompt. prompt.dialogue.debugger ≡ opened (opening scenario.now)) }
-    ensures last { IfOk result (λ prompt. prompt.dialogue.last ≡ None) }
+    ensures memo { IfOk result (λ prompt. prompt.dialogue.memo ≡ no_memo) }
     ensures limits { IfOk result (λ prompt. prompt.limits ≡ limits_of scenario.now) }
 {
     let room = room_for_line(alloc)?;

@@ -1,6 +1,6 @@
 //! What is told of a line that is typed and refused.
 
-use crate::nearest::{command_begun, tell_nearest};
+use crate::nearest::{command_begun, first_word, tell_nearest};
 use command_line::notes::{Notes, Numbers};
 use command_line::reasons::meaning_of;
 use debug_session::{Limits, Name};
@@ -21,8 +21,50 @@ fn has_numbers(line: &[u8]) -> bool {
     )
 }
 
-/// Tells that a line is refused, and what that means; where it names no command, the nearest one; and
-/// where a number may be none of the scenario's, which it has.
+/// The conditions that a breakpoint can have.
+const CONDITIONS: &str =
+    "tcpsim: conditions are node N, flow F, kind K, drop, link L, byte B; or stall: see help break";
+
+/// The units of times.
+const UNITS: &str = "tcpsim: a time has a unit, ns, us, ms or s, as 1.5s: see help until";
+
+/// What does here what a word does in other debuggers.
+fn of_other_debuggers(word: &[u8]) -> Option<&'static str> {
+    if word.is_empty() {
+        None
+    } else if b"print".starts_with(word) {
+        Some(
+            "tcpsim: state flow F shows all values of a flow, state link L those of a link: see help state",
+        )
+    } else if b"watch".starts_with(word) {
+        Some("tcpsim: break stops where a line meets conditions: see help break")
+    } else if b"info".starts_with(word) {
+        Some("tcpsim: state shows the state, where the position, breaks the breakpoints: see help")
+    } else {
+        None
+    }
+}
+
+/// Tells what there is in the place of a line that names no command, or no sort of condition.
+fn tell_instead<N: Notes>(alloc: Global, line: &[u8], notes: &mut N) {
+    match command_begun(line) {
+        Some(Name::Break) => notes.refusal_means(CONDITIONS),
+        Some(_) => {}
+        None => match of_other_debuggers(first_word(line)) {
+            Some(advice) => notes.refusal_means(advice),
+            None => tell_nearest(alloc, line, notes),
+        },
+    }
+}
+
+/// Whether a line can have a time.
+fn has_time(line: &[u8]) -> bool {
+    matches!(command_begun(line), Some(Name::Until))
+}
+
+/// Tells that a line is refused, and what that means; where it names no command, the nearest one, or
+/// what does the same here; which conditions and units there are; and where a number may be none of the
+/// scenario's, which it has.
 pub(crate) fn tell_refused<N: Notes>(
     alloc: Global,
     limits: Limits,
@@ -38,7 +80,10 @@ pub(crate) fn tell_refused<N: Notes>(
         notes.refusal_means(meaning);
     }
     if code == "B1" {
-        tell_nearest(alloc, line, notes);
+        tell_instead(alloc, line, notes);
+    }
+    if code == "B3" && has_time(line) {
+        notes.refusal_means(UNITS);
     }
     if code == "B3" && has_numbers(line) {
         notes.numbers(&Numbers {

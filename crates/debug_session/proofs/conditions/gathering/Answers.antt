@@ -1,4 +1,4 @@
-use Rattle.std.proofs.Common.{◌≡◌, ◌∙◌, ◌∷◌, Err, Ok, rules, sym}
+use Rattle.std.proofs.Common.{◌≡◌, ◌∙◌, ◌∷◌, Err, Ok, rules}
 use Rattle.debug_session.specs.Conditions.{none_gathered, gathering, with_word}
 use Rattle.debug_session.specs.Input.{words_in}
 use Rattle.debug_session.proofs.Gathering.{one_refused}

@@ -8,7 +8,7 @@ pub returns-in-None-clause-answers : goal.returns-in-None-clause-answers
 returns-in-None-clause-answers c =
     let start = c.args.dialogue.now.debugger.start in
     let old = at_prompt c.args.dialogue.now in
-    typed_as c.args.dialogue.now c.move_again.new.dialogue (MovesAgain start old.last old) (AnswersTyped c.args.limits start c.args.line.now old) c.move_again.result c.move_again.new.said
+    typed_as c.args.dialogue.now c.move_again.new.dialogue (MovesAgain start old.memo.last old) (AnswersTyped c.args.limits start c.args.line.now old) c.move_again.result c.move_again.new.said
     (λ at said moves. is_again c.args.limits start c.args.line.now old at said c.in-None.ensures moves) c.move_again.ensures.moves
 
 pub returns-in-None-clause-start : goal.returns-in-None-clause-start

@@ -14,7 +14,7 @@ pub returns-in-Some-clause-moves : goal.returns-in-Some-clause-moves
 returns-in-Some-clause-moves c =
     let start = c.args.dialogue.now.debugger.start in
     let old = at_prompt c.args.dialogue.now in
-    typed_as c.args.dialogue.now c.obey_at_prompt.new.dialogue (ObeysAtPrompt start c.in-Some.asked old) (MovesAgain start old.last old) c.obey_at_prompt.result c.obey_at_prompt.new.said
+    typed_as c.args.dialogue.now c.obey_at_prompt.new.dialogue (ObeysAtPrompt start c.in-Some.asked old) (MovesAgain start old.memo.last old) c.obey_at_prompt.result c.obey_at_prompt.new.said
     (λ at said obeys. done_again start old at said c.in-Some.asked c.in-Some.is obeys) c.obey_at_prompt.ensures.obeys
 
 pub returns-in-Some-clause-start : goal.returns-in-Some-clause-start

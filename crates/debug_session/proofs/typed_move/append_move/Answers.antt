@@ -6,21 +6,21 @@ use Rattle.debug_session.specs.Told.{AddsPlace, AddsMove}
 use Rattle.debug_session.proofs.TypedMoving.{move_told}
 use Rattle.debug_session.proofs.typed_move.append_move.Goals as goal
 
-pub append_passed-requires : goal.append_passed-requires
-append_passed-requires c = c.requires
+pub append_lines-requires : goal.append_lines-requires
+append_lines-requires c = c.requires
 
 pub returns-in-Ok-clause-ok : goal.returns-in-Ok-clause-ok
 returns-in-Ok-clause-ok c =
     let d = c.args.debugger.now in
     let out = c.args.out.now.items in
-    let made = c.append_passed.new.out.items in
+    let made = c.append_lines.new.out.items in
     let all = c.append_where.new.out.items in
-    on_ok {P = AddsPlace d.start c.args.bound (standing d) made all} {Q = AddsMove d.start c.args.from c.args.bound (standing d) out all} c.append_where.result
-    (λ place. move_told d.start c.args.from c.args.bound (standing d) out made all c.in-Ok.ensures.ok place)
-    (subst (λ (e : Debugging). OnOk c.append_where.result (AddsPlace e.start c.args.bound (standing e) made all)) c.append_passed.ensures.same c.append_where.ensures.ok)
+    on_ok {P = AddsPlace d.start c.args.report.bound (standing d) made all} {Q = AddsMove d.start c.args.from c.args.report (standing d) out all} c.append_where.result
+    (λ place. move_told d.start c.args.from c.args.report (standing d) out made all c.in-Ok.ensures.ok place)
+    (subst (λ (e : Debugging). OnOk c.append_where.result (AddsPlace e.start c.args.report.bound (standing e) made all)) c.append_lines.ensures.same c.append_where.ensures.ok)
 
 pub returns-in-Ok-clause-same : goal.returns-in-Ok-clause-same
-returns-in-Ok-clause-same c = c.append_where.ensures.same ∙ c.append_passed.ensures.same
+returns-in-Ok-clause-same c = c.append_where.ensures.same ∙ c.append_lines.ensures.same
 
 pub returns-in-Err-clause-same : goal.returns-in-Err-clause-same
-returns-in-Err-clause-same c = c.append_passed.ensures.same
+returns-in-Err-clause-same c = c.append_lines.ensures.same

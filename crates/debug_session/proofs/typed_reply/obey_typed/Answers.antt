@@ -77,3 +77,17 @@ returns-in-HelpOn-clause-obeyed c =
 
 pub returns-in-HelpOn-clause-start : goal.returns-in-HelpOn-clause-start
 returns-in-HelpOn-clause-start c = refl
+
+pub returns-in-Goto-clause-obeyed : goal.returns-in-Goto-clause-obeyed
+returns-in-Goto-clause-obeyed c =
+    subst (λ (k : Typed). ObeysTyped c.args.debugger.now.start k (standing c.args.debugger.now) (standing c.go_to.new.debugger) c.go_to.new.said) (sym c.in-Goto.is) c.go_to.ensures.obeyed
+
+pub returns-in-Goto-clause-start : goal.returns-in-Goto-clause-start
+returns-in-Goto-clause-start c = c.go_to.ensures.start
+
+pub returns-in-Where-clause-obeyed : goal.returns-in-Where-clause-obeyed
+returns-in-Where-clause-obeyed c =
+    subst (λ (k : Typed). ObeysTyped c.args.debugger.now.start k (standing c.args.debugger.now) (standing c.tell_where.new.debugger) c.tell_where.new.said) (sym c.in-Where.is) c.tell_where.ensures.obeyed
+
+pub returns-in-Where-clause-start : goal.returns-in-Where-clause-start
+returns-in-Where-clause-start c = c.tell_where.ensures.start

@@ -42,5 +42,5 @@ returns g c now =
     let opens = c.in_ok-prompt.ensures in (
       opens.room,
       λ ended after left.
-          typed_end c.args.sharing.now.groups input p c.in_ok-prompt.prompt ended now after c.requires means c.in_ok-partition.ensures.named opens.debugger opens.last opens.limits left,
+          typed_end c.args.sharing.now.groups input p c.in_ok-prompt.prompt ended now after c.requires means c.in_ok-partition.ensures.named opens.debugger opens.memo opens.limits left,
     )

@@ -1,0 +1,34 @@
+-- What a session at a prompt keeps in mind from line to line: the last move, and how far the run is known to go.
+use Rattle.std.specs.Prelude.{max, false, ◌||◌, is_none, None}
+use Rattle.table_run.specs.State.{due}
+use Rattle.debug_session.specs.declared.command.Typed.{Typed}
+use Rattle.debug_session.specs.declared.command.Typed.TheVariants.{Plain, Reverse, Goto, Part, Why, Breaks, Delete, Lines, Where, Help, HelpOn}
+use Rattle.debug_session.specs.declared.memo.Extent.{Extent}
+use Rattle.debug_session.specs.declared.memo.Memo.{Memo}
+use Rattle.debug_session.specs.Answers.{Standing}
+
+-- the run begins
+abbrev pub nothing_known : Extent
+nothing_known = record { upto = 0; ends = false }
+
+-- and it goes on to where a session stands
+abbrev pub known_after : Extent → Standing → Extent
+known_after known at = record { upto = max known.upto at.shown.position; ends = known.ends || is_none (due at.shown.state) }
+
+-- no line was typed yet
+abbrev pub no_memo : Memo
+no_memo = record { last = None; known = nothing_known }
+
+-- `where` is asked with what is known
+abbrev pub knowing : Extent → Typed → Typed
+knowing known (Plain asked) = Plain asked
+knowing known Reverse = Reverse
+knowing known (Goto target) = Goto target
+knowing known (Part part) = Part part
+knowing known (Why flow) = Why flow
+knowing known Breaks = Breaks
+knowing known (Delete i) = Delete i
+knowing known (Lines count) = Lines count
+knowing known (Where before) = Where known
+knowing known Help = Help
+knowing known (HelpOn topic) = HelpOn topic

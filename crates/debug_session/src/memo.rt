@@ -1,0 +1,78 @@
+//! What a session at a prompt keeps in mind from line to line.
+ghost use Rattle.std.specs.Prelude.{◌≡◌};
+ghost use Rattle.debug_session.specs.Answers.{standing};
+ghost use Rattle.debug_session.specs.Memos.{nothing_known, known_after, knowing, no_memo};
+
+use crate::command::Typed;
+use debugger::Debugger;
+
+/// How far a run is known to go.
+#[derive(Clone, Copy, Debug, PartialEq, Eq)]
+pub struct Extent {
+    /// The greatest position that the session is known to have been at.
+    pub upto: u64,
+    /// Whether the run ends there.
+    pub ends: bool,
+}
+
+/// What a session at a prompt keeps in mind from line to line.
+#[derive(Clone, Copy, Debug, PartialEq, Eq)]
+pub struct Memo {
+    /// The last move that was asked for, which an empty line asks for again.
+    pub last: Option<Typed>,
+    /// How far the run is known to go.
+    pub known: Extent,
+}
+
+impl Extent {
+    /// The run begins.
+    pub(crate) fn nothing() -> Extent
+        ensures { result ≡ nothing_known }
+    {
+        Extent {
+            upto: 0,
+            ends: false,
+        }
+    }
+
+    /// The run goes on to where a debugger stands, too.
+    pub(crate) fn and(self, debugger: &Debugger) -> Extent
+        ensures { result ≡ known_after self (standing debugger.now) }
+    {
+        Extent {
+            upto: self.upto.max(debugger.position()),
+            ends: self.ends || debugger.is_at_end(),
+        }
+    }
+}
+
+impl Memo {
+    /// Nothing was asked for yet.
+    pub(crate) fn new() -> Memo
+        ensures { result ≡ no_memo }
+    {
+        Memo {
+            last: None,
+            known: Extent::nothing(),
+        }
+    }
+}
+
+/// What is asked, with how far the run is known to go where that is asked.
+pub(crate) fn knowing(known: Extent, asked: Typed) -> Typed
+    ensures { result ≡ knowing known asked }
+{
+    match asked {
+        Typed::Where(_) => Typed::Where(known),
+        Typed::Plain(_)
+        | Typed::Reverse
+        | Typed::Goto(_)
+        | Typed::Part(_)
+        | Typed::Why(_)
+        | Typed::Breaks
+        | Typed::Delete(_)
+        | Typed::Lines(_)
+        | Typed::Help
+        | Typed::HelpOn(_) => asked,
+    }
+}
