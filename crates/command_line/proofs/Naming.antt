@@ -13,15 +13,16 @@ use Rattle.clap.specs.Walk.{Held, Names, Row, Text, finished, first_of, nothing_
 use Rattle.clap.specs.declared.error.Error.{Error}
 use Rattle.clap.specs.declared.parser.matches.ArgMatches.{ArgMatches}
 use Rattle.clap.specs.declared.parser.matches.ArgMatches.TheViews.{out-ArgMatches}
+use Rattle.command_line.specs.declared.subcommand.Counting.{Counting}
 use Rattle.command_line.specs.declared.subcommand.Asked.{Asked}
 use Rattle.command_line.specs.declared.subcommand.Asked.TheVariants.{Session, Explanation}
 use Rattle.command_line.specs.declared.subcommand.Subcommand.TheVariants.{Asm, Dis, Run, Figures}
 use Rattle.command_line.specs.declared.subcommand.Task.{Task}
 use Rattle.command_line.specs.declared.subcommand.Task.TheVariants.{Scenario, Debug}
-use Rattle.command_line.specs.CommandLine.{program, file_shape, figures_shape as moment_shape, code_shape, word_faults, option_text, number_of, Give, GiveAll, AskFor, WordsAskForOne}
-use Rattle.command_line.specs.Given.{AreOptions, AreOfSubcommand, AreOfAsked, IsSharing}
+use Rattle.command_line.specs.CommandLine.{program, file_shape, figures_shape as moment_shape, code_shape, word_faults, option_text, number_of, Give, GiveCounting, GiveAll, AskFor, WordsAskForOne}
+use Rattle.command_line.specs.Given.{AreOptions, AreOfSubcommand, AreOfAsked, IsSharing, IsCounting}
 use Rattle.command_line.specs.Sharing.{SharingValue}
-use Rattle.command_line.specs.Subcommand.{word_of, asked_word, sharing_of, counted_from}
+use Rattle.command_line.specs.Subcommand.{word_of, asked_word, sharing_of, counting_of}
 use Rattle.command_line.specs.Wishes.{is_true, wishes_by, wishes_in}
 use Rattle.command_line.specs.declared.subcommand.Wishes.{Wishes}
 use Rattle.command_line.proofs.NoKinds.{some_kind, first, second}
@@ -133,11 +134,18 @@ IsOf word rows asked = (word ≡ asked_word asked) × AreOfAsked rows asked
 sharing_there : (rows : List Row) → AreOptions rows → (sharing : SharingValue) × IsSharing rows sharing
 sharing_there rows has = (record { workers = number_of has.workers; groups = has.groups }, record { workers = ap (option_map number_of) has.are_workers; groups = has.are_groups })
 
+-- what figures the options ask for
+abbrev counting_in : List Row → Counting
+counting_in rows = record { from = first_of (codes "from") rows; every = first_of (codes "every") rows; series = is_true (first_of (codes "series") rows); names = is_true (first_of (codes "names") rows) }
+
+counting_there : (rows : List Row) → IsCounting rows (counting_in rows)
+counting_there rows = record { from = refl; every = refl; series = refl; names = refl }
+
 asked_there : (word : Text) (rows : List Row) → AreOfSubcommand word rows → (asked : Asked) × IsOf word rows asked
 asked_there word rows (inl explain) = (Explanation (first_of (codes "code") rows), (explain, refl))
 asked_there word rows (inr (inl asm)) = (Session (Scenario Asm) (first_of (codes "file") rows) (wishes_in rows), (asm, (tt, tt, refl, refl)))
 asked_there word rows (inr (inr (inl dis))) = (Session (Scenario Dis) (first_of (codes "file") rows) (wishes_in rows), (dis, (tt, tt, refl, refl)))
-asked_there word rows (inr (inr (inr (inl figures)))) = (Session (Scenario (Figures (first_of (codes "from") rows))) (first_of (codes "file") rows) (wishes_in rows), (figures, (tt, refl, refl, refl)))
+asked_there word rows (inr (inr (inr (inl figures)))) = (Session (Scenario (Figures (counting_in rows))) (first_of (codes "file") rows) (wishes_in rows), (figures, (tt, counting_there rows, refl, refl)))
 asked_there word rows (inr (inr (inr (inr (inl run))))) = let shared = sharing_there rows run.1 in (Session (Scenario (Run shared.0)) (first_of (codes "file") rows) (wishes_in rows), (run.0, (shared.1, tt, refl, refl)))
 asked_there word rows (inr (inr (inr (inr (inr debug))))) = let shared = sharing_there rows debug.1 in (Session (Debug shared.0) (first_of (codes "file") rows) (wishes_in rows), (debug.0, (shared.1, tt, refl, refl)))
 
@@ -156,15 +164,20 @@ asked_for words named asked none is of = record {
     options None given = tt
     options (Some sharing) given = record { workers = ap (option_map number_of) (text (codes "workers")) ∙ given.workers; groups = text (codes "groups") ∙ given.groups }
 
-    moment : (o : Option (Option Text)) → IfSome o (λ from. first_of (codes "from") named.1 ≡ from) → IfSome o (λ from. option_text (codes "from") words ≡ from)
-    moment None given = tt
-    moment (Some from) given = text (codes "from") ∙ given
+    counting : (o : Option Counting) → IfSome o (IsCounting named.1) → IfSome o (GiveCounting words)
+    counting None given = tt
+    counting (Some c) given = record {
+      from = text (codes "from") ∙ given.from;
+      every = text (codes "every") ∙ given.every;
+      series = ap is_true (text (codes "series")) ∙ given.series;
+      names = ap is_true (text (codes "names")) ∙ given.names;
+    }
 
     wishes : wishes_by (λ flag. option_text flag words) ≡ wishes_in named.1
     wishes = ap₂ (λ progress explain. record { progress = is_true progress; explain = is_true explain }) (text (codes "progress")) (text (codes "explain"))
 
     all : (asked : Asked) → AreOfAsked named.1 asked → GiveAll words asked
-    all (Session task file wished) given = (options (sharing_of task) given.0, moment (counted_from task) given.1, text (codes "file") ∙ given.2, wishes ∙ given.3)
+    all (Session task file wished) given = (options (sharing_of task) given.0, counting (counting_of task) given.1, text (codes "file") ∙ given.2, wishes ∙ given.3)
     all (Explanation code) given = text (codes "code") ∙ given
 
 -- words that differ in their second letters are two
@@ -182,33 +195,40 @@ one_sharing words one other gives gives_too =
     let groups : one.groups ≡ other.groups = same_some _ _ (sym gives.groups ∙ gives_too.groups) in
     ap₂ (λ n text. record { workers = n; groups = text }) workers groups
 
+-- and so is what figures are asked for
+one_counting : (words : List Text) (one other : Counting) → GiveCounting words one → GiveCounting words other → one ≡ other
+one_counting words one other gives gives_too =
+    let words_are = ap₂ (λ (a b : Option Text). (a, b)) (sym gives.from ∙ gives_too.from) (sym gives.every ∙ gives_too.every) in
+    let flags_are = ap₂ (λ (a b : Bool). (a, b)) (sym gives.series ∙ gives_too.series) (sym gives.names ∙ gives_too.names) in
+    ap₂ (λ (w : Option Text × Option Text) (f : Bool × Bool). record { from = w.0; every = w.1; series = f.0; names = f.1 }) words_are flags_are
+
 -- words name one subcommand, in one way
-same_task : (words : List Text) (one other : Task) → word_of one ≡ word_of other → IfSome (sharing_of one) (Give words) × IfSome (counted_from one) (λ from. option_text (codes "from") words ≡ from)
-    → IfSome (sharing_of other) (Give words) × IfSome (counted_from other) (λ from. option_text (codes "from") words ≡ from) → one ≡ other
+same_task : (words : List Text) (one other : Task) → word_of one ≡ word_of other → IfSome (sharing_of one) (Give words) × IfSome (counting_of one) (GiveCounting words)
+    → IfSome (sharing_of other) (Give words) × IfSome (counting_of other) (GiveCounting words) → one ≡ other
 same_task words (Scenario Asm) (Scenario Asm) is gives gives_too = refl
 same_task words (Scenario Asm) (Scenario Dis) is gives gives_too = absurd (differ _ _ is refl refl)
 same_task words (Scenario Asm) (Scenario (Run sharing)) is gives gives_too = absurd (differ _ _ is refl refl)
-same_task words (Scenario Asm) (Scenario (Figures from)) is gives gives_too = absurd (differ _ _ is refl refl)
+same_task words (Scenario Asm) (Scenario (Figures counting)) is gives gives_too = absurd (differ _ _ is refl refl)
 same_task words (Scenario Asm) (Debug sharing) is gives gives_too = absurd (differ _ _ is refl refl)
 same_task words (Scenario Dis) (Scenario Asm) is gives gives_too = absurd (differ _ _ is refl refl)
 same_task words (Scenario Dis) (Scenario Dis) is gives gives_too = refl
 same_task words (Scenario Dis) (Scenario (Run sharing)) is gives gives_too = absurd (differ _ _ is refl refl)
-same_task words (Scenario Dis) (Scenario (Figures from)) is gives gives_too = absurd (differ_first _ _ is refl refl)
+same_task words (Scenario Dis) (Scenario (Figures counting)) is gives gives_too = absurd (differ_first _ _ is refl refl)
 same_task words (Scenario Dis) (Debug sharing) is gives gives_too = absurd (differ _ _ is refl refl)
 same_task words (Scenario (Run sharing)) (Scenario Asm) is gives gives_too = absurd (differ _ _ is refl refl)
 same_task words (Scenario (Run sharing)) (Scenario Dis) is gives gives_too = absurd (differ _ _ is refl refl)
 same_task words (Scenario (Run one)) (Scenario (Run other)) is gives gives_too = ap (λ sharing. Scenario (Run sharing)) (one_sharing words one other gives.0 gives_too.0)
-same_task words (Scenario (Run sharing)) (Scenario (Figures from)) is gives gives_too = absurd (differ _ _ is refl refl)
+same_task words (Scenario (Run sharing)) (Scenario (Figures counting)) is gives gives_too = absurd (differ _ _ is refl refl)
 same_task words (Scenario (Run sharing)) (Debug other) is gives gives_too = absurd (differ _ _ is refl refl)
-same_task words (Scenario (Figures from)) (Scenario Asm) is gives gives_too = absurd (differ _ _ is refl refl)
-same_task words (Scenario (Figures from)) (Scenario Dis) is gives gives_too = absurd (differ_first _ _ is refl refl)
-same_task words (Scenario (Figures from)) (Scenario (Run sharing)) is gives gives_too = absurd (differ _ _ is refl refl)
-same_task words (Scenario (Figures from)) (Scenario (Figures from_too)) is gives gives_too = ap (λ (f : Option Text). Scenario (Figures f)) (sym gives.1 ∙ gives_too.1)
-same_task words (Scenario (Figures from)) (Debug sharing) is gives gives_too = absurd (differ _ _ is refl refl)
+same_task words (Scenario (Figures counting)) (Scenario Asm) is gives gives_too = absurd (differ _ _ is refl refl)
+same_task words (Scenario (Figures counting)) (Scenario Dis) is gives gives_too = absurd (differ_first _ _ is refl refl)
+same_task words (Scenario (Figures counting)) (Scenario (Run sharing)) is gives gives_too = absurd (differ _ _ is refl refl)
+same_task words (Scenario (Figures counting)) (Scenario (Figures counting_too)) is gives gives_too = ap (λ (c : Counting). Scenario (Figures c)) (one_counting words counting counting_too gives.1 gives_too.1)
+same_task words (Scenario (Figures counting)) (Debug sharing) is gives gives_too = absurd (differ _ _ is refl refl)
 same_task words (Debug sharing) (Scenario Asm) is gives gives_too = absurd (differ _ _ is refl refl)
 same_task words (Debug sharing) (Scenario Dis) is gives gives_too = absurd (differ _ _ is refl refl)
 same_task words (Debug sharing) (Scenario (Run other)) is gives gives_too = absurd (differ _ _ is refl refl)
-same_task words (Debug sharing) (Scenario (Figures from)) is gives gives_too = absurd (differ _ _ is refl refl)
+same_task words (Debug sharing) (Scenario (Figures counting)) is gives gives_too = absurd (differ _ _ is refl refl)
 same_task words (Debug one) (Debug other) is gives gives_too = ap Debug (one_sharing words one other gives.0 gives_too.0)
 
 -- the word of a task is not `explain`
@@ -216,7 +236,7 @@ not_explained : (task : Task) → word_of task ≡ codes "explain" → ⊥
 not_explained (Scenario Asm) is = differ _ _ is refl refl
 not_explained (Scenario Dis) is = differ _ _ is refl refl
 not_explained (Scenario (Run sharing)) is = differ _ _ is refl refl
-not_explained (Scenario (Figures from)) is = differ _ _ is refl refl
+not_explained (Scenario (Figures counting)) is = differ _ _ is refl refl
 not_explained (Debug sharing) is = differ _ _ is refl refl
 
 same_asked : (words : List Text) (one other : Asked) → asked_word one ≡ asked_word other → GiveAll words one → GiveAll words other → one ≡ other

@@ -12,14 +12,15 @@ use Rattle.clap.specs.declared.builder.command.Command.{Command}
 use Rattle.clap.specs.declared.builder.command.Command.TheViews.{out-Command as fields_of}
 use Rattle.clap.specs.declared.error.kind.ErrorKind.{ErrorKind}
 use Rattle.clap.specs.declared.error.kind.ErrorKind.TheVariants.{DisplayHelp, DisplayVersion}
+use Rattle.command_line.specs.declared.subcommand.Counting.{Counting}
 use Rattle.command_line.specs.declared.subcommand.Asked.{Asked}
 use Rattle.command_line.specs.declared.subcommand.Asked.TheVariants.{Session, Explanation}
 use Rattle.command_line.specs.declared.subcommand.Subcommand.TheVariants.{Asm, Dis, Run, Figures}
 use Rattle.command_line.specs.declared.subcommand.Task.{Task}
 use Rattle.command_line.specs.declared.subcommand.Task.TheVariants.{Scenario, Debug}
 use Rattle.command_line.specs.Sharing.{SharingValue}
-use Rattle.command_line.specs.Subcommand.{asked_word, sharing_of, counted_from}
-use Rattle.command_line.specs.Wishes.{wishes_by}
+use Rattle.command_line.specs.Subcommand.{asked_word, sharing_of, counting_of}
+use Rattle.command_line.specs.Wishes.{is_true, wishes_by}
 use Rattle.command_line.specs.declared.subcommand.Wishes.{Wishes}
 
 -- the program without its subcommands: it has a version and wants a subcommand
@@ -50,6 +51,18 @@ explain_rule = record (new_rule (codes "explain")) { long = Some (codes "explain
 abbrev pub from_rule : Rule
 from_rule = record (new_rule (codes "from")) { long = Some (codes "from"); value_names = 1 }
 
+-- `--every D`: any text; whether it is a time is judged later
+abbrev pub every_rule : Rule
+every_rule = record (new_rule (codes "every")) { long = Some (codes "every"); value_names = 1 }
+
+-- `--series`: a flag
+abbrev pub series_rule : Rule
+series_rule = record (new_rule (codes "series")) { long = Some (codes "series"); action = Some SetTrue }
+
+-- `--names`: a flag
+abbrev pub names_rule : Rule
+names_rule = record (new_rule (codes "names")) { long = Some (codes "names"); action = Some SetTrue }
+
 -- CODE: any text; whether it is a code is judged later
 abbrev pub code_rule : Rule
 code_rule = record (new_rule (codes "code")) { value_names = 1 }
@@ -58,9 +71,9 @@ code_rule = record (new_rule (codes "code")) { value_names = 1 }
 abbrev pub file_shape : List ℕ → Shape
 file_shape name = record (new_shape name) { rules = file_rule ∷ explain_rule ∷ [] }
 
--- a subcommand that takes a moment, a file and both flags
+-- a subcommand that takes a moment, a step, a file and four flags
 abbrev pub figures_shape : List ℕ → Shape
-figures_shape name = record (new_shape name) { rules = from_rule ∷ file_rule ∷ progress_rule ∷ explain_rule ∷ [] }
+figures_shape name = record (new_shape name) { rules = from_rule ∷ every_rule ∷ series_rule ∷ names_rule ∷ file_rule ∷ progress_rule ∷ explain_rule ∷ [] }
 
 -- a subcommand that takes both options
 abbrev pub sharing_shape : List ℕ → Shape
@@ -112,9 +125,16 @@ pub record Give (words : List (List ℕ)) (sharing : SharingValue) : Type 0 wher
   pub workers : option_map number_of (option_text (codes "workers") words) ≡ Some sharing.workers
   pub groups : option_text (codes "groups") words ≡ Some sharing.groups
 
--- the words give the options of a session where it is shared out, from which moment on figures are counted, its file, and what is wished beside; or a code
+-- the words give the options of figures
+pub record GiveCounting (words : List (List ℕ)) (counting : Counting) : Type 0 where
+  pub from : option_text (codes "from") words ≡ counting.from
+  pub every : option_text (codes "every") words ≡ counting.every
+  pub series : is_true (option_text (codes "series") words) ≡ counting.series
+  pub names : is_true (option_text (codes "names") words) ≡ counting.names
+
+-- the words give the options of a session where it is shared out, which figures are written, its file, and what is wished beside; or a code
 abbrev pub GiveAll : List (List ℕ) → Asked → Type 0
-GiveAll words (Session task file wishes) = IfSome (sharing_of task) (Give words) × IfSome (counted_from task) (λ from. option_text (codes "from") words ≡ from) × (option_text (codes "file") words ≡ file) × (wishes_by (λ flag. option_text flag words) ≡ wishes)
+GiveAll words (Session task file wishes) = IfSome (sharing_of task) (Give words) × IfSome (counting_of task) (GiveCounting words) × (option_text (codes "file") words ≡ file) × (wishes_by (λ flag. option_text flag words) ≡ wishes)
 GiveAll words (Explanation code) = option_text (codes "code") words ≡ code
 
 -- the words have no fault, name this subcommand, and give what belongs to it
@@ -139,6 +159,16 @@ alone = record { workers = 1; groups = codes "one" }
 -- three workers, and the groups of two nodes
 abbrev pub shared : SharingValue
 shared = record { workers = 3; groups = codes "0,1" }
+
+-- the table from time 0 on, the same from 1.5 s on, and rows by time alone, with names
+abbrev pub plain_counting : Counting
+plain_counting = record { from = None; every = None; series = false; names = false }
+
+abbrev pub later_counting : Counting
+later_counting = record { from = Some (codes "1.5s"); every = None; series = false; names = false }
+
+abbrev pub series_counting : Counting
+series_counting = record { from = None; every = Some (codes "10ms"); series = true; names = true }
 
 -- nothing is wished beside the output, and to be told how far a run is
 abbrev pub no_wishes : Wishes
@@ -171,9 +201,10 @@ pub record WordsOfSubcommands : Type 0 where
   pub run_file : AskFor (codes "tcpsim" ∷ codes "run" ∷ codes "--workers" ∷ codes "3" ∷ codes "a.txt" ∷ codes "--groups=0,1" ∷ []) (Session (Scenario (Run shared)) (Some (codes "a.txt")) no_wishes)
   pub run_dashes : AskFor (codes "tcpsim" ∷ codes "run" ∷ codes "--" ∷ codes "--workers" ∷ []) (Session (Scenario (Run alone)) (Some (codes "--workers")) no_wishes)
   pub run_told : AskFor (codes "tcpsim" ∷ codes "run" ∷ codes "--progress" ∷ codes "a.txt" ∷ []) (Session (Scenario (Run alone)) (Some (codes "a.txt")) told)
-  pub figures : AskFor (codes "tcpsim" ∷ codes "figures" ∷ []) (of_input (Scenario (Figures None)))
-  pub figures_told : AskFor (codes "tcpsim" ∷ codes "figures" ∷ codes "--progress" ∷ codes "a.txt" ∷ []) (Session (Scenario (Figures None)) (Some (codes "a.txt")) told)
-  pub figures_from : AskFor (codes "tcpsim" ∷ codes "figures" ∷ codes "--from" ∷ codes "1.5s" ∷ codes "a.txt" ∷ []) (Session (Scenario (Figures (Some (codes "1.5s")))) (Some (codes "a.txt")) no_wishes)
+  pub figures : AskFor (codes "tcpsim" ∷ codes "figures" ∷ []) (of_input (Scenario (Figures plain_counting)))
+  pub figures_told : AskFor (codes "tcpsim" ∷ codes "figures" ∷ codes "--progress" ∷ codes "a.txt" ∷ []) (Session (Scenario (Figures plain_counting)) (Some (codes "a.txt")) told)
+  pub figures_from : AskFor (codes "tcpsim" ∷ codes "figures" ∷ codes "--from" ∷ codes "1.5s" ∷ codes "a.txt" ∷ []) (Session (Scenario (Figures later_counting)) (Some (codes "a.txt")) no_wishes)
+  pub figures_by_time : AskFor (codes "tcpsim" ∷ codes "figures" ∷ codes "--series" ∷ codes "--every=10ms" ∷ codes "a.txt" ∷ codes "--names" ∷ []) (Session (Scenario (Figures series_counting)) (Some (codes "a.txt")) no_wishes)
   pub asm_shown : AskFor (codes "tcpsim" ∷ codes "asm" ∷ codes "a.txt" ∷ codes "--explain" ∷ []) (Session (Scenario Asm) (Some (codes "a.txt")) shown)
   pub explain : AskFor (codes "tcpsim" ∷ codes "explain" ∷ []) (Explanation None)
   pub explain_code : AskFor (codes "tcpsim" ∷ codes "explain" ∷ codes "E4" ∷ []) (Explanation (Some (codes "E4")))

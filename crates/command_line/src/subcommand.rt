@@ -15,8 +15,21 @@ pub enum Subcommand<'a> {
     Dis,
     /// Runs the scenario and writes its trace.
     Run(Sharing<'a>),
-    /// Runs the scenario and writes the figures of its run, from a moment on where one is named.
-    Figures(OptionalWord<'a>),
+    /// Runs the scenario and writes the figures of its run.
+    Figures(Counting<'a>),
+}
+
+/// Which figures of a run are written.
+#[derive(Drop)]
+pub struct Counting<'a> {
+    /// The moment from which on is counted, where one is named.
+    pub from: OptionalWord<'a>,
+    /// How long a step is, where rows by time are wished.
+    pub every: OptionalWord<'a>,
+    /// To have these rows without the table.
+    pub series: bool,
+    /// To have the names of the text's flows and links too.
+    pub names: bool,
 }
 
 /// What a session over an input does.

@@ -5,20 +5,20 @@ ghost use Rattle.clap.specs.declared.builder.command.Command.TheViews.{out-Comma
 ghost use Rattle.clap.specs.Kinds.{FailsBy};
 ghost use Rattle.clap.specs.Matches.{found_of};
 ghost use Rattle.clap.specs.Walk.{Rule, first_of, rule_of, rows_of};
-ghost use Rattle.command_line.specs.CommandLine.{program, top_program, workers_rule, groups_rule, file_rule, progress_rule, explain_rule, from_rule, code_rule, file_shape, sharing_shape, debug_shape, run_shape, figures_shape, code_shape, IsBelow, word_faults, AskFor, WordsAskForOne, WordsHaveOneAnswer, WordsOfSubcommands, WordsOfText, WordsOfMistake};
-ghost use Rattle.command_line.specs.Given.{AreOptions, AreOfTask, AreOfSubcommand, AreOfAsked, IsSharing};
+ghost use Rattle.command_line.specs.CommandLine.{program, top_program, workers_rule, groups_rule, file_rule, progress_rule, explain_rule, from_rule, every_rule, series_rule, names_rule, code_rule, file_shape, sharing_shape, debug_shape, run_shape, figures_shape, code_shape, IsBelow, word_faults, AskFor, WordsAskForOne, WordsHaveOneAnswer, WordsOfSubcommands, WordsOfText, WordsOfMistake};
+ghost use Rattle.command_line.specs.Given.{AreOptions, AreOfTask, AreOfSubcommand, AreOfAsked, IsSharing, IsCounting};
 ghost use Rattle.command_line.specs.Wishes.{is_true, wishes_in};
-ghost use Rattle.command_line.specs.Subcommand.{word_of, asked_word, counted_from, sharing_of as task_sharing};
+ghost use Rattle.command_line.specs.Subcommand.{word_of, asked_word, counting_of as task_counting, sharing_of as task_sharing};
 ghost use Rattle.command_line.specs.declared.subcommand.Task.{Task};
 
 use crate::sharing::Sharing;
-use crate::subcommand::{Asked, OptionalWord, Subcommand, Task, Wishes};
+use crate::subcommand::{Asked, Counting, OptionalWord, Subcommand, Task, Wishes};
 use clap::{Arg, ArgAction, ArgMatches, Command, Error, value_parser};
 use std::alloc::{AllocError, Global};
 use std::convert::AsStr;
 
 /// The version of the whole, with that of each format: what python/tcpsim/__init__.py has.
-const VERSION: &str = "0.2.0 (trace 1, image 2, figures 3, prompt 8)";
+const VERSION: &str = "0.2.0 (trace 1, image 2, figures 4, prompt 9)";
 
 /// The program's command without its subcommands.
 fn top_command<'a>(alloc: Global) -> Command<'a>
@@ -129,6 +129,38 @@ fn from_option<'a>(alloc: Global) -> Arg<'a>
         .help("Count from this moment on, as 1.5s, 20ms or 10000ns")
 }
 
+/// The option that says how long a step of rows by time is.
+fn every_option<'a>(alloc: Global) -> Arg<'a>
+    ensures rule { rule_of result ≡ every_rule }
+    ensures local { result.global ≡ false }
+{
+    Arg::new(alloc, "every").long("every").value_name("D").help(
+        "Print rows by time behind the table, a row a figure, in steps as 1.5s or 20ms",
+    )
+}
+
+/// The flag for rows by time alone.
+fn series_flag<'a>(alloc: Global) -> Arg<'a>
+    ensures rule { rule_of result ≡ series_rule }
+    ensures local { result.global ≡ false }
+{
+    Arg::new(alloc, "series")
+        .long("series")
+        .action(ArgAction::SetTrue)
+        .help("Print the rows of --every without the table")
+}
+
+/// The flag for the names of flows and links.
+fn names_flag<'a>(alloc: Global) -> Arg<'a>
+    ensures rule { rule_of result ≡ names_rule }
+    ensures local { result.global ≡ false }
+{
+    Arg::new(alloc, "names")
+        .long("names")
+        .action(ArgAction::SetTrue)
+        .help("Print the names of a text's flows and links in a last column")
+}
+
 /// A subcommand with one more argument, where there was memory for it.
 fn with_arg<'a>(
     command: Result<Command<'a>, AllocError>,
@@ -152,7 +184,7 @@ fn file_subcommand<'a>(
     with_arg(with_file, explain_flag(alloc))
 }
 
-/// A subcommand that takes a moment, a scenario's file and two flags.
+/// A subcommand that takes a moment, a step, a scenario's file and four flags.
 fn figures_subcommand<'a>(
     alloc: Global,
     name: &'a str,
@@ -162,7 +194,10 @@ fn figures_subcommand<'a>(
 {
     let plain = Ok(plain_subcommand(alloc, name, about));
     let with_from = with_arg(plain, from_option(alloc));
-    let with_file = with_arg(with_from, file_word(alloc));
+    let with_every = with_arg(with_from, every_option(alloc));
+    let with_series = with_arg(with_every, series_flag(alloc));
+    let with_names = with_arg(with_series, names_flag(alloc));
+    let with_file = with_arg(with_names, file_word(alloc));
     let with_progress = with_arg(with_file, progress_flag(alloc));
     with_arg(with_progress, explain_flag(alloc))
 }
@@ -261,11 +296,23 @@ fn sharing_of<'a>(options: &ArgMatches<'a>) -> Sharing<'a>
     Sharing::new(workers, groups)
 }
 
-/// From which moment on is counted, as the options say it.
-fn from_word<'a>(options: &ArgMatches<'a>) -> OptionalWord<'a>
-    ensures { first_of (codes "from") (rows_of (found_of options.now)) ≡ result }
+/// The word that the options give to one of them, where they have it.
+fn word_in<'a>(options: &ArgMatches<'a>, name: &str) -> OptionalWord<'a>
+    ensures { first_of name.now (rows_of (found_of options.now)) ≡ result }
 {
-    OptionalWord::new(options.get_str("from"))
+    OptionalWord::new(options.get_str(name))
+}
+
+/// Which figures are written, as the options say it.
+fn counting_of<'a>(options: &ArgMatches<'a>) -> Counting<'a>
+    ensures { IsCounting (rows_of (found_of options.now)) result }
+{
+    Counting {
+        from: word_in(options, "from"),
+        every: word_in(options, "every"),
+        series: is_set(options, "series"),
+        names: is_set(options, "names"),
+    }
 }
 
 /// The task of a subcommand's word and options.
@@ -273,14 +320,14 @@ fn task_of<'a>(word: &str, options: &ArgMatches<'a>) -> Task<'a>
     requires { AreOfTask word.now (rows_of (found_of options.now)) }
     ensures word { word.now ≡ word_of result }
     ensures sharing { IfSome (task_sharing result) (IsSharing (rows_of (found_of options.now))) }
-    ensures from { IfSome (counted_from result) (λ from. first_of (codes "from") (rows_of (found_of options.now)) ≡ from) }
+    ensures counting { IfSome (task_counting result) (IsCounting (rows_of (found_of options.now))) }
 {
     if word == "asm" {
         Task::Scenario(Subcommand::Asm)
     } else if word == "dis" {
         Task::Scenario(Subcommand::Dis)
     } else if word == "figures" {
-        Task::Scenario(Subcommand::Figures(from_word(options)))
+        Task::Scenario(Subcommand::Figures(counting_of(options)))
     } else if word == "run" {
         Task::Scenario(Subcommand::Run(sharing_of(options)))
     } else {

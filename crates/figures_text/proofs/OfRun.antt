@@ -1,5 +1,5 @@
 -- What was counted of each flow and each link of a run.
-use Rattle.std.proofs.Common.{◌≡◌, ℕ, zero, suc, ◌+◌, ◌<◌, ◌≤◌, ◌==◌, Bool, true, false, cond, List, [], ◌∷◌, length, map, filter, take, get_or, refl, sym, ap, subst, ◌∙◌, Some, None, arith, rules}
+use Rattle.std.proofs.Common.{◌≡◌, ℕ, zero, suc, ◌+◌, ◌<◌, ◌≤◌, ◌==◌, Bool, true, false, cond, List, [], ◌∷◌, length, take, get_or, refl, sym, ap, subst, ◌∙◌, Some, arith, rules}
 use Rattle.std.specs.List.{count_by, enumerate_from, AllByRecursion}
 use Rattle.std.proofs.lemmas.List.{length-map, get_or-map}
 use Rattle.std.proofs.lemmas.List.FromFn.{get_or-enumerate_from, length-enumerate_from}
@@ -9,11 +9,9 @@ use Rattle.scenario_image.specs.declared.parts.FlowPart.{FlowPart}
 use Rattle.scenario_image.specs.declared.parts.LinkPart.{LinkPart}
 use Rattle.scenario_image.specs.declared.parts.ScenarioParts.{ScenarioParts}
 use Rattle.scenario_image.specs.Scenario.{IsScenario}
-use Rattle.sim_time.specs.declared.key.Key.{Key}
 use Rattle.sim_time.specs.declared.variant.Iw.TheVariants.{Iw3}
-use Rattle.node_core.specs.declared.event.Event.{Event}
 use Rattle.node_core.specs.declared.role.Role.TheVariants.{Sends}
-use Rattle.node_core.specs.Opening.{leaving_links, opening_link, opening_links}
+use Rattle.node_core.specs.Opening.{leaving_links, opening_link}
 use Rattle.node_core.specs.Part.{PartState, LinkState}
 use Rattle.node_core.specs.TraceLine.{TraceLine}
 use Rattle.ranking.proofs.Maps.{same_some}

@@ -1,2 +1,4 @@
 pub mod Table
 pub mod Summaries
+pub mod SeriesText
+pub mod Steps

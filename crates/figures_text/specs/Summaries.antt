@@ -7,7 +7,7 @@ use Rattle.scenario_image.specs.declared.parts.FlowPart.{FlowPart}
 use Rattle.scenario_image.specs.declared.parts.LinkPart.{LinkPart}
 use Rattle.scenario_image.specs.declared.parts.ScenarioParts.{ScenarioParts}
 use Rattle.node_core.specs.TraceLine.{TraceLine}
-use Rattle.table_run.specs.State.{State, opening, run, step}
+use Rattle.table_run.specs.State.{State, run, step}
 use Rattle.table_run.specs.Flow.{received_next}
 use Rattle.net_machine.specs.Wiring.{from_of, exit_of}
 use Rattle.figures.specs.Classes.{least_of, greatest_of, percentile}
@@ -19,7 +19,7 @@ use Rattle.figures.specs.Links.{port_at, waiting_at, busy_at, dropped_of, tx_of,
 use Rattle.figures_text.specs.declared.summary.FlowSummary.{FlowSummary}
 use Rattle.figures_text.specs.declared.summary.LinkSummary.{LinkSummary}
 use Rattle.figures_text.specs.declared.summary.RunSummary.{RunSummary}
-use Rattle.figures_text.specs.Table.{table_of}
+use Rattle.figures_text.specs.Table.{TextNames, table_of}
 
 -- what is said of a flow that starts at a moment: what its sender did, behind what it had done before, and how many bytes its receiver got; when the flow was completed is told of all that the sender did
 abbrev pub summary_of_turns : ℕ → ℕ → List Turn → List Turn → FlowSummary
@@ -79,8 +79,8 @@ abbrev pub run_summary : List Moment → RunSummary
 run_summary ms = record { events = length ms; end = last_of ms }
 
 -- the table of a scenario's events from a base on and its last state
-abbrev pub table_over : ScenarioParts → Base → List Moment → State → List ℕ
-table_over p b ms s = table_of (flow_summaries p b ms s) (link_summaries p b ms s) (run_summary ms)
+abbrev pub table_over : Option TextNames → ScenarioParts → Base → List Moment → State → List ℕ
+table_over column p b ms s = table_of column (flow_summaries p b ms s) (link_summaries p b ms s) (run_summary ms)
 
 -- a run is counted from a moment on, or from its end where that is earlier: the events before its base are before the moment, and none of those that follow is
 pub record IsCountedFrom (p : ScenarioParts) (from : ℕ) (b : Base) : Type 0 where
@@ -90,7 +90,7 @@ pub record IsCountedFrom (p : ScenarioParts) (from : ℕ) (b : Base) : Type 0 wh
   pub late : NoneBefore from b.state
 
 -- the table of a scenario's run from a moment on: of all its events at or past it, none being due after the last; all events are at most 10^15
-pub record IsTableFrom (p : ScenarioParts) (from : ℕ) (bytes : List ℕ) : Type 0 where
+pub record IsTableFrom (column : Option TextNames) (p : ScenarioParts) (from : ℕ) (bytes : List ℕ) : Type 0 where
   pub base : Base
   pub counted : IsCountedFrom p from base
   pub n : ℕ
@@ -99,4 +99,4 @@ pub record IsTableFrom (p : ScenarioParts) (from : ℕ) (bytes : List ℕ) : Typ
   pub last : State
   pub is_run : run base.state n ≡ Some (lines, last)
   pub final : step last ≡ None
-  pub bytes_are : bytes ≡ table_over p base (moments base.state n) last
+  pub bytes_are : bytes ≡ table_over column p base (moments base.state n) last

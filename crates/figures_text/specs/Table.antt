@@ -1,8 +1,8 @@
--- The table of a run's figures: what,number,figure,unit,value.
-use Rattle.std.specs.Prelude.{ℕ, List, [], ◌∷◌, ◌++◌, codes, decimal, Option, None, Some}
+-- The table of a run's figures: what,number,figure,unit,value, and a last column with names where it is wished.
+use Rattle.std.specs.Prelude.{ℕ, List, [], ◌∷◌, ◌++◌, codes, decimal, slice_index_or, Option, None, Some}
 use Rattle.std.specs.List.{flat_map, enumerate_from}
 use Rattle.figures_text.specs.declared.figure.Figure.{Figure}
-use Rattle.figures_text.specs.declared.figure.Figure.TheVariants.{Start, Delivered, Completed, SentSegments, AgainInRecovery, AgainOtherwise, Timeouts, RoundTrips, LeastTrip, MedianTrip, HighTrip, HighestTrip, GreatestTrip, Offered, Lost, Full, Codel, SentPackets, SentBytes, Busy, GreatestQueue, Waited, MedianDelay, HighDelay, HighestDelay, GreatestDelay, Events, End}
+use Rattle.figures_text.specs.declared.figure.Figure.TheVariants.{Start, Delivered, Completed, SentSegments, AgainInRecovery, AgainOtherwise, Timeouts, Cwnd, InFlight, RoundTrips, LeastTrip, MedianTrip, HighTrip, HighestTrip, GreatestTrip, Offered, Lost, Full, Codel, SentPackets, SentBytes, Busy, GreatestQueue, Waited, MedianDelay, HighDelay, HighestDelay, GreatestDelay, Events, End}
 use Rattle.figures_text.specs.declared.row.Row.{Row}
 use Rattle.figures_text.specs.declared.subject.Subject.{Subject}
 use Rattle.figures_text.specs.declared.subject.Subject.TheVariants.{Flow, Link, Run}
@@ -10,9 +10,33 @@ use Rattle.figures_text.specs.declared.summary.FlowSummary.{FlowSummary}
 use Rattle.figures_text.specs.declared.summary.LinkSummary.{LinkSummary}
 use Rattle.figures_text.specs.declared.summary.RunSummary.{RunSummary}
 
+-- the names of flows and of links, each in the order of their numbers
+pub record TextNames : Type 0 where
+  pub flows : List (List ℕ)
+  pub links : List (List ℕ)
+
+-- what the column of names has in the heading; nothing where there is no such column
+abbrev pub heading_name : Option TextNames → List ℕ
+heading_name None = []
+heading_name (Some names) = codes ",name"
+
+-- the name of what a line is about; an empty one of the run, or where there is none
+abbrev pub name_of : TextNames → Subject → List ℕ
+name_of names (Flow number) = slice_index_or names.flows number []
+name_of names (Link number) = slice_index_or names.links number []
+name_of names Run = []
+
+-- what the column has in a line
+abbrev pub name_text : Option TextNames → Subject → List ℕ
+name_text None subject = []
+name_text (Some names) subject = codes "," ++ name_of names subject
+
+abbrev pub heading_end : Option TextNames → List ℕ
+heading_end column = heading_name column ++ codes "\n"
+
 -- the first line
-abbrev pub heading : List ℕ
-heading = codes "what,number,figure,unit,value\n"
+abbrev pub heading : Option TextNames → List ℕ
+heading column = codes "what,number,figure,unit,value" ++ heading_end column
 
 -- what, and its number; the run has none
 abbrev pub subject_text : Subject → List ℕ
@@ -34,6 +58,8 @@ label_of SentSegments = codes "sent,segments"
 label_of AgainInRecovery = codes "sent again by fast retransmit,segments"
 label_of AgainOtherwise = codes "sent again by timeout,segments"
 label_of Timeouts = codes "timeouts,times"
+label_of Cwnd = codes "cwnd,bytes"
+label_of InFlight = codes "in flight,bytes"
 label_of RoundTrips = codes "round trips,times"
 label_of LeastTrip = codes "least round trip,ns"
 label_of MedianTrip = codes "median round trip,ns"
@@ -60,17 +86,17 @@ label_of End = codes "end,ns"
 abbrev pub figure_text : Figure → List ℕ
 figure_text figure = codes "," ++ label_of figure ++ codes ","
 
--- the value, at the end of a line
-abbrev pub last_text : Option ℕ → List ℕ
-last_text value = value_text value ++ codes "\n"
+-- what stands at the end of a line: the value, and the name
+abbrev pub last_text : Option TextNames → Subject → Option ℕ → List ℕ
+last_text column subject value = value_text value ++ (name_text column subject ++ codes "\n")
 
--- a line: what and number, figure and unit, value
-abbrev pub row_line : Subject → Row → List ℕ
-row_line subject row = subject_text subject ++ figure_text row.figure ++ last_text row.value
+-- a line: what and number, figure and unit, value, and the name
+abbrev pub row_line : Option TextNames → Subject → Row → List ℕ
+row_line column subject row = subject_text subject ++ figure_text row.figure ++ last_text column subject row.value
 
 -- a line for each row
-abbrev pub rows_text : Subject → List Row → List ℕ
-rows_text subject rows = flat_map (λ (row : Row). row_line subject row) rows
+abbrev pub rows_text : Option TextNames → Subject → List Row → List ℕ
+rows_text column subject rows = flat_map (λ (row : Row). row_line column subject row) rows
 
 -- a figure that there may not be
 abbrev pub or_none : Figure → Option ℕ → Row
@@ -121,17 +147,17 @@ abbrev pub run_rows : RunSummary → List Row
 run_rows run = counted Events run.events ∷ or_none End run.end ∷ []
 
 -- the lines of a flow, with its number
-abbrev pub flow_lines : ℕ × FlowSummary → List ℕ
-flow_lines numbered = rows_text (Flow numbered.0) (flow_rows numbered.1)
+abbrev pub flow_lines : Option TextNames → ℕ × FlowSummary → List ℕ
+flow_lines column numbered = rows_text column (Flow numbered.0) (flow_rows numbered.1)
 
 -- the lines of a link, with its number
-abbrev pub link_lines : ℕ × LinkSummary → List ℕ
-link_lines numbered = rows_text (Link numbered.0) (link_rows numbered.1)
+abbrev pub link_lines : Option TextNames → ℕ × LinkSummary → List ℕ
+link_lines column numbered = rows_text column (Link numbered.0) (link_rows numbered.1)
 
 -- each link, by number from 0 on, and the run
-abbrev pub ending_of : List LinkSummary → RunSummary → List ℕ
-ending_of links run = flat_map link_lines (enumerate_from 0 links) ++ rows_text Run (run_rows run)
+abbrev pub ending_of : Option TextNames → List LinkSummary → RunSummary → List ℕ
+ending_of column links run = flat_map (link_lines column) (enumerate_from 0 links) ++ rows_text column Run (run_rows run)
 
 -- the heading, each flow, by number from 0 on, and what follows
-abbrev pub table_of : List FlowSummary → List LinkSummary → RunSummary → List ℕ
-table_of flows links run = heading ++ flat_map flow_lines (enumerate_from 0 flows) ++ ending_of links run
+abbrev pub table_of : Option TextNames → List FlowSummary → List LinkSummary → RunSummary → List ℕ
+table_of column flows links run = heading column ++ flat_map (flow_lines column) (enumerate_from 0 flows) ++ ending_of column links run

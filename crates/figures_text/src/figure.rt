@@ -21,6 +21,10 @@ pub enum Figure {
     AgainOtherwise,
     /// How often its retransmission timer ended (RFC 6298 section 5).
     Timeouts,
+    /// Its congestion window at the end of a step.
+    Cwnd,
+    /// The bytes in flight then.
+    InFlight,
     /// How many round trips were timed (RFC 6298 section 3).
     RoundTrips,
     /// The least of them.
@@ -77,6 +81,8 @@ fn label(figure: Figure) -> &'static [u8]
         Figure::AgainInRecovery => b"sent again by fast retransmit,segments",
         Figure::AgainOtherwise => b"sent again by timeout,segments",
         Figure::Timeouts => b"timeouts,times",
+        Figure::Cwnd => b"cwnd,bytes",
+        Figure::InFlight => b"in flight,bytes",
         Figure::RoundTrips => b"round trips,times",
         Figure::LeastTrip => b"least round trip,ns",
         Figure::MedianTrip => b"median round trip,ns",

@@ -2,6 +2,7 @@
 ghost use Rattle.std.specs.Prelude.{◌≡◌, ◌++◌, OnOk};
 ghost use Rattle.figures_text.specs.Table.{value_text, last_text, row_line, rows_text};
 
+use crate::column::NameColumn;
 use crate::figure::{Figure, append_figure};
 use crate::subject::{Subject, append_subject};
 use itoa::Buffer;
@@ -18,32 +19,44 @@ pub(crate) struct Row {
 
 /// Appends a line for each row. After an `Err` a part of them may stand there.
 pub(crate) fn append_rows(
+    column: &NameColumn,
     subject: Subject,
     rows: &[Row],
     text: &mut Vec<u8>,
 ) -> Result<(), AllocError>
-    ensures { OnOk result (text.new.items ≡ text.old.items ++ rows_text subject rows.now) }
+    ensures { OnOk result (text.new.items ≡ text.old.items ++ rows_text column.now subject rows.now) }
 {
     for row in rows {
-        append_row(subject, row, text)?;
+        append_row(column, subject, row, text)?;
     }
     Ok(())
 }
 
 /// Appends a line. After an `Err` a part of it may stand there.
-fn append_row(subject: Subject, row: &Row, text: &mut Vec<u8>) -> Result<(), AllocError>
-    ensures { OnOk result (text.new.items ≡ text.old.items ++ row_line subject row.now) }
+pub(crate) fn append_row(
+    column: &NameColumn,
+    subject: Subject,
+    row: &Row,
+    text: &mut Vec<u8>,
+) -> Result<(), AllocError>
+    ensures { OnOk result (text.new.items ≡ text.old.items ++ row_line column.now subject row.now) }
 {
     append_subject(subject, text)?;
     append_figure(row.figure, text)?;
-    append_last(row.value, text)
+    append_last(column, subject, row.value, text)
 }
 
 /// Appends the end of a line. After an `Err` a part of it may stand there.
-fn append_last(value: Option<u128>, text: &mut Vec<u8>) -> Result<(), AllocError>
-    ensures { OnOk result (text.new.items ≡ text.old.items ++ last_text value) }
+fn append_last(
+    column: &NameColumn,
+    subject: Subject,
+    value: Option<u128>,
+    text: &mut Vec<u8>,
+) -> Result<(), AllocError>
+    ensures { OnOk result (text.new.items ≡ text.old.items ++ last_text column.now subject value) }
 {
     append_value(value, text)?;
+    column.append_name(subject, text)?;
     text.extend_from_slice(b"\n")
 }
 

@@ -17,6 +17,7 @@ ghost use Rattle.figures.specs.declared.links.NodeLinks.{NodeLinks};
 ghost use Rattle.figures.specs.declared.link.LinkFigures.{LinkFigures};
 ghost use Rattle.figures_text.specs.Summaries.{summary_of_turns, summary_of_exit, flow_summary as flow_is, link_summary as link_is, flow_summaries as flows_are, link_summaries as links_are, last_of, table_over};
 
+use crate::column::NameColumn;
 use crate::summary::{FlowSummary, LinkSummary, RunSummary};
 use crate::table::figures_text;
 use figures::{Figures, LinkFigures, SenderFigures};
@@ -87,7 +88,7 @@ fn flow_summary(figures: &Figures, nodes: &[Node], flow: &FlowPart) -> FlowSumma
 }
 
 /// What is said of the flows of a run.
-fn flow_summaries(
+pub(crate) fn flow_summaries(
     alloc: Global,
     scenario: &Scenario,
     figures: &Figures,
@@ -220,23 +221,24 @@ fn link_summary(figures: &Figures, links: &[LinkPart], end: Time, number: usize)
     of_exit(counted, figures.last, end)
 }
 
-/// What is said of the links of a run.
-fn link_summaries(
+/// What is said of the links of a run where this moment is the end.
+pub(crate) fn link_summaries(
     alloc: Global,
     scenario: &Scenario,
+    end: Time,
     figures: &Figures,
     net: &Net,
 ) -> Result<Vec<LinkSummary>, AllocError>
     requires scenario { IsScenario scenario.now }
     requires run { AreOfPart scenario.now figures.now net.now }
     requires few { figures.now.events ≤ 1000000000000000 }
-    ensures { IfOk result (λ all. (b : Base) (of : AreOfRun scenario.now b figures.now net.now) → all.items ≡ links_are scenario.now b (moments b.state of.count) net.now.state) }
+    requires end { IsMoment end }
+    ensures { IfOk result (λ all. (b : Base) (of : AreOfRun scenario.now b figures.now net.now) → all.items ≡ links_are (record scenario.now { end = end }) b (moments b.state of.count) net.now.state) }
 {
-    let parts = scenario.parts();
-    let links = parts.links.as_slice();
+    let links = scenario.parts().links.as_slice();
     let mut all = Vec::new(alloc);
     for number in 0..links.len() {
-        all.push(link_summary(figures, links, parts.end, number))?;
+        all.push(link_summary(figures, links, end, number))?;
     }
     Ok(all)
 }
@@ -255,22 +257,23 @@ fn last_event(figures: &Figures) -> Option<Time>
 /// The table of a run, of which these figures were counted from some moment on, as the net is after the last event.
 pub fn run_text(
     alloc: Global,
+    column: &NameColumn,
     scenario: &Scenario,
     figures: &Figures,
     net: &Net,
 ) -> Result<Vec<u8>, AllocError>
     requires { AreOfPart scenario.now figures.now net.now }
-    ensures { IfOk result (λ text. (b : Base) (of : AreOfRun scenario.now b figures.now net.now) → text.items ≡ table_over scenario.now b (moments b.state of.count) net.now.state) }
+    ensures { IfOk result (λ text. (b : Base) (of : AreOfRun scenario.now b figures.now net.now) → text.items ≡ table_over column.now scenario.now b (moments b.state of.count) net.now.state) }
 {
-    let _parts = scenario.parts();
+    let end = scenario.parts().end;
     let _position = net.position();
     let flows = flow_summaries(alloc, scenario, figures, net)?;
-    let links = link_summaries(alloc, scenario, figures, net)?;
+    let links = link_summaries(alloc, scenario, end, figures, net)?;
     let run = RunSummary {
         events: figures.events,
         end: last_event(figures),
     };
     let mut text = Vec::new(alloc);
-    figures_text(&flows, &links, run, &mut text)?;
+    figures_text(column, &flows, &links, run, &mut text)?;
     Ok(text)
 }

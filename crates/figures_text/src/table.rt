@@ -1,8 +1,9 @@
 //! The table as a whole.
 ghost use Rattle.std.specs.Prelude.{◌≡◌, ◌++◌, OnOk, OnErr};
 ghost use Rattle.std.specs.List.{flat_map, enumerate_from};
-ghost use Rattle.figures_text.specs.Table.{counted, or_none, flow_rows, link_rows, run_rows, flow_lines, link_lines, rows_text, heading, ending_of, table_of};
+ghost use Rattle.figures_text.specs.Table.{counted, or_none, flow_rows, link_rows, run_rows, flow_lines, link_lines, rows_text, heading, heading_end, ending_of, table_of};
 
+use crate::column::NameColumn;
 use crate::figure::Figure;
 use crate::row::{Row, append_rows};
 use crate::subject::Subject;
@@ -10,86 +11,112 @@ use crate::summary::{FlowSummary, LinkSummary, RunSummary};
 use std::alloc::AllocError;
 
 /// Appends the table of a run's figures: a heading, then a line `what,number,figure,unit,value` for
-/// each figure of each flow, of each link, and of the run, each with its LF. Nothing is appended where
+/// each figure of each flow, of each link, and of the run, each with its LF, and with names where there is such
+/// a column. Nothing is appended where
 /// memory is refused.
 pub fn figures_text(
+    column: &NameColumn,
     flows: &[FlowSummary],
     links: &[LinkSummary],
     run: RunSummary,
     text: &mut Vec<u8>,
 ) -> Result<(), AllocError>
-    ensures ok { OnOk result (text.new.items ≡ text.old.items ++ table_of flows.now links.now run) }
+    ensures ok { OnOk result (text.new.items ≡ text.old.items ++ table_of column.now flows.now links.now run) }
     ensures err { OnErr result (text.new.items ≡ text.old.items) }
 {
     let mut table = Vec::new(*text.allocator());
-    append_table(flows, links, run, &mut table)?;
+    append_table(column, flows, links, run, &mut table)?;
     text.extend_from_slice(&table)
 }
 
 /// Appends the table. Where memory is refused, a part of it may have been appended.
 fn append_table(
+    column: &NameColumn,
     flows: &[FlowSummary],
     links: &[LinkSummary],
     run: RunSummary,
     text: &mut Vec<u8>,
 ) -> Result<(), AllocError>
-    ensures { OnOk result (text.new.items ≡ text.old.items ++ table_of flows.now links.now run) }
+    ensures { OnOk result (text.new.items ≡ text.old.items ++ table_of column.now flows.now links.now run) }
 {
-    append_heading(text)?;
-    append_flows(flows, text)?;
-    append_ending(links, run, text)
+    append_heading(column, text)?;
+    append_flows(column, flows, text)?;
+    append_ending(column, links, run, text)
 }
 
-/// Appends the first line, or nothing.
-fn append_heading(text: &mut Vec<u8>) -> Result<(), AllocError>
-    ensures { OnOk result (text.new.items ≡ text.old.items ++ heading) }
+/// Appends the first line. After an `Err` a part of it may stand there.
+pub(crate) fn append_heading(column: &NameColumn, text: &mut Vec<u8>) -> Result<(), AllocError>
+    ensures { OnOk result (text.new.items ≡ text.old.items ++ heading column.now) }
 {
-    text.extend_from_slice(b"what,number,figure,unit,value\n")
+    text.extend_from_slice(b"what,number,figure,unit,value")?;
+    append_heading_end(column, text)
+}
+
+/// Appends the end of the first line. After an `Err` a part of it may stand there.
+fn append_heading_end(column: &NameColumn, text: &mut Vec<u8>) -> Result<(), AllocError>
+    ensures { OnOk result (text.new.items ≡ text.old.items ++ heading_end column.now) }
+{
+    column.append_heading(text)?;
+    text.extend_from_slice(b"\n")
 }
 
 /// Appends the lines of the links and of the run. After an `Err` a part of them may stand there.
 fn append_ending(
+    column: &NameColumn,
     links: &[LinkSummary],
     run: RunSummary,
     text: &mut Vec<u8>,
 ) -> Result<(), AllocError>
-    ensures { OnOk result (text.new.items ≡ text.old.items ++ ending_of links.now run) }
+    ensures { OnOk result (text.new.items ≡ text.old.items ++ ending_of column.now links.now run) }
 {
-    append_links(links, text)?;
-    append_rows(Subject::Run, &run_rows(run), text)
+    append_links(column, links, text)?;
+    append_rows(column, Subject::Run, &run_rows(run), text)
 }
 
 /// Appends the lines of the flows, by number. After an `Err` a part of them may stand there.
-fn append_flows(flows: &[FlowSummary], text: &mut Vec<u8>) -> Result<(), AllocError>
+fn append_flows(
+    column: &NameColumn,
+    flows: &[FlowSummary],
+    text: &mut Vec<u8>,
+) -> Result<(), AllocError>
     ensures { OnOk result (text.new.items ≡ text.old.items
-        ++ flat_map flow_lines (enumerate_from 0 flows.now)) }
+        ++ flat_map (flow_lines column.now) (enumerate_from 0 flows.now)) }
 {
     for (number, flow) in flows.iter().enumerate() {
-        append_rows(Subject::Flow(number as u64), &flow_rows(flow), text)?;
+        append_rows(column, Subject::Flow(number as u64), &flow_rows(flow), text)?;
     }
     Ok(())
 }
 
 /// Appends the lines of a link, with its number. After an `Err` a part of them may stand there.
-fn append_link(number: u64, link: &LinkSummary, text: &mut Vec<u8>) -> Result<(), AllocError>
-    ensures { OnOk result (text.new.items ≡ text.old.items ++ link_lines (number, link.now)) }
+fn append_link(
+    column: &NameColumn,
+    number: u64,
+    link: &LinkSummary,
+    text: &mut Vec<u8>,
+) -> Result<(), AllocError>
+    ensures { OnOk result (text.new.items ≡ text.old.items ++ link_lines column.now (number, link.now)) }
 {
-    append_rows(Subject::Link(number), &link_rows(link), text)
+    append_rows(column, Subject::Link(number), &link_rows(link), text)
 }
 
 /// Appends the lines of the links, by number. After an `Err` a part of them may stand there.
-fn append_links(links: &[LinkSummary], text: &mut Vec<u8>) -> Result<(), AllocError>
+fn append_links(
+    column: &NameColumn,
+    links: &[LinkSummary],
+    text: &mut Vec<u8>,
+) -> Result<(), AllocError>
     ensures { OnOk result (text.new.items ≡ text.old.items
-        ++ flat_map link_lines (enumerate_from 0 links.now)) }
+        ++ flat_map (link_lines column.now) (enumerate_from 0 links.now)) }
 {
     for (number, link) in links.iter().enumerate() {
-        append_link(number as u64, link, text)?;
+        append_link(column, number as u64, link, text)?;
     }
     Ok(())
 }
 
 /// A figure that there always is.
-fn counted(figure: Figure, value: u128) -> Row
+pub(crate) fn counted(figure: Figure, value: u128) -> Row
     ensures { result ≡ counted figure value }
 {
     Row {
@@ -99,7 +126,7 @@ fn counted(figure: Figure, value: u128) -> Row
 }
 
 /// A figure that there may not be.
-fn or_none(figure: Figure, value: Option<u64>) -> Row
+pub(crate) fn or_none(figure: Figure, value: Option<u64>) -> Row
     ensures { result ≡ or_none figure value }
 {
     match value {

@@ -1,6 +1,6 @@
 //! The table of a run's figures. That of a net of flows and links is tried on the built program, by
 //! dev/test_whole.py and python/tests/test_figures.py.
-use figures_text::{RunSummary, figures_text};
+use figures_text::{NameColumn, RunSummary, figures_text};
 use std::test::Fail;
 
 /// Neither flow nor link, behind a text that was there.
@@ -8,6 +8,7 @@ use std::test::Fail;
 fn of_neither_flow_nor_link(rt: HostRuntime) -> Result<(), Fail> {
     let mut text = Vec::from_slice(rt.alloc(), b"before\n")?;
     figures_text(
+        &NameColumn::none(rt.alloc()),
         &[],
         &[],
         RunSummary {

@@ -1,56 +1,25 @@
 -- How a session ends.
-use Rattle.std.proofs.Common.{◌≡◌, ◌⊎◌, inl, inr, ℕ, zero, suc, ◌+◌, ◌-◌, ◌<◌, ◌≤◌, Bool, true, false, MatchBool, List, [], ◌∷◌, ◌++◌, length, arith, Option, None, Some, Result, Ok, Err, IfOk, IfErr, refl, sym, subst, ap, ◌∙◌}
-use Rattle.std.specs.Option.{option_map, option_and_then}
+use Rattle.std.proofs.Common.{◌≡◌, ◌⊎◌, inl, inr, ℕ, ◌<◌, Bool, true, false, MatchBool, List, [], length, arith, Option, Result, Ok, Err, IfOk, IfErr, refl, sym, subst}
 use Rattle.scenario_image.specs.Image.{image}
 use Rattle.scenario_image.specs.declared.parts.ScenarioParts.{ScenarioParts}
 use Rattle.scenario_image.specs.declared.version.Version.TheVariants.{Two}
 use Rattle.scenario_asm.specs.CanonicalText.{canonical_text}
-use Rattle.table_run.specs.State.{State, opening, run, step, one_more}
-use Rattle.node_core.specs.TraceLine.{TraceLine}
+use Rattle.table_run.specs.State.{State, opening}
 use Rattle.window_engine.proofs.Bytes.{appends_nothing}
 use Rattle.sessions.specs.declared.fault.SessionFault.{SessionFault}
-use Rattle.sessions.specs.declared.fault.SessionFault.TheVariants.{TooLong, Refused, RefusedImage, Groups, NoMoment, ReadFailed, WriteFailed, NoMemory, CountFull, NoWorker}
+use Rattle.sessions.specs.declared.fault.SessionFault.TheVariants.{TooLong, Refused, RefusedImage, Groups, Figures as NoFigures, ReadFailed, WriteFailed, NoMemory, CountFull, NoWorker}
 use Rattle.command_line.specs.declared.subcommand.Subcommand.{Subcommand}
 use Rattle.command_line.specs.declared.subcommand.Subcommand.TheVariants.{Asm, Dis, Run, Figures}
 use Rattle.sessions.specs.Input.{is_image, HasScenario, HasFault, Reads}
 use Rattle.sessions.specs.Output.{IsAllOrNothing, IsOutput, IsSharedOutput}
-use Rattle.sessions.specs.FiguresOutput.{moment_from, IsTableNamed, IsTableOutput}
+use Rattle.sessions.specs.FiguresPlan.{plan_of}
 use Rattle.sessions.specs.Nodes.{HasGroups}
 use Rattle.sessions.specs.Trace.{IsTrace, IsTooLong}
 use Rattle.sessions.specs.Written.{Writes}
 use Rattle.sessions.specs.Ended.{Ended, IsHindered, IsRunOutput, IsReadFault}
 use Rattle.sessions.specs.Session.{IsWithin, IsOfScenario, IsEnding, IsDue, IsSession}
-use Rattle.table_run.proofs.Runs.{run_add}
-use Rattle.sessions.proofs.Lines.{due_steps}
-use Rattle.command_line.proofs.Options.{some_none, same_some}
-
--- no event comes after the last one
-none_after : (s : State) (n : ℕ) → run s n ≡ None → (k : ℕ) → run s (k + n) ≡ None
-none_after s n none zero = let same : n ≡ 0 + n = omega arith in subst (λ m. run s m ≡ None) same none
-none_after s n none (suc k) =
-    let same : suc (k + n) ≡ suc k + n = omega arith in
-    let more : run s (suc (k + n)) ≡ None = ap (option_and_then one_more) (none_after s n none k) in
-    subst (λ m. run s m ≡ None) same more
-
--- a run that has ended has no event due later
-no_more : (s : State) (n m : ℕ) (lines lines' : List TraceLine) (last last' : State) → n ≤ m → run s n ≡ Some (lines, last) → step last ≡ None → run s m ≡ Some (lines', last') → step last' ≡ None
-no_more s n m lines lines' last last' few is final later = go (m - n) refl
-  where
-    next : run s (suc n) ≡ None
-    next = ap (option_and_then one_more) is ∙ ap (option_map (λ (next : TraceLine × State). (lines ++ next.0 ∷ [], next.1))) final
-
-    go : (k : ℕ) → m - n ≡ k → step last' ≡ None
-    go zero e =
-        let same : n ≡ m = omega (arith, few, e) in
-        let both : Some (lines, last) ≡ Some (lines', last') = sym is ∙ subst (λ x. run s x ≡ Some (lines', last')) (sym same) later in
-        subst (λ x. step x ≡ None) (ap (λ (p : List TraceLine × State). p.1) (same_some (lines, last) (lines', last') both)) final
-    go (suc k) e =
-        let same : k + suc n ≡ m = omega (arith, few, e) in
-        absurd (some_none (lines', last') (sym later ∙ subst (λ x. run s x ≡ None) same (none_after s (suc n) next k)))
-
--- a run comes to its end within 10^15 events, or it does not
-ends_in_time : (s : State) (n : ℕ) (lines : List TraceLine) (last : State) → n ≤ 1000000000000000 → run s n ≡ Some (lines, last) → step last ≡ None → IsTooLong s → ⊥
-ends_in_time s n lines last few is_run final long = due_steps long.last long.one_due (no_more s n 1000000000000000 lines long.lines last long.last few is_run final long.is_run)
+use Rattle.sessions.proofs.Endless.{ends_in_time}
+use Rattle.sessions.proofs.Planned.{IsPlanEnd, one_plan, plan_end}
 
 not_both : (s : State) (out : List ℕ) → IsTrace s out → IsTooLong s → ⊥
 not_both s out ends long = ends_in_time s ends.n ends.lines ends.last ends.few ends.is_run ends.final long
@@ -112,46 +81,12 @@ one_shared groups parts (Err Groups) other out out' free made due = no_groups gr
 one_shared groups parts (Err NoMemory) other out out' free made due = inr tt
 one_shared groups parts ended other out out' free made due = one_shared_run groups parts ended other out out' free made.0 made.1 due
 
--- so does a run whose figures are counted
-counted_in_time : (from : Option (List ℕ)) (p : ScenarioParts) (out : List ℕ) → IsTableNamed from p out → IsTooLong (opening p) → ⊥
-counted_in_time from p out named long =
-    let table = named.2 in
-    let base = table.base in
-    let whole = run_add (opening p) base.state table.last base.before table.n table.counted.base.lines table.lines table.counted.base.comes table.is_run in
-    ends_in_time (opening p) (base.before + table.n) (table.counted.base.lines ++ table.lines) table.last table.few whole table.final long
-
-none_named : (from : Option (List ℕ)) (p : ScenarioParts) (out : List ℕ) → moment_from from ≡ None → IsTableNamed from p out → ⊥
-none_named from p out none named = some_none named.0 (sym named.1 ∙ none)
-
-one_table : (from : Option (List ℕ)) (p : ScenarioParts) (ended other : Ended) (out out' : List ℕ) → ¬ IsHindered other → IsTableOutput from p ended out → IsTableOutput from p other out' → (ended ≡ other) ⊎ IsHindered ended
-one_table from p (Ok u) (Ok v) out out' free made due = inl refl
-one_table from p (Ok u) (Err NoMoment) out out' free made due = absurd (none_named from p out due.0 made)
-one_table from p (Ok u) (Err CountFull) out out' free made due = absurd (counted_in_time from p out made due.1)
-one_table from p (Ok u) (Err NoMemory) out out' free made due = absurd (free tt)
-one_table from p (Ok u) (Err WriteFailed) out out' free made due = absurd (free tt)
-one_table from p (Ok u) _ out out' free made due = absurd due
-one_table from p (Err NoMoment) (Ok v) out out' free made due = absurd (none_named from p out' made.0 due)
-one_table from p (Err NoMoment) (Err NoMoment) out out' free made due = inl refl
-one_table from p (Err NoMoment) (Err CountFull) out out' free made due = absurd (due.0 made.0)
-one_table from p (Err NoMoment) (Err NoMemory) out out' free made due = absurd (free tt)
-one_table from p (Err NoMoment) (Err WriteFailed) out out' free made due = absurd (free tt)
-one_table from p (Err NoMoment) _ out out' free made due = absurd due
-one_table from p (Err CountFull) (Ok v) out out' free made due = absurd (counted_in_time from p out' due made.1)
-one_table from p (Err CountFull) (Err NoMoment) out out' free made due = absurd (made.0 due.0)
-one_table from p (Err CountFull) (Err CountFull) out out' free made due = inl refl
-one_table from p (Err CountFull) (Err NoMemory) out out' free made due = absurd (free tt)
-one_table from p (Err CountFull) (Err WriteFailed) out out' free made due = absurd (free tt)
-one_table from p (Err CountFull) _ out out' free made due = absurd due
-one_table from p (Err NoMemory) other out out' free made due = inr tt
-one_table from p (Err WriteFailed) other out out' free made due = inr tt
-one_table from p _ other out out' free made due = absurd made
-
-one_output : (subcommand : Subcommand) (parts : ScenarioParts) (ended other : Ended) (out out' : List ℕ) → ¬ IsHindered other → IsOutput subcommand parts ended out → IsOutput subcommand parts other out'
+one_output : (subcommand : Subcommand) (input : List ℕ) (parts : ScenarioParts) (ended other : Ended) (out out' : List ℕ) → ¬ IsHindered other → IsOutput subcommand input parts ended out → IsOutput subcommand input parts other out'
     → (ended ≡ other) ⊎ IsHindered ended
-one_output Asm parts ended other out out' free made due = one_whole (image Two parts) ended other out out' free made due
-one_output Dis parts ended other out out' free made due = one_whole (canonical_text parts) ended other out out' free made due
-one_output (Run sharing) parts ended other out out' free made due = one_shared sharing.groups parts ended other out out' free made due
-one_output (Figures from) parts ended other out out' free made due = one_table from parts ended other out out' free made due
+one_output Asm input parts ended other out out' free made due = one_whole (image Two parts) ended other out out' free made due
+one_output Dis input parts ended other out out' free made due = one_whole (canonical_text parts) ended other out out' free made due
+one_output (Run sharing) input parts ended other out out' free made due = one_shared sharing.groups parts ended other out out' free made due
+one_output (Figures counting) input parts ended other out out' free made due = one_plan counting.names input parts (plan_of counting parts) ended other out out' free made due
 
 -- the ends to which work on a scenario can come
 abbrev IsOutputEnd : Ended → Type 0
@@ -161,7 +96,7 @@ IsOutputEnd (Err NoMemory) = Unit {0}
 IsOutputEnd (Err WriteFailed) = Unit {0}
 IsOutputEnd (Err NoWorker) = Unit {0}
 IsOutputEnd (Err Groups) = Unit {0}
-IsOutputEnd (Err NoMoment) = Unit {0}
+IsOutputEnd (Err (NoFigures fault)) = Unit {0}
 IsOutputEnd _ = ⊥
 
 run_end : (s : State) (ended : Ended) (out : List ℕ) → IsRunOutput s ended out → IsOutputEnd ended
@@ -183,51 +118,51 @@ shared_end groups parts (Err Groups) out made = tt
 shared_end groups parts (Err NoMemory) out made = tt
 shared_end groups parts ended out made = run_end (opening parts) ended out made.1
 
-table_end : (from : Option (List ℕ)) (p : ScenarioParts) (ended : Ended) (out : List ℕ) → IsTableOutput from p ended out → IsOutputEnd ended
-table_end from p (Ok u) out made = tt
-table_end from p (Err NoMoment) out made = tt
-table_end from p (Err CountFull) out made = tt
-table_end from p (Err NoMemory) out made = tt
-table_end from p (Err WriteFailed) out made = tt
-table_end from p _ out made = absurd made
+figures_end : (ended : Ended) → IsPlanEnd ended → IsOutputEnd ended
+figures_end (Ok u) end = tt
+figures_end (Err (NoFigures fault)) end = tt
+figures_end (Err CountFull) end = tt
+figures_end (Err NoMemory) end = tt
+figures_end (Err WriteFailed) end = tt
+figures_end (Err _) end = absurd end
 
-output_end : (subcommand : Subcommand) (parts : ScenarioParts) (ended : Ended) (out : List ℕ) → IsOutput subcommand parts ended out → IsOutputEnd ended
-output_end Asm parts ended out made = whole_end (image Two parts) ended out made
-output_end Dis parts ended out made = whole_end (canonical_text parts) ended out made
-output_end (Run sharing) parts ended out made = shared_end sharing.groups parts ended out made
-output_end (Figures from) parts ended out made = table_end from parts ended out made
+output_end : (subcommand : Subcommand) (input : List ℕ) (parts : ScenarioParts) (ended : Ended) (out : List ℕ) → IsOutput subcommand input parts ended out → IsOutputEnd ended
+output_end Asm input parts ended out made = whole_end (image Two parts) ended out made
+output_end Dis input parts ended out made = whole_end (canonical_text parts) ended out made
+output_end (Run sharing) input parts ended out made = shared_end sharing.groups parts ended out made
+output_end (Figures counting) input parts ended out made = figures_end ended (plan_end counting.names input parts (plan_of counting parts) ended out made)
 
 -- none of which is one of the reader
-pub output_not_read : (subcommand : Subcommand) (parts : ScenarioParts) (ended : Ended) (out : List ℕ) → IsOutput subcommand parts ended out → ended ≡ Err ReadFailed → ⊥
-output_not_read subcommand parts ended out made is = subst IsOutputEnd is (output_end subcommand parts ended out made)
+pub output_not_read : (subcommand : Subcommand) (input : List ℕ) (parts : ScenarioParts) (ended : Ended) (out : List ℕ) → IsOutput subcommand input parts ended out → ended ≡ Err ReadFailed → ⊥
+output_not_read subcommand input parts ended out made is = subst IsOutputEnd is (output_end subcommand input parts ended out made)
 
 abbrev pub Read : Type 0
 Read = Result ScenarioParts SessionFault
 
 -- where the reading answers so, the session ends so
-abbrev EndsBy : Subcommand → Read → Ended → List ℕ → Type 0
-EndsBy subcommand (Ok parts) ended out = IsOutput subcommand parts ended out
-EndsBy subcommand (Err fault) ended out = ended ≡ Err fault
+abbrev EndsBy : Subcommand → List ℕ → Read → Ended → List ℕ → Type 0
+EndsBy subcommand input (Ok parts) ended out = IsOutput subcommand input parts ended out
+EndsBy subcommand input (Err fault) ended out = ended ≡ Err fault
 
-by : (subcommand : Subcommand) (read other : Read) (ended : Ended) (out : List ℕ) → read ≡ other → EndsBy subcommand read ended out → EndsBy subcommand other ended out
-by subcommand read other ended out is ends = subst (λ r. EndsBy subcommand r ended out) is ends
+by : (subcommand : Subcommand) (input : List ℕ) (read other : Read) (ended : Ended) (out : List ℕ) → read ≡ other → EndsBy subcommand input read ended out → EndsBy subcommand input other ended out
+by subcommand input read other ended out is ends = subst (λ r. EndsBy subcommand input r ended out) is ends
 
 hindered : (ended : Ended) → ended ≡ Err NoMemory → IsHindered ended
 hindered ended is = subst IsHindered (sym is) tt
 
 module _ (subcommand : Subcommand) (input : List ℕ) (read : Read) (ended : Ended) (out : List ℕ) (within : IsWithin input) (says : Reads (HasScenario input) (HasFault input) read)
-    (ends : EndsBy subcommand read ended out) where
+    (ends : EndsBy subcommand input read ended out) where
   of_scenario : (other : Ended) (out' : List ℕ) → ¬ IsHindered other → IsOfScenario subcommand input other out' → (ended ≡ other) ⊎ IsHindered ended
   of_scenario other out' free due =
       let meant = due.1 in elim (says.only_scenario meant.0 meant.1) [
-        | inl is ↦ one_output subcommand meant.0 ended other out out' free (by subcommand read (Ok meant.0) ended out is ends) meant.2
-        | inr is ↦ inr (hindered ended (by subcommand read (Err NoMemory) ended out is ends))
+        | inl is ↦ one_output subcommand input meant.0 ended other out out' free (by subcommand input read (Ok meant.0) ended out is ends) meant.2
+        | inr is ↦ inr (hindered ended (by subcommand input read (Err NoMemory) ended out is ends))
       ]
 
   of_fault : (fault : SessionFault) → HasFault input fault → (ended ≡ Err fault) ⊎ IsHindered ended
   of_fault fault has = elim (says.only_fault fault has) [
-    | inl is ↦ inl (by subcommand read (Err fault) ended out is ends)
-    | inr is ↦ inr (hindered ended (by subcommand read (Err NoMemory) ended out is ends))
+    | inl is ↦ inl (by subcommand input read (Err fault) ended out is ends)
+    | inr is ↦ inr (hindered ended (by subcommand input read (Err NoMemory) ended out is ends))
   ]
 
   -- one end is due
@@ -242,29 +177,29 @@ module _ (subcommand : Subcommand) (input : List ℕ) (read : Read) (ended : End
   no_other other due = of_scenario other due.1.0 due.0 due.1.1
 
 -- work on the input's scenario is an ending of the session
-output_ending : (subcommand : Subcommand) (input : List ℕ) (parts : ScenarioParts) (ended : Ended) (out : List ℕ) → IsWithin input → HasScenario input parts → IsOutput subcommand parts ended out
+output_ending : (subcommand : Subcommand) (input : List ℕ) (parts : ScenarioParts) (ended : Ended) (out : List ℕ) → IsWithin input → HasScenario input parts → IsOutput subcommand input parts ended out
     → IsOutputEnd ended → IsEnding subcommand input ended out
 output_ending subcommand input parts (Ok u) out within means made end = (within, (parts, means, made))
 output_ending subcommand input parts (Err CountFull) out within means made end = (within, (parts, means, made))
 output_ending subcommand input parts (Err WriteFailed) out within means made end = (within, (parts, means, made))
 output_ending subcommand input parts (Err NoWorker) out within means made end = (within, (parts, means, made))
 output_ending subcommand input parts (Err Groups) out within means made end = (within, (parts, means, made))
-output_ending subcommand input parts (Err NoMoment) out within means made end = (within, (parts, means, made))
+output_ending subcommand input parts (Err (NoFigures fault)) out within means made end = (within, (parts, means, made))
 output_ending subcommand input parts (Err NoMemory) out within means made end = inr (within, (parts, means, made))
 output_ending subcommand input parts _ out within means made end = absurd end
 
 -- the input has a scenario, which was worked on
 pub ran : (subcommand : Subcommand) (input : List ℕ) (parts : ScenarioParts) (read : Read) (ended : Ended) (old new : Option (List ℕ)) → IsWithin input → read ≡ Ok parts
-    → Reads (HasScenario input) (HasFault input) read → Writes (IsOutput subcommand parts ended) old new → IsSession subcommand input ended old new
+    → Reads (HasScenario input) (HasFault input) read → Writes (IsOutput subcommand input parts ended) old new → IsSession subcommand input ended old new
 ran subcommand input parts read ended old new within is says written =
     let means : HasScenario input parts = subst (λ r. IfOk r (HasScenario input)) is says.scenario in
     record {
       ending = (
         written.0,
         written.1,
-        output_ending subcommand input parts ended written.0 within means written.2 (output_end subcommand parts ended written.0 written.2),
+        output_ending subcommand input parts ended written.0 within means written.2 (output_end subcommand input parts ended written.0 written.2),
       );
-      only_due = no_other subcommand input read ended written.0 within says (by subcommand (Ok parts) read ended written.0 (sym is) written.2);
+      only_due = no_other subcommand input read ended written.0 within says (by subcommand input (Ok parts) read ended written.0 (sym is) written.2);
     }
 
 -- a fault that no input has
@@ -310,7 +245,7 @@ refused subcommand input fault read known within is says =
         appends_nothing known,
         elim has [ inl short ↦ no_memory_ending subcommand input fault short | inr faulty ↦ fault_ending subcommand input fault within faulty ],
       );
-      only_due = no_other subcommand input read (Err fault) [] within says (by subcommand (Err fault) read (Err fault) [] (sym is) refl);
+      only_due = no_other subcommand input read (Err fault) [] within says (by subcommand input (Err fault) read (Err fault) [] (sym is) refl);
     }
 
 -- an input that is too long has no other end

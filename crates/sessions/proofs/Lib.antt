@@ -14,3 +14,6 @@ pub mod PromptEnds
 pub mod Rests
 pub mod Overs
 pub mod Figured
+pub mod Endless
+pub mod Planned
+pub mod Stepped

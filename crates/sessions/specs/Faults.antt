@@ -13,7 +13,8 @@ use Rattle.window_engine.specs.declared.fault.EngineFault.TheVariants.{NoMemory 
 use Rattle.debug_session.specs.declared.session.SessionFault.{SessionFault as CommandsFault}
 use Rattle.debug_session.specs.declared.session.SessionFault.TheVariants.{NoMemory as commands_NoMemory, OutputFailed}
 use Rattle.sessions.specs.declared.fault.SessionFault.{SessionFault}
-use Rattle.sessions.specs.declared.fault.SessionFault.TheVariants.{TooLong, Refused, RefusedImage, CommandLine, NoSuchCode, WordsNotUtf8, Groups, NoMoment, ReadFailed, CannotRead, WriteFailed, NoMemory, CountFull, NoWorker}
+use Rattle.sessions.specs.declared.figures_fault.FiguresFault.TheVariants.{NoMoment, NoStep, TooManyRows}
+use Rattle.sessions.specs.declared.fault.SessionFault.TheVariants.{TooLong, Refused, RefusedImage, CommandLine, NoSuchCode, WordsNotUtf8, Groups, Figures, ReadFailed, CannotRead, WriteFailed, NoMemory, CountFull, NoWorker}
 
 -- input refused; command line refused; reading or writing failed; no room to go on
 abbrev pub status_of : SessionFault → ℕ
@@ -24,7 +25,7 @@ status_of (CommandLine error) = 2
 status_of NoSuchCode = 2
 status_of WordsNotUtf8 = 2
 status_of Groups = 2
-status_of NoMoment = 2
+status_of (Figures fault) = 2
 status_of ReadFailed = 3
 status_of (CannotRead file) = 3
 status_of WriteFailed = 3
@@ -41,7 +42,9 @@ note_of (CommandLine error) = None
 note_of NoSuchCode = Some (codes "error: no such code; there are E1 to E10, L1 to L8, I1, B1 to B5, M and groups\n")
 note_of WordsNotUtf8 = Some (codes "error: a word is not valid UTF-8\n")
 note_of Groups = Some (codes "refused groups\n")
-note_of NoMoment = Some (codes "error: --from takes a moment, as 1.5s, 20ms or 10000ns\n")
+note_of (Figures NoMoment) = Some (codes "error: --from takes a moment, as 1.5s, 20ms or 10000ns\n")
+note_of (Figures NoStep) = Some (codes "error: --every takes a time above 0, as 1.5s or 20ms, and --series wants --every\n")
+note_of (Figures TooManyRows) = Some (codes "error: more than 10000000 rows up to the scenario's end; --every takes a longer step\n")
 note_of ReadFailed = Some (codes "read failed\n")
 note_of (CannotRead file) = Some (codes "cannot read " ++ string_bytes file ++ codes "\n")
 note_of WriteFailed = Some (codes "write failed\n")

@@ -12,6 +12,8 @@ pub mod Worked
 pub mod Groups
 pub mod Nodes
 pub mod FiguresOutput
+pub mod FiguresPlan
+pub mod NameColumns
 pub mod Input
 pub mod Output
 pub mod Session

@@ -10,7 +10,7 @@ use Rattle.command_line.specs.declared.subcommand.Subcommand.{Subcommand}
 use Rattle.command_line.specs.declared.subcommand.Subcommand.TheVariants.{Asm, Dis, Run, Figures}
 use Rattle.sessions.specs.Written.{IsBeginningOf}
 use Rattle.sessions.specs.Ended.{Ended, IsRunOutput}
-use Rattle.sessions.specs.FiguresOutput.{IsTableOutput}
+use Rattle.sessions.specs.FiguresOutput.{IsFiguresOutput}
 use Rattle.sessions.specs.Nodes.{HasGroups}
 
 -- what was written of bytes that go out together, by the end: all; nothing where memory was refused; a beginning where the writer failed
@@ -26,9 +26,9 @@ IsSharedOutput groups parts (Err Groups) out = ¬ HasGroups groups parts × (out
 IsSharedOutput groups parts (Err NoMemory) out = (out ≡ []) ⊎ (HasGroups groups parts × IsRunOutput (opening parts) (Err NoMemory) out)
 IsSharedOutput groups parts ended out = HasGroups groups parts × IsRunOutput (opening parts) ended out
 
--- what a subcommand that ended so has written of a scenario: the image of version 2, the canonical text, the trace of its run, or the table of its run's figures from a moment on
-abbrev pub IsOutput : Subcommand → ScenarioParts → Ended → List ℕ → Type 0
-IsOutput Asm parts ended out = IsAllOrNothing (image Two parts) ended out
-IsOutput Dis parts ended out = IsAllOrNothing (canonical_text parts) ended out
-IsOutput (Run sharing) parts ended out = IsSharedOutput sharing.groups parts ended out
-IsOutput (Figures from) parts ended out = IsTableOutput from parts ended out
+-- what a subcommand that ended so has written of an input's scenario: the image of version 2, the canonical text, the trace of its run, or the figures of its run that are asked for
+abbrev pub IsOutput : Subcommand → List ℕ → ScenarioParts → Ended → List ℕ → Type 0
+IsOutput Asm input parts ended out = IsAllOrNothing (image Two parts) ended out
+IsOutput Dis input parts ended out = IsAllOrNothing (canonical_text parts) ended out
+IsOutput (Run sharing) input parts ended out = IsSharedOutput sharing.groups parts ended out
+IsOutput (Figures counting) input parts ended out = IsFiguresOutput counting input parts ended out

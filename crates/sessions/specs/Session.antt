@@ -17,7 +17,7 @@ IsWithin input = length input ≤ 16777216
 
 -- the input has a scenario, over which the subcommand ended so and wrote this
 abbrev pub IsOfScenario : Subcommand → List ℕ → Ended → List ℕ → Type 0
-IsOfScenario subcommand input ended out = IsWithin input × ((p : ScenarioParts) × HasScenario input p × IsOutput subcommand p ended out)
+IsOfScenario subcommand input ended out = IsWithin input × ((p : ScenarioParts) × HasScenario input p × IsOutput subcommand input p ended out)
 
 -- why a session on this input ends so, and what it has written by then: each end has its row
 abbrev pub IsEnding : Subcommand → List ℕ → Ended → List ℕ → Type 0

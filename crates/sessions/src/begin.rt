@@ -3,6 +3,7 @@
 ghost use Rattle.std.specs.Prelude.{◌≡◌};
 ghost use Rattle.sessions.specs.Asked.{IsAskedOn};
 ghost use Rattle.sessions.specs.Ended.{writes_after};
+ghost use Rattle.sessions.specs.Input.{HasScenario};
 ghost use Rattle.sessions.specs.Named.{IsOver};
 ghost use Rattle.sessions.specs.Output.{IsOutput};
 ghost use Rattle.sessions.specs.Rest.{Begins, BeginsRun, IsDebugWith, IsDone, IsReadSession, IsTaskWith, written_by};
@@ -14,7 +15,7 @@ use crate::conversion::{put_image, put_text};
 use crate::debug::begin_commands;
 use crate::explain::explain;
 use crate::fault::SessionFault;
-use crate::figures_table::put_figures;
+use crate::figures_output::put_figures;
 use crate::input::{named_file, read_named};
 use crate::means::Means;
 use crate::prompt::begin_prompt;
@@ -30,29 +31,26 @@ use scenario_image::Scenario;
 use std::alloc::Global;
 use window_engine::{Gate, Sink};
 
-/// Writes what a subcommand makes of a scenario. A run by several workers is left.
+/// Writes what a subcommand makes of an input's scenario. A run by several workers is left.
 fn begin_output<W: Sink, N: Notes>(
     means: &Means,
     subcommand: Subcommand,
+    input: &[u8],
     scenario: &Scenario,
     writer: &mut W,
     notes: &mut N,
 ) -> Result<Rest, SessionFault>
-    ensures output { BeginsRun (λ ended after. Writes (IsOutput subcommand.entry scenario.now ended) (W.contents writer.old) after) result (W.contents writer.new) }
+    requires { HasScenario input.now scenario.now }
+    ensures output { BeginsRun (λ ended after. Writes (IsOutput subcommand.entry input.now scenario.now ended) (W.contents writer.old) after) result (W.contents writer.new) }
     ensures failures { W.failures writer.new ≡ writes_after result (W.failures writer.old) }
 {
     match subcommand {
         Subcommand::Asm => nothing_left(put_image(means.alloc, scenario, writer)),
         Subcommand::Dis => nothing_left(put_text(means.alloc, scenario, writer)),
         Subcommand::Run(sharing) => begin_run(means, sharing, scenario, writer, notes),
-        Subcommand::Figures(from) => nothing_left(put_figures(
-            means.alloc,
-            means.wishes,
-            &from,
-            scenario,
-            writer,
-            notes,
-        )),
+        Subcommand::Figures(counting) => {
+            nothing_left(put_figures(means, &counting, input, scenario, writer, notes))
+        }
     }
 }
 
@@ -69,7 +67,7 @@ fn begin_bytes<W: Sink, N: Notes>(
     ensures failures { W.failures writer.new ≡ writes_after result (W.failures writer.old) }
 {
     let scenario = told_scenario(means, input, notes)?;
-    begin_output(means, subcommand, &scenario, writer, notes)
+    begin_output(means, subcommand, input, &scenario, writer, notes)
 }
 
 /// Begins the session of a subcommand over an input that was read.

@@ -2,6 +2,7 @@
 ghost use Rattle.std.specs.Prelude.{◌≡◌};
 ghost use Rattle.sessions.specs.Faults.{status_of};
 
+use crate::figures_fault::FiguresFault;
 use crate::source::SourceFail;
 use net_machine::StepFault;
 use scenario_asm::{AsmFault, Fault};
@@ -33,8 +34,8 @@ pub enum SessionFault {
     WordsNotUtf8,
     /// The groups that the command line names are none, or not as many as the nodes.
     Groups,
-    /// What the command line names as the moment from which on is counted is none.
-    NoMoment,
+    /// The command line asks for figures that cannot be.
+    Figures(FiguresFault),
     /// The input could not be read.
     ReadFailed,
     /// The file of this name, as it is shown, could not be opened or read.
@@ -61,7 +62,7 @@ impl SessionFault {
             | SessionFault::NoSuchCode
             | SessionFault::WordsNotUtf8
             | SessionFault::Groups
-            | SessionFault::NoMoment => 2,
+            | SessionFault::Figures(_) => 2,
             SessionFault::ReadFailed | SessionFault::CannotRead(_) | SessionFault::WriteFailed => 3,
             SessionFault::NoMemory | SessionFault::CountFull | SessionFault::NoWorker => 4,
         }
@@ -87,9 +88,15 @@ impl fmt::Display for SessionFault {
             ),
             SessionFault::WordsNotUtf8 => f.write_str("error: a word is not valid UTF-8\n"),
             SessionFault::Groups => f.write_str("refused groups\n"),
-            SessionFault::NoMoment => {
+            SessionFault::Figures(FiguresFault::NoMoment) => {
                 f.write_str("error: --from takes a moment, as 1.5s, 20ms or 10000ns\n")
             }
+            SessionFault::Figures(FiguresFault::NoStep) => f.write_str(
+                "error: --every takes a time above 0, as 1.5s or 20ms, and --series wants --every\n",
+            ),
+            SessionFault::Figures(FiguresFault::TooManyRows) => f.write_str(
+                "error: more than 10000000 rows up to the scenario's end; --every takes a longer step\n",
+            ),
             SessionFault::ReadFailed => f.write_str("read failed\n"),
             SessionFault::CannotRead(file) => write!(f, "cannot read {file}\n"),
             SessionFault::WriteFailed => f.write_str("write failed\n"),
@@ -109,6 +116,16 @@ impl From<AllocError> for SessionFault {
 
     fn from(_error: AllocError) -> SessionFault {
         SessionFault::NoMemory
+    }
+}
+
+impl From<FiguresFault> for SessionFault {
+    ghost use Rattle.sessions.specs.declared.fault.SessionFault.TheVariants.{Figures};
+
+    ghost from_gives = { λ fault e. e ≡ Figures fault };
+
+    fn from(fault: FiguresFault) -> SessionFault {
+        SessionFault::Figures(fault)
     }
 }
 

@@ -4,14 +4,19 @@
 
 mod begin;
 pub mod conversion;
+mod counter;
 pub mod debug;
 mod explain;
 pub mod fault;
-pub mod figures_table;
+pub mod figures_fault;
+mod figures_output;
+mod figures_plan;
+mod figures_table;
 mod file_name;
 pub mod groups;
 mod input;
 mod means;
+mod name_column;
 mod nearest;
 pub mod outcome;
 mod output;
@@ -21,6 +26,7 @@ mod refused_line;
 mod rest;
 mod run;
 pub mod scenario_input;
+mod series;
 pub mod session;
 pub mod source;
 pub mod trace;

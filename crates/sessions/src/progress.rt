@@ -106,9 +106,9 @@ impl<N: Notes> Watch for Telling<'_, N> {
 
     type Note = ();
 
-    ghost has = { λ _ _ _ _ goes_on. goes_on ≡ true };
+    ghost has = { λ began _ w _ goes_on. (goes_on ≡ true) × (w.progress.ghost_name ≡ began.progress.ghost_name) };
 
-    ghost begins = { λ _ _. refl };
+    ghost begins = { λ _ _. (refl, refl) };
 
     #[inline(always)]
     fn ahead(&self, _at: &Net, _next: Option<Due>) -> Option<()> {

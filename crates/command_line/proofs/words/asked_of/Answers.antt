@@ -8,4 +8,4 @@ returns-then-eq-clause-said c = sym (c.new.ensures ∙ c.get_str.ensures ∙ fir
 
 pub returns-else-eq-clause-said : goal.returns-else-eq-clause-said
 returns-else-eq-clause-said c =
-    (c.task_of-task.ensures.sharing, c.task_of-task.ensures.from, sym (c.new-file.ensures ∙ c.get_str-else-eq.ensures ∙ first_value-rows (found_of c.args.options.now) (codes "file")), sym c.wishes_of.ensures)
+    (c.task_of-task.ensures.sharing, c.task_of-task.ensures.counting, sym (c.new-file.ensures ∙ c.get_str-else-eq.ensures ∙ first_value-rows (found_of c.args.options.now) (codes "file")), sym c.wishes_of.ensures)

@@ -1,6 +1,7 @@
-use Rattle.std.proofs.Common.{◌≡◌, ◌<◌, ◌≤◌, ◌++◌, ◌∷◌, [], ℕ, List, length, get_or, take, sym, ap, subst, ◌∙◌, arith, rules}
+use Rattle.std.proofs.Common.{◌≡◌, ◌<◌, ◌≤◌, ◌++◌, ◌∷◌, [], List, length, get_or, take, sym, ap, subst, ◌∙◌, arith, rules}
 use Rattle.std.proofs.lemmas.List.{take_more, take_all}
 use Rattle.scenario_image.specs.declared.parts.LinkPart.{LinkPart}
+use Rattle.scenario_image.specs.declared.parts.ScenarioParts.{ScenarioParts}
 use Rattle.net_machine.specs.Wiring.{from_of, exit_of}
 use Rattle.figures.specs.Moments.{moments}
 use Rattle.figures.specs.Links.{AreOfLink}
@@ -71,20 +72,19 @@ loop-number-preserved c = λ b of.
     let ms = moments b.state of.count in
     let i = c.loop-number.number in
     let same : c.as_slice-links.result.now ≡ p.links = search rules in
-    let end : c.parts-parts.result.now.end ≡ p.end = search rules in
+    let to_end : ScenarioParts = record p { end = c.args.end } in
     let size = ap (λ (l : List LinkPart). length l) same in
     let under : i < length p.links = omega (arith, c.loop-number-test.true, size) in
-    let all = link_summaries p b ms r.state in
-    let many = links_many p b ms r.state in
+    let all = link_summaries to_end b ms r.state in
+    let many = links_many to_end b ms r.state in
     let inside : i < length all = subst (λ n. i < n) (sym many) under in
     let it : LinkSummary = c.link_summary.result in
     let counted = link_counted p b f r c.requires.scenario of i under in
     let link = subst (λ (l : List LinkPart). (other : NodeLinks) (link : LinkFigures) → AreOfLink b ms r.state (from_of l i) (exit_of l i) (get_or (get_or f.links.items (from_of l i) other).figures.items (exit_of l i) link)) (sym same) counted.link in
     let said : it ≡ get_or all i it =
     c.link_summary.ensures b ms r.state link (sym of.figures.last)
-    ∙ ap (λ (l : List LinkPart). summary_of_exit (from_of l i) (exit_of l i) c.parts-parts.result.now.end b ms r.state) same
-    ∙ ap (λ n. summary_of_exit (from_of p.links i) (exit_of p.links i) n b ms r.state) end
-    ∙ sym (link_said p b ms r.state i it under) in
+    ∙ ap (λ (l : List LinkPart). summary_of_exit (from_of l i) (exit_of l i) c.args.end b ms r.state) same
+    ∙ sym (link_said to_end b ms r.state i it under) in
     c.in_ok-push.ensures.items
     ∙ ap (λ (xs : List LinkSummary). xs ++ it ∷ []) (c.loop-number.invariant b of)
     ∙ ap (λ (x : LinkSummary). take i all ++ x ∷ []) said
@@ -96,6 +96,7 @@ returns c = λ b of.
     let i = c.loop-number.number in
     let same : c.as_slice-links.result.now ≡ p.links = search rules in
     let size = ap (λ (l : List LinkPart). length l) same in
-    let many = links_many p b (moments b.state of.count) c.args.net.now.state in
-    let all = link_summaries p b (moments b.state of.count) c.args.net.now.state in
+    let to_end : ScenarioParts = record p { end = c.args.end } in
+    let many = links_many to_end b (moments b.state of.count) c.args.net.now.state in
+    let all = link_summaries to_end b (moments b.state of.count) c.args.net.now.state in
     c.loop-number.invariant b of ∙ take_all i all (omega (arith, c.loop-number-test.false, size, many))

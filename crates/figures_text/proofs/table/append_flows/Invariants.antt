@@ -6,4 +6,4 @@ use Rattle.figures_text.proofs.table.append_flows.Given as goal
 
 abbrev pub invariant-loop-number : goal.invariant-loop-number
 invariant-loop-number l =
-    l.text.items ++ flat_map flow_lines (enumerate_from l.number (drop l.number l.flows)) ≡ l.initial.text.items ++ flat_map flow_lines (enumerate_from 0 l.flows)
+    l.text.items ++ flat_map (flow_lines l.column) (enumerate_from l.number (drop l.number l.flows)) ≡ l.initial.text.items ++ flat_map (flow_lines l.column) (enumerate_from 0 l.flows)

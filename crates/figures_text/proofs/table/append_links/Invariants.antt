@@ -6,4 +6,4 @@ use Rattle.figures_text.proofs.table.append_links.Given as goal
 
 abbrev pub invariant-loop-number : goal.invariant-loop-number
 invariant-loop-number l =
-    l.text.items ++ flat_map link_lines (enumerate_from l.number (drop l.number l.links)) ≡ l.initial.text.items ++ flat_map link_lines (enumerate_from 0 l.links)
+    l.text.items ++ flat_map (link_lines l.column) (enumerate_from l.number (drop l.number l.links)) ≡ l.initial.text.items ++ flat_map (link_lines l.column) (enumerate_from 0 l.links)

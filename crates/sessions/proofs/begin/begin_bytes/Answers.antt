@@ -24,6 +24,6 @@ returns-clause-session g c =
     let input = c.args.input.now in
     let p = c.in_ok-scenario.scenario in
     let old = g.W.Sink.contents c.args.writer.now in
-    run_begins_as (λ ended after. Writes (IsOutput subcommand p ended) old after) (IsReadSession subcommand input old) c.begin_output.result (g.W.Sink.contents c.begin_output.new.writer)
+    run_begins_as (λ ended after. Writes (IsOutput subcommand input p ended) old after) (IsReadSession subcommand input old) c.begin_output.result (g.W.Sink.contents c.begin_output.new.writer)
     (λ ended after wrote.
-    (ran subcommand input p c.told_scenario.result ended old after c.requires c.in_ok-scenario.was c.told_scenario.ensures wrote, output_not_read subcommand p ended wrote.0 wrote.2)) c.begin_output.ensures.output
+    (ran subcommand input p c.told_scenario.result ended old after c.requires c.in_ok-scenario.was c.told_scenario.ensures wrote, output_not_read subcommand input p ended wrote.0 wrote.2)) c.begin_output.ensures.output

@@ -6,7 +6,7 @@ pub returns-clause-made : goal.returns-clause-made
 returns-clause-made g c =
     let writer = c.args.writer.now in
     let run = c.run_by_two-end.ensures in
-    let put = first_alone _ _ _ run.watched (λ b told. told.holds) in
+    let put = first_alone _ _ _ run.watched (λ b told. told.holds.0) in
     let page_name = c.finish.ensures.same_page ∙ put.holds.0 in
     let writer_name = c.finish.ensures.same_writer ∙ put.holds.1 in
     let made = (c.finish.ensures.ended c.args.net.now.state c.args.net.now (g.W.Sink.contents writer) (g.W.Sink.failures writer) run.end (put.holds.2 c.requires.opening c.requires.empty)).made in
@@ -16,7 +16,7 @@ pub returns-clause-failed : goal.returns-clause-failed
 returns-clause-failed g c =
     let writer = c.args.writer.now in
     let run = c.run_by_two-end.ensures in
-    let put = first_alone _ _ _ run.watched (λ b told. told.holds) in
+    let put = first_alone _ _ _ run.watched (λ b told. told.holds.0) in
     let page_name = c.finish.ensures.same_page ∙ put.holds.0 in
     let writer_name = c.finish.ensures.same_writer ∙ put.holds.1 in
     let failed = (c.finish.ensures.ended c.args.net.now.state c.args.net.now (g.W.Sink.contents writer) (g.W.Sink.failures writer) run.end (put.holds.2 c.requires.opening c.requires.empty)).failed_then in
@@ -26,7 +26,7 @@ pub returns-clause-failures : goal.returns-clause-failures
 returns-clause-failures g c =
     let writer = c.args.writer.now in
     let run = c.run_by_two-end.ensures in
-    let put = first_alone _ _ _ run.watched (λ b told. told.holds) in
+    let put = first_alone _ _ _ run.watched (λ b told. told.holds.0) in
     let page_name = c.finish.ensures.same_page ∙ put.holds.0 in
     let writer_name = c.finish.ensures.same_writer ∙ put.holds.1 in
     let failures = (c.finish.ensures.ended c.args.net.now.state c.args.net.now (g.W.Sink.contents writer) (g.W.Sink.failures writer) run.end (put.holds.2 c.requires.opening c.requires.empty)).failures_are in

@@ -1,0 +1,59 @@
+-- The rows of a run by time: time,what,number,figure,unit,value.
+use Rattle.std.specs.Prelude.{ℕ, List, [], ◌∷◌, ◌++◌, codes, decimal, Option}
+use Rattle.std.specs.List.{flat_map, enumerate_from}
+use Rattle.std.specs.Option.{option_map}
+use Rattle.figures_text.specs.declared.figure.Figure.TheVariants.{Delivered, SentSegments, AgainInRecovery, AgainOtherwise, Timeouts, Cwnd, InFlight, Lost, Full, Codel, SentPackets, SentBytes, Busy, GreatestQueue, Waited, MedianDelay}
+use Rattle.figures_text.specs.declared.row.Row.{Row}
+use Rattle.figures_text.specs.declared.step.FlowStep.{FlowStep}
+use Rattle.figures_text.specs.declared.step.SenderWindow.{SenderWindow}
+use Rattle.figures_text.specs.declared.subject.Subject.{Subject}
+use Rattle.figures_text.specs.declared.subject.Subject.TheVariants.{Flow, Link}
+use Rattle.figures_text.specs.declared.summary.LinkSummary.{LinkSummary}
+use Rattle.figures_text.specs.Table.{TextNames, heading, counted, or_none, row_line}
+
+-- the first line
+abbrev pub series_heading : Option TextNames → List ℕ
+series_heading column = codes "time," ++ heading column
+
+-- when the step begins, in nanoseconds, and what a line of the table says
+abbrev pub timed_line : ℕ → Option TextNames → Subject → Row → List ℕ
+timed_line begin column subject row = decimal begin ++ codes "," ++ row_line column subject row
+
+abbrev pub timed_rows : ℕ → Option TextNames → Subject → List Row → List ℕ
+timed_rows begin column subject rows = flat_map (λ (row : Row). timed_line begin column subject row) rows
+
+-- what is said of a flow; its window is there once it has started
+abbrev pub flow_step_rows : FlowStep → List Row
+flow_step_rows step =
+    counted Delivered step.counts.delivered
+    ∷ counted SentSegments step.counts.sent
+    ∷ counted AgainInRecovery step.counts.again_in_recovery
+    ∷ counted AgainOtherwise step.counts.again_otherwise
+    ∷ counted Timeouts step.counts.timeouts
+    ∷ or_none Cwnd (option_map (λ (window : SenderWindow). window.cwnd) step.window)
+    ∷ or_none InFlight (option_map (λ (window : SenderWindow). window.in_flight) step.window)
+    ∷ []
+
+-- what is said of a link
+abbrev pub link_step_rows : LinkSummary → List Row
+link_step_rows link =
+    counted Busy link.busy
+    ∷ counted SentPackets link.sent
+    ∷ counted SentBytes link.bytes
+    ∷ counted Lost link.lost
+    ∷ counted Full link.full
+    ∷ counted Codel link.codel
+    ∷ counted Waited link.waited
+    ∷ counted GreatestQueue link.longest
+    ∷ or_none MedianDelay link.median
+    ∷ []
+
+abbrev pub flow_step_lines : ℕ → Option TextNames → ℕ × FlowStep → List ℕ
+flow_step_lines begin column numbered = timed_rows begin column (Flow numbered.0) (flow_step_rows numbered.1)
+
+abbrev pub link_step_lines : ℕ → Option TextNames → ℕ × LinkSummary → List ℕ
+link_step_lines begin column numbered = timed_rows begin column (Link numbered.0) (link_step_rows numbered.1)
+
+-- of each flow, and of each link, by number from 0 on
+abbrev pub step_rows : ℕ → Option TextNames → List FlowStep → List LinkSummary → List ℕ
+step_rows begin column flows links = flat_map (flow_step_lines begin column) (enumerate_from 0 flows) ++ flat_map (link_step_lines begin column) (enumerate_from 0 links)
