@@ -13,8 +13,9 @@ Usage: dev/compare.py [--kind texts,runs,images,debug,prompt,auto,figures] [--se
                                                                   (tcpsim run --groups auto)
   figures  the examples and random scenarios as texts and as images of both versions, now and then with a fault. The
            model keeps each number of which a percentile is asked for: its answer is the top of the exact one's class.
-           Two of three random ones are counted from a moment on, near an event's, at the end, or none at all
-                                                                  (tcpsim figures --from T)
+           Two of three random ones are counted from a moment on, near an event's, at the end, or none at all; as many
+           have rows by time, up to some 200 steps, and now and then a step that is refused
+                                             (tcpsim figures --from T --every D --series --names)
 
 --options gives random --groups and --workers besides. --steps N is for a program whose prompt has the first N steps
 of its grammar (python/tcpsim_model/prompt.py); left out, as many as the built one has.
@@ -39,7 +40,8 @@ import threading
 import time
 
 from clone import TOP
-from tcpsim_model import command_line, debugger, image, later_sessions, nets, prompt, sessions, simulate, spelling
+from tcpsim_model import command_line, debugger, figures, grammar, image, nets, prompt, sessions, simulate, spelling
+from tcpsim_model.scenario import Refused
 from tcpsim_model.smaller import smaller
 from tcpsim_model.text import assemble, disassemble, lines_of
 
@@ -122,8 +124,8 @@ def model_answers_kept(words, data, most):
 
 
 def agree(one, other):
-    """Notes of status 2 are the command line reader's own text, but for `refused groups`."""
-    if one[0] == other[0] == 2 and 'refused groups' not in (one[2], other[2]):
+    """Notes of status 2 are the command line reader's own text, but for those of words that are judged behind the input."""
+    if one[0] == other[0] == 2 and not {one[2], other[2]} & set(command_line.BEHIND_INPUT):
         return one[1] == other[1]
     return one == other
 
@@ -156,11 +158,12 @@ def shrunk(job, seconds=SHRINKING):
 def fewer_things(job, best, stop):
     """Leaves out flows, losses, segments and more of an accepted scenario."""
     path, (words, data) = job
+    kept = words if words[0] == 'figures' else words[:1]        # groups are one for each node
     scenario, found = (image.load if data.startswith(b'TCB') else assemble)(data), True
     while found and time.monotonic() < stop:
         found = None
         for less in smaller(scenario):
-            found = differs((path, (words[:1], disassemble(less))))
+            found = differs((path, (kept, disassemble(less))))
             if found:
                 best, scenario = found, less
                 break
@@ -349,12 +352,9 @@ def prompts(pick, args):
     for _ in range(args.count):
         scenario = short_scenario(pick)
         data = image.save(scenario) if pick.random() < 0.1 else spelling.spelt(scenario, pick)
-        if args.steps > prompt.STEPS and not data.startswith(b'TCB'):
-            scenario.names.update(assemble(data).names)
         if pick.random() < 0.03:
             data = spelling.mutated(data, pick)
-        any_session = sessions.any_session if args.steps <= prompt.STEPS else later_sessions.any_session
-        keys = any_session(pick, scenario, moments(scenario) or [0], args.steps)
+        keys = sessions.any_session(pick, scenario, moments(scenario) or [0], args.steps)
         words = [FILE, *options(pick, args, len(scenario.nodes))]
         yield ('debug', *words, f'{STEPS}{args.steps}'), data + TYPED + keys
 
@@ -362,21 +362,64 @@ def prompts(pick, args):
 def tables(pick, args):
     """Inputs of which the figures are asked."""
     for text in examples(args):
-        yield ('figures',), text
-        yield from ((('figures',), image.save(assemble(text), version)) for version in (1, 2))
+        scenario = assemble(text)
+        for by_time in ((), (f'--every={1 + span_of(scenario) // 10}',)):
+            yield ('figures', *by_time, '--names'), text
+            yield from ((('figures', *by_time), image.save(scenario, version)) for version in (1, 2))
     for _ in range(args.count if args.random else 0):
         scenario = long_scenario(pick)
-        yield ('figures', *moment_words(pick, scenario)), any_input(pick, scenario)
+        begin = moment_words(pick, scenario)
+        every = step_words(pick, scenario, begin)
+        options = [begin, every, *[('--series',)] * (pick.random() < (.5 if every else .03)), *[('--names',)] * (pick.random() < .4)]
+        if pick.random() < .02:
+            options.append(pick.choice(options))
+        pick.shuffle(options)
+        yield ('figures', *itertools.chain(*options)), any_input(pick, scenario)
+
+
+def span_of(scenario):
+    """Up to where there is something to count."""
+    net, last = simulate.Network(scenario), 0
+    for line in iter(net.step, None):
+        last = line.time
+    return scenario.end if any(port.busy for port in net.ports) else last
+
+
+def option(pick, name, word):
+    """An option with its value, in one of the forms."""
+    return (f'{name}={word}',) if pick.random() < .5 else (name, word)
 
 
 def moment_words(pick, scenario):
     """From where on is counted, where anything is said of it."""
     if pick.random() < 1 / 3:
         return ()
-    lines = itertools.islice(simulate.trace(scenario), 200)
-    moments = [int(line.split(' ', 2)[1]) for line in lines if not line.startswith('end')]
-    word = sessions.time(pick, moments or [0], scenario.end).decode()
-    return (f'--from={word}',) if pick.random() < .5 else ('--from', word)
+    return option(pick, '--from', sessions.time(pick, moments(scenario) or [0], scenario.end).decode())
+
+
+def step_words(pick, scenario, begin):
+    """How long a step is, where anything is said of it, behind these words for the first one's begin."""
+    chance = pick.random()
+    if chance < .3:
+        return ()
+    if chance < .33:
+        return option(pick, '--every', pick.choice(('0', '0s', '0.000ms', *map(bytes.decode, sessions.WRONG_TIMES))))
+    span = span_of(scenario)
+    if chance < .4:
+        return option(pick, '--every', str(border_step(pick, scenario, begin, span)))
+    step = max(1, span // pick.choice((1, 2, 3, 10, 30, 100, 200)) + pick.choice((0, 1)))
+    return option(pick, '--every', sessions.spelled(pick, step).decode())
+
+
+def border_step(pick, scenario, begin, span):
+    """The shortest step with no more rows than there may be, where the run has few of them, or one that is shorter by 1."""
+    try:
+        begin = grammar.time_in(begin[-1].rpartition('=')[2].encode()) if begin else 0
+    except Refused:
+        begin = 0
+    most = figures.MOST_ROWS // (len(figures.FLOW_STEP) * len(scenario.flows) + len(figures.LINK_STEP) * len(scenario.links))
+    step = 1 + max(0, scenario.end - begin) // most
+    return step if max(0, span - begin) // step < 300 and pick.random() < .7 else step - 1
 
 
 def any_input(pick, scenario):

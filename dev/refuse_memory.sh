@@ -1,11 +1,11 @@
 #!/usr/bin/env bash
 # Refuses requests for memory of the built program, one in each run, and looks at how the run ends. It
 # has to end as always, or with status 4 and the note 'no memory'; then `run` wrote a beginning of its
-# trace in whole lines, and every other word nothing. By several workers in several groups these are the
-# lines of all events before some moment: the line behind the last one is of a later moment. A thread that
-# finds no memory to start with is done without. A run that takes longer than 10 seconds, ends by a signal,
-# still holds a block of memory as it ends or writes another byte is a failure. The whole trace is the one
-# beside the scenario, where there is one.
+# trace in whole lines, `figures --every` its table, or not even that, and whole steps, and every other word
+# nothing. By several workers in several groups a trace has the lines of all events before some moment: the
+# line behind the last one is of a later moment. A thread that finds no memory to start with is done without.
+# A run that takes longer than 10 seconds, ends by a signal, still holds a block of memory as it ends or writes
+# another byte is a failure. The whole trace is the one beside the scenario, where there is one.
 # With one worker each request is refused once. With more the order of requests is not fixed, so each
 # number up to twice the count of a whole run is tried once.
 # With words behind the scenario it tries these, or `run` where there is none, and says how often each
@@ -28,9 +28,15 @@ ends_inside_a_moment() {
   awk -v n="$2" 'NR == n { moment = $2 } NR == n + 1 { same = $1 != "end" && $2 == moment; exit } END { exit !same }' "$1"
 }
 
+# ends_inside_a_step ROWS N: whether line N and the next are both of the table, or of one step
+ends_inside_a_step() {
+  awk -F, -v n="$2" '{ part = $1 == "time" ? "heading" : $1 ~ /^[0-9]/ ? $1 : "table" }
+    NR == n { last = part } NR == n + 1 { same = part == last; exit } END { exit !same }' "$1"
+}
+
 # tried INPUT WORD..: refuses the requests of one run, in a folder of its own, and says what came.
 tried() {
-  local input=$1 here said many=0 parted=0 lines=0 before=''
+  local input=$1 here said many=0 parted=0 by_time=0 lines=0 before=''
   local status note whole_status whole_note requests held last n answer wrote count refusals=0
   shift
   here=$(mktemp -d -p "$work") || return 2
@@ -41,6 +47,7 @@ tried() {
       --workers[0-9]* | --workers=*) many=1 ;;
       --groupsone | --groups=one) ;;
       --groups?* ) parted=1 ;;
+      --every*) by_time=1 ;;
     esac
     before=''
     case $word in --workers | --groups) before=$word ;; esac
@@ -91,7 +98,7 @@ tried() {
     [ "$status" = 4 ] || { failed 'another status'; return 1; }
     wrote='nothing'
     if [ -s "$here/out" ]; then
-      [ "${1-}" = run ] || { failed 'a part was written'; return 1; }
+      [ "${1-}" = run ] || [ "$by_time" = 1 ] || { failed 'a part was written'; return 1; }
       head -c "$(stat -c %s "$here/out")" "$here/whole" | cmp -s - "$here/out" ||
         { failed 'the output is no beginning of the whole one'; return 1; }
       [ -z "$(tail -c 1 "$here/out")" ] || { failed 'the output ends inside a line'; return 1; }
@@ -99,6 +106,10 @@ tried() {
       [ "$count" -lt "$lines" ] || { failed 'all was written, and the status is 4'; return 1; }
       if [ "$parted$many" = 11 ] && ends_inside_a_moment "$here/whole" "$count"; then
         failed 'the output ends inside a moment'
+        return 1
+      fi
+      if [ "$by_time" = 1 ] && ends_inside_a_step "$here/whole" "$count"; then
+        failed 'the output ends inside a step'
         return 1
       fi
       wrote='whole lines'
@@ -147,7 +158,7 @@ for workers in 1 2 4; do
   row "$first" run --groups each --workers "$workers"
 done
 for input in "$first" "$work/image"; do
-  for words in asm dis run figures; do
+  for words in asm dis run figures 'figures --every 1ms' 'figures --every=1ms --series --names'; do
     row "$input" $words
   done
 done

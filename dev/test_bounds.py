@@ -48,6 +48,7 @@ lose a 2
 lose b 1
 lose b 3
 '''
+BY_TIME = '--every', '2ms', '--series'
 COMMANDS = b'---\nbreak kind data\nstate\nstep 1\nbak\n'
 
 
@@ -409,6 +410,7 @@ class Ends:
             (('dis',), FIRST, CANONICAL),
             (('dis',), IMAGE, CANONICAL),
             (('figures',), FIRST, model(('figures',), FIRST).out),
+            (('figures', *BY_TIME), FIRST, model(('figures', *BY_TIME), FIRST).out),
             (('debug',), commands, answers),
             (('debug', '--groups', 'each', '--workers', '2'), commands, answers),
         ]
@@ -432,11 +434,11 @@ class Ends:
 
     def whole(self, words, data, out):
         """How many calls a session reads with, and how many bytes each call takes that writes, where none
-        fails. What goes out at once takes as few calls as it can."""
+        fails. What goes out at once takes as few calls as it can; rows by time go out a step at a time."""
         found, reads, took = self.ended('whole', words, data)
         assert found == Answer(0, out, '')
         assert sum(took) == len(out)
-        if words[0] != 'debug' and '--groups' not in words:
+        if words[0] != 'debug' and not {'--groups', '--every'} & set(words):
             assert took[:-1] == [MOST_A_CALL] * (len(took) - 1)
         assert reads == (calls_for(len(data)) + 1 if data else 0)
         return reads, took

@@ -26,8 +26,8 @@ with open({model!r} + '/tcpsim_model/command_line.py') as file:
 '''
 at_prompt = prompt.Prompt
 right = {name: getattr(place, name) for place, name in (
-    (at_prompt, 'answer'), (at_prompt, 'quits'), (at_prompt, 'on_break'), (at_prompt, 'where'), (at_prompt, 'of_node'),
-    (at_prompt, 'of_flow'), (prompt, 'time_in'), (prompt, 'numbered'), (prompt.Marked, 'is_met'), (waits, 'standing'),
+    (at_prompt, 'answer'), (at_prompt, 'quits'), (at_prompt, 'on_break'), (at_prompt, 'where'), (at_prompt, 'on_where'), (at_prompt, 'of_node'),
+    (at_prompt, 'of_flow'), (at_prompt, 'move'), (prompt, 'time_in'), (prompt, 'numbered'), (prompt.Marked, 'is_met'), (waits, 'standing'),
     (waits, 'waiting'), (prompt, 'edits'))}
 
 
@@ -86,6 +86,22 @@ def stalls_match_as_long_as_they_last(self):
     return line
 
 
+def the_matching_line_is_left_out(self, name, *numbers):
+    told = right['move'](self, name, *numbers)
+    before, where, after = told.rpartition('\nat ')
+    return before[:before.rfind('\n') + 1] + where[1:] + after if '\nbreak ' in after else told
+
+
+def a_position_is_one_further(self, position):
+    self.back(self.net.position)
+    self.step(position + 1)
+
+
+def only_the_present_position_is_known(self, words):
+    self.known = self.debugger.net.position
+    return right['on_where'](self, words)
+
+
 def names_the_congestion_window(net, flow):
     return right['standing'](net, flow).replace('rwnd', 'cwnd')
 
@@ -119,6 +135,11 @@ FAULTS = {
     'conditions are told in another order': (7, grammar, 'CONDITIONS', grammar.CONDITIONS[::-1]),
     'a drop is at no link': (7, prompt.Marked, 'is_met', drops_are_at_no_link),
     'a stall that goes on matches again': (8, prompt.Marked, 'event', stalls_match_as_long_as_they_last),
+    'the first ten lines are shown': (9, prompt, 'last_shown', prompt.first_shown),
+    'the matching line is left out': (9, at_prompt, 'move', the_matching_line_is_left_out),
+    'goto goes one event further': (9, prompt.Marked, 'goto', a_position_is_one_further),
+    'where knows where it is alone': (9, at_prompt, 'on_where', only_the_present_position_is_known),
+    'w is where': (9, at_prompt, 'NAMES', {b'where': 9, **prompt.NAMES}),
     'a word of four bytes has no nearest name': (1, prompt, 'MOST_WORD', 3),
     'the last of the nearest is told': (1, prompt, 'edits', lambda word, name: right['edits'](word, name) - list(prompt.NAMES).index(name) / 99),
     'a 64th breakpoint is refused': (1, debugger, 'MOST_BREAKS', 63),

@@ -13,7 +13,7 @@ from clone import outcome, paths, read, wide
 SCENARIO = read(paths('two_timeouts_in_a_row')[0])
 COMMANDS = b'---\nbreak drop\nrun\nback 3\nuntil 2000000000\nstate\n'
 EACH, FOUND = ('--groups', 'each', '--workers', '2'), ('--groups', 'auto', '--workers', '4')
-RUNS = (('asm',), ('dis',), ('figures',), ('run',), ('run', *EACH), ('debug',), ('debug', *EACH))
+RUNS = (('asm',), ('dis',), ('figures',), ('figures', '--every', '100ms', '--names'), ('run',), ('run', *EACH), ('debug',), ('debug', *EACH))
 # Of a run by threads so many requests are refused, one in each run.
 REFUSED = 60
 

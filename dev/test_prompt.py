@@ -56,6 +56,9 @@ LINES = {
         b'u 9s', b're', b'', b'', b'r', b'c', b'help', b'h br'],
     8: [b'back 999', b'br stall', b'break stall 0', b'br  stall', b'r', b'w 0', b'', b'w 0', b'', b're', b'', b'', b'd 1', b'r', b'br kind rto', b'r', b're',
         b'breaks', b'c'],
+    9: [b'back 999', b'where', b'whe', b'goto 25', b'', b'g 3', b'', b'wher', b'goto 26', b'got 11', b'', b'go 0', b'g 1000000000000000', b'where',
+        b'until 1ms', b'', b'u 9s', b'goto 12', b'break kind ack', b'g 10', b'g 18', b're', b'', b're 1', b'', b'u 3s', b'', b'', b'where', b'c', b'help goto',
+        b'h g', b'h n', b'h whe', b'h w', b'goto 1000000', b'reverse', b'', b'where'],
 }
 REFUSALS = {
     0: [(b'bak 1', b'B1'), (b'step 01', b'B3'), (b'break flow 1', b'B3'), (b'run 1', b'B2'), (b'break', b'B2')],
@@ -76,6 +79,9 @@ REFUSALS = {
         (b'br node 0 flow 1', b'B3'), (b'br link 2', b'B3'), (b'br drop byte 9000000000001', b'B3'), (b'br byte 01 kind ack', b'B3')],
     8: [(b'br stall 1', b'B3'), (b'br stall x', b'B3'), (b'br stall 00', b'B3'), (b'br stall 0 0', b'B2'), (b'br stall 1 x', b'B2'), (b'br stal', b'B1'),
         (b'br stall drop', b'B3'), (b'br drop stall', b'B1'), (b'br node 0 stall 0', b'B1')],
+    9: [(b'goto', b'B2'), (b'goto 1 2', b'B2'), (b'g 1 s', b'B2'), (b'where 1', b'B2'), (b'goto x', b'B3'), (b'goto 01', b'B3'), (b'g 1.5', b'B3'),
+        (b'goto 1000000000000001', b'B3'), (b'gotos', b'B1'), (b'wheres', b'B1'), (b'print', b'B1'), (b'p cwnd', b'B1'), (b'watch', b'B1'), (b'wa', b'B1'), (b'info', b'B1'),
+        (b'i', b'B1'), (b'infos', b'B1')],
 }
 
 
@@ -262,7 +268,7 @@ def test_the_nearest_command():
         noted = PROMPT + NO_NAME + b'tcpsim: no command ' + shown + b'; the nearest is ' + nearest + b'\n' + PROMPT
         for line in (word, b'  ' + word + b'  1'):
             assert debug(ONE, line + b'\n') == (0, b'', noted)
-    for line in (b'x' * 33, b'break n 0', b'state kind rto', b'help stpe'):
+    for line in (b'x' * 33, b'state kind rto', b'help stpe'):
         assert debug(ONE, line + b'\n') == (0, b'', PROMPT + NO_NAME + PROMPT)
 
 

@@ -73,8 +73,12 @@ PROGRESS = '      --progress     Say on standard error how far the run is\n'
 FLAGS = '''      --explain      Show on standard error why an input is refused
   -h, --help         Print help
 '''
-# The same beside an option of ten letters, as figures has one.
-NARROW = '      --from <T>  Count from this moment on, as 1.5s, 20ms or 10000ns\n' + ''.join(line[:16] + line[19:] for line in (PROGRESS + FLAGS).splitlines(keepends=True))
+# The same beside an option of eleven letters, as figures has one.
+NARROW = '''      --from <T>   Count from this moment on, as 1.5s, 20ms or 10000ns
+      --every <D>  Print rows by time behind the table, a row a figure, in steps as 1.5s or 20ms
+      --series     Print the rows of --every without the table
+      --names      Print the names of a text's flows and links in a last column
+''' + ''.join(line[:17] + line[19:] for line in (PROGRESS + FLAGS).splitlines(keepends=True))
 PLAIN = '''      --explain  Show on standard error why an input is refused
   -h, --help     Print help
 '''
@@ -122,7 +126,9 @@ MISTAKEN = (
     (('debug', 'file', 'other'), 'debug', unexpected('other', False)), (('dis', '--fast'), 'dis', unexpected('--fast')),
     (('run', '--version'), 'run', unexpected('--version')), (('explain', 'E1', 'E2'), 'explain', unexpected('E2', False)),
     (('debug', '--progress'), 'debug', unexpected('--progress')), (('figures', ONE, 'twice'), 'figures', unexpected('twice', False)),
-    (('run', '--explain', '--explain'), 'run', "the argument '--explain' cannot be used multiple times"))
+    (('run', '--explain', '--explain'), 'run', "the argument '--explain' cannot be used multiple times"),
+    (('run', '--names'), 'run', unexpected('--names')), (('debug', '--every', '1s'), 'debug', unexpected('--every')),
+    (('figures', '--series', '--series'), 'figures', "the argument '--series' cannot be used multiple times"))
 # Values that are refused.
 VALUES = (
     (('--workers', '0'), "invalid value '0' for '--workers <N>': 0 is not in 1..=64"),

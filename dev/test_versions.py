@@ -20,6 +20,7 @@ from tcpsim.sweeps.columns import FROM
 from tcpsim_model import figures, grammar, image, prompt
 from tcpsim_model.text import assemble
 
+BY_TIME = 4         # the number of the figures' format from which on they are there by time and with names
 SAMPLES = 'three_losses', 'newreno_in_a_network', 'codel_drops_before_it_sends', 'two_flows_over_a_router', 'delayed_acknowledgement'
 # Of each format, what its samples come to under each number that it had. A row stays; a change adds one.
 SUMS = {
@@ -28,8 +29,10 @@ SUMS = {
               2: 'de7c8e8492e842135b272ed296464491bb5cfea322acc171ee7c6c0d0b37fc62'},
     'figures': {1: '07379970f447a5675127215933c9ca806fe81777301fc3d82c037b934a872009',
                 2: 'a5a273eacd6ae41ac1b2500ada1b4a7f1c60579914ef3d0a89cc3b62cebb035c',
-                3: '9a91d5ca7836e1db6338b0c9b9abbaa4966552d9744570a8f1eee96d5727dca2'},
-    'prompt': {8: '591e69b6d09eb58b3a7706631c570633ae5cbb70f80251582ec97e076f89f2be'},
+                3: '9a91d5ca7836e1db6338b0c9b9abbaa4966552d9744570a8f1eee96d5727dca2',
+                4: 'bf2d1450e862c4265a6f7b480fba19cbdcef70af53146c9474878741151a30d5'},
+    'prompt': {8: '591e69b6d09eb58b3a7706631c570633ae5cbb70f80251582ec97e076f89f2be',
+               9: '2b3ffb7d232e7f32ed4c4fdef66fa8fb9482c1ae70ba3c084103ccf6512d9213'},
 }
 
 
@@ -46,12 +49,19 @@ def prompt_words():
     return [repr(sorted(grammar.NAMES.items())).encode(), *grammar.CONDITIONS, *sorted(grammar.TOPICS)]
 
 
+def named_by_time(scenario):
+    """A table with names, and rows by time behind it."""
+    names = figures.names_of(scenario)
+    return ''.join([figures.figures(scenario, 0, names), *figures.series(scenario, 1_000_000, 500_000, names)]).encode()
+
+
 def sum_of(format_, number):
     """What the samples of a format come to."""
     first = assemble(read('examples', 'one_segment.txt'))
     parts = {'trace': lambda: samples('trace'), 'image': lambda: images(number), 'prompt': prompt_words,
              'figures': lambda: [re.sub(r'[^,]*$', '', figures.figures(first), flags=re.M).encode(),
-                                 *([figures.figures(first, 2_000_000).encode()] if number >= FROM else [])]}[format_]()
+                                 *([figures.figures(first, 2_000_000).encode()] if number >= FROM else []),
+                                 *([named_by_time(first)] if number >= BY_TIME else [])]}[format_]()
     taken = hashlib.sha256()
     for part in parts:
         taken.update(b'%d\n%s' % (len(part), part))

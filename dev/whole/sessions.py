@@ -192,7 +192,7 @@ at 5 of the run, time 2040000 ns
 break 3: node 2 flow 0 link 2 byte 0
 {EQUAL[5]}at 6 of the run, time 2040000 ns, the end
 break 1: flow 1 kind data
-{EQUAL[5]}at 5 of the run, time 2040000 ns
+{EQUAL[5]}{EQUAL[4]}at 5 of the run, time 2040000 ns
 break 3: node 2 flow 0 link 2 byte 0
 break 4: node 4 flow 1 kind delack drop link 7 byte 9000000000000
 deleted 1: flow 1 kind data
@@ -223,10 +223,14 @@ OUTSIDE_TWO = [*refused('B3'), 'tcpsim: there are nodes 0 to 4, links 0 to 7, fl
 # What a word is refused with that begins no name, and the name that is nearest to it.
 NO_NAME = [*refused('B1'), 'tcpsim: no command bak; the nearest is back']
 
+# The notes of a time that is none, and of a condition that is none.
+NO_TIME = [*refused('B3'), 'tcpsim: a time has a unit, ns, us, ms or s, as 1.5s: see help until']
+NO_SORT = [*refused('B1'), 'tcpsim: conditions are node N, flow F, kind K, drop, link L, byte B; or stall: see help break']
+
 # The lines that are typed, how many of them are read and one more where the input ends, what is answered, and what is
 # told of lines that are refused.
 LINES_TYPED = [
-    (CUT_SHORT, 11, MOVED, NO_NAME + refused('B3', 'B2', 'B3', 'B2')),
+    (CUT_SHORT, 11, MOVED, NO_NAME + NO_TIME + refused('B2') + NO_TIME + refused('B2')),
     (REFUSED, 9, MOVED, NO_NAME + refused('B3', 'B2') + OUTSIDE),
     (BREAKPOINTS, 16, NUMBERED, refused('B5', 'B5', 'B5', 'B3', 'B1')),
     (LINES, 17, TOLD, refused('B3', 'B2')),
@@ -234,5 +238,5 @@ LINES_TYPED = [
 
 # The same over two flows of equal times.
 LINES_OF_EQUAL_TIMES = [
-    (CONDITIONS, 21, MATCHED, OUTSIDE_TWO * 2 + refused('B2', 'B2', 'B2', 'B2', 'B2', 'B1') + OUTSIDE_TWO),
+    (CONDITIONS, 21, MATCHED, OUTSIDE_TWO * 2 + refused('B2', 'B2', 'B2', 'B2', 'B2') + NO_SORT + OUTSIDE_TWO),
 ]

@@ -1,7 +1,7 @@
 """tcpsim's model: reads a scenario, writes standard output, a note on standard error, a status.
 
 Usage: tcpsim-model run|debug [--workers N] [--groups G] [FILE]
-       tcpsim-model figures [--from T] [FILE]
+       tcpsim-model figures [--from T] [--every D [--series]] [--names] [FILE]
        tcpsim-model asm|dis [FILE]
        tcpsim-model debug [--workers N] [--groups G] [--steps N] FILE
 
@@ -11,6 +11,9 @@ typed at a prompt.
   --workers N  from 1 to 64; it changes nothing
   --groups G   one, each, auto, or a number for each node, with commas between them; it changes nothing
   --from T     counts from this moment on, as 1.5s, 20ms or 10000ns
+  --every D    rows by time behind the table, in steps as 1.5s or 20ms
+  --series     these rows without the table
+  --names      the names of a text's flows and links in a last column
   --steps N    at a prompt: the grammar after the first N steps in which it was made; 0 is that of the other form
   --help       show this
 """
@@ -21,9 +24,9 @@ import signal
 import sys
 from collections import namedtuple
 
-from tcpsim_model import grammar, later, prompt
+from tcpsim_model import grammar, prompt
 from tcpsim_model.debugger import session, split
-from tcpsim_model.figures import figures
+from tcpsim_model.figures import are_too_many, figures, names_of, series
 from tcpsim_model.image import load, save
 from tcpsim_model.scenario import Refused
 from tcpsim_model.simulate import trace
@@ -31,6 +34,13 @@ from tcpsim_model.text import NUMBER, assemble, disassemble
 
 MOST_INPUT = 16_777_216
 GROUP = re.compile(r'0|[1-9][0-9]?')
+OPTIONS = {'run': ('--workers', '--groups'), 'debug': ('--workers', '--groups', '--steps'), 'figures': ('--from', '--every')}
+FLAGS = {'figures': ('--series', '--names')}
+# What is said of words that are judged behind the input.
+NO_MOMENT = 'error: --from takes a moment, as 1.5s, 20ms or 10000ns'
+NO_STEP = 'error: --every takes a time above 0, as 1.5s or 20ms, and --series wants --every'
+TOO_MANY_ROWS = "error: more than 10000000 rows up to the scenario's end; --every takes a longer step"
+BEHIND_INPUT = 'refused groups', NO_MOMENT, NO_STEP, TOO_MANY_ROWS
 
 
 class WrongWords(Exception):
@@ -41,12 +51,12 @@ class CannotRead(Exception):
     """A file that cannot be read."""
 
 
-Asked = namedtuple('Asked', 'command groups steps file moment')
+Asked = namedtuple('Asked', 'command groups steps file begin every flags')
 
 
 def options_of(words):
-    """What the words ask for: the subcommand, the groups, the steps of the prompt's grammar, the file, and the moment from which
-    on is counted."""
+    """What the words ask for: the subcommand, the groups, the steps of the prompt's grammar, the file, the moment from which on
+    is counted, the length of a step, and the flags."""
     if not words or words[0] not in ('run', 'asm', 'dis', 'figures', 'debug'):
         raise WrongWords
     command, rest, given, file = words[0], list(words[1:]), {}, None
@@ -56,10 +66,10 @@ def options_of(words):
             file = word
             continue
         name, _, value = word.partition('=')
-        options = {'run': ('--workers', '--groups'), 'debug': ('--workers', '--groups', '--steps'), 'figures': ('--from',)}
-        if name not in options.get(command, ()) or name in given:
+        flag = word in FLAGS.get(command, ())
+        if not flag and name not in OPTIONS.get(command, ()) or name in given:
             raise WrongWords
-        if not value:
+        if not value and not flag:
             if not rest or rest[0].startswith('-') and rest[0] != '-':
                 raise WrongWords
             value = rest.pop(0)
@@ -67,9 +77,10 @@ def options_of(words):
     workers, steps = given.get('--workers', '1'), given.get('--steps', str(prompt.BUILT))
     if not NUMBER.fullmatch(workers.encode()) or not 1 <= int(workers) <= 64:
         raise WrongWords
-    if not NUMBER.fullmatch(steps.encode()) or int(steps) > later.STEPS:
+    if not NUMBER.fullmatch(steps.encode()) or int(steps) > prompt.STEPS:
         raise WrongWords
-    return Asked(command, given.get('--groups', 'one'), int(steps), None if file == '-' else file, given.get('--from', '0'))
+    return Asked(command, given.get('--groups', 'one'), int(steps), None if file == '-' else file, given.get('--from', '0'),
+                 given.get('--every'), given.keys() & FLAGS.get(command, ()))
 
 
 def check_groups(groups, nodes):
@@ -80,12 +91,27 @@ def check_groups(groups, nodes):
     return len(numbers) == nodes and all(GROUP.fullmatch(n) and int(n) <= 63 for n in numbers)
 
 
-def moment_of(asked):
-    """The moment from which on is counted; it is judged behind the input, as groups are."""
+def moment_of(word, note):
+    """The moment that a word names; it is judged behind the input, as groups are."""
     try:
-        return grammar.time_in(asked.moment.encode())
+        return grammar.time_in(word.encode())
     except Refused:
-        raise WrongWords('error: --from takes a moment, as 1.5s, 20ms or 10000ns') from None
+        raise WrongWords(note) from None
+
+
+def pieces_of_figures(asked, scenario):
+    """The table of a scenario's figures, its rows by time, or both."""
+    begin, alone = moment_of(asked.begin, NO_MOMENT), '--series' in asked.flags
+    step = 0 if asked.every is None else moment_of(asked.every, NO_STEP)
+    if not step and (alone or asked.every is not None):
+        raise WrongWords(NO_STEP)
+    if step and are_too_many(scenario, begin, step):
+        raise WrongWords(TOO_MANY_ROWS)
+    names = names_of(scenario) if '--names' in asked.flags else None
+    if not alone:
+        yield figures(scenario, begin, names)
+    if step:
+        yield from series(scenario, begin, step, names)
 
 
 def read(data):
@@ -111,10 +137,9 @@ def output(asked, data):
         yield save(scenario)
     elif asked.command == 'dis':
         yield disassemble(scenario)
-    elif asked.command == 'figures':
-        yield figures(scenario, moment_of(asked)).encode()
     else:
-        for piece in trace(scenario) if asked.command == 'run' else session(data):
+        texts = {'run': lambda: trace(scenario), 'debug': lambda: session(data), 'figures': lambda: pieces_of_figures(asked, scenario)}
+        for piece in texts[asked.command]():
             yield piece.encode()
 
 
@@ -142,8 +167,7 @@ def main(words, keys, write, tell=lambda note: None, contents=contents):
             for piece in output(asked, keys.read() if asked.file is None else contents(asked.file)):
                 write(piece)
         else:
-            kind = prompt.Prompt if asked.steps <= prompt.STEPS else later.Prompt
-            for piece, note in prompt.typed_into(kind(scenario_of(asked, contents(asked.file)), asked.steps), lines_typed(keys)):
+            for piece, note in prompt.typed(scenario_of(asked, contents(asked.file)), lines_typed(keys), asked.steps):
                 write(piece.encode())
                 tell(note.encode())
     except WrongWords as wrong:

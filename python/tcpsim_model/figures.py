@@ -1,4 +1,5 @@
-"""The figures of a run: what its flows delivered and sent again, and what its links carried, dropped and let wait.
+"""The figures of a run: what its flows delivered and sent again, and what its links carried, dropped and let wait. They are
+those of a whole run, of all from a moment on, or of each step of its time.
 
 A run is counted state by state; all numbers of which a percentile is asked for are kept."""
 from array import array
@@ -10,6 +11,10 @@ from tcpsim_model.simulate import BITS_NS, Network
 HEADING = 'what,number,figure,unit,value'
 # Those that each link has; a queue of another's making can have more.
 REASONS = {'lost': 'dropped as lost', 'full': 'dropped as full', 'codel': 'dropped by CoDel'}
+# What a step has of each flow and of each link.
+FLOW_STEP = ('delivered', 'sent', 'sent again by fast retransmit', 'sent again by timeout', 'timeouts', 'cwnd', 'in flight')
+LINK_STEP = ('busy', 'sent packets', 'sent bytes', *REASONS.values(), 'waited', 'greatest queue', 'median delay in the queue')
+MOST_ROWS = 10**7       # of a series, up to the scenario's end
 
 
 # Percentiles, of numbers that are counted in classes.
@@ -78,6 +83,11 @@ class LinkCount:
         self.length, self.since = length, now
         self.longest = max(self.longest, length)
 
+    def close(self, moment, length):
+        """Counts up to a moment: a packet that is being sent is busy with the link for longer."""
+        self.state(moment, length)
+        self.busy -= max(0, self.until - moment)
+
 
 class Counted(Network):
     """A net that counts what its events do."""
@@ -94,8 +104,19 @@ class Counted(Network):
         self.of_flows = [FlowCount(self.ends[flow.receiver].next, count.completed)
                          for flow, count in zip(self.flows, self.of_flows)]
         for port, count in zip(self.ports, self.of_links):
-            count.begin(moment, port.offered, len(port.queue.entries))
+            count.begin(min(moment, self.end), port.offered, len(port.queue.entries))
         self.events, self.last = 0, None
+
+    def run_before(self, moment):
+        """Runs the events before a moment, and counts up to there."""
+        while (event := self.due()) is not None and event[0] < moment:
+            self.step()
+        for port, count in zip(self.ports, self.of_links):
+            count.close(min(moment, self.end), len(port.queue.entries))
+
+    def goes_on(self, moment):
+        """Whether anything is to be counted from a moment on, before which all events were run."""
+        return self.due() is not None or moment < self.end and any(port.busy for port in self.ports)
 
     def at_sender(self, node, now, numbers):
         self.plan = numbers
@@ -155,17 +176,37 @@ class Counted(Network):
             count.completed = line.time
 
 
+def begun(scenario, since):
+    """The net before its first event at a moment or past it, counted from there on."""
+    net = Counted(scenario)
+    net.run_before(since)
+    net.begin(since)
+    return net
+
+
 def run(scenario, since=0):
     """The net after its last event, all counted from a moment to the scenario's end: the events at the moment or past it."""
-    net = Counted(scenario)
-    while (event := net.due()) is not None and event[0] < since:
-        net.step()
-    net.begin(min(since, net.end))
-    while net.step() is not None:
-        pass
-    for port in net.ports:
-        net.of_links[port.number].state(net.end, len(port.queue.entries))
+    net = begun(scenario, since)
+    net.run_before(net.end)
     return net
+
+
+def steps(scenario, since, length):
+    """Of each step its begin, its end, and the net there, counted from its begin on. The first begins at a moment."""
+    net, begin, on = begun(scenario, since), since, True
+    while on:
+        end = begin + length
+        net.run_before(end)
+        yield begin, end, net
+        on = net.goes_on(end)
+        net.begin(end)
+        begin = end
+
+
+def are_too_many(scenario, since, length):
+    """Whether there are more rows in steps of a length than there may be, up to the scenario's end."""
+    in_step = len(FLOW_STEP) * len(scenario.flows) + len(LINK_STEP) * len(scenario.links)
+    return max(0, scenario.end - since) // length + 1 > MOST_ROWS // in_step
 
 
 # What is written.
@@ -217,7 +258,51 @@ def rows(net):
     yield 'run', '', 'end', 'ns', net.last
 
 
-def figures(scenario, since=0):
+def window_rows(net, number, moment):
+    """A flow's window in the state before a moment, as its figures; there is none before it starts."""
+    flow = net.flows[number]
+    sender = net.ends[flow.sender] if flow.start < moment else None
+    return [('cwnd', 'bytes', sender and sender.cwnd), ('in flight', 'bytes', sender and sender.flight_size())]
+
+
+def chosen(figures_, rows_):
+    """The rows of these figures, in this order."""
+    found = {row[0]: row for row in rows_}
+    return [found[figure] for figure in figures_]
+
+
+def step_rows(net, end):
+    """The figures of a step, as all of a run."""
+    for number in range(len(net.flows)):
+        all_ = [*flow_rows(net, number), *window_rows(net, number, end)]
+        yield from (('flow', number, *row) for row in chosen(FLOW_STEP, all_))
+    for number in range(len(net.ports)):
+        yield from (('link', number, *row) for row in chosen(LINK_STEP, link_rows(net, number)))
+
+
+def names_of(scenario):
+    """The names that a text gives, by sort and number; an image has none."""
+    return {at: name.decode() for name, at in scenario.names.items()}
+
+
+def heading(names):
+    return HEADING + ('' if names is None else ',name') + '\n'
+
+
+def csv_line(words, names):
+    """A line of CSV: a row, with a name behind it where a column has them."""
+    *before, what, number, figure, unit, value = words
+    behind = [] if names is None else [names.get((what, number), '')]
+    return ','.join(map(str, (*before, what, number, figure, unit, '-' if value is None else value, *behind))) + '\n'
+
+
+def figures(scenario, since=0, names=None):
     """The CSV of a scenario's figures, from a moment on."""
-    lines = [','.join(map(str, (*words, '-' if value is None else value))) for *words, value in rows(run(scenario, since))]
-    return '\n'.join([HEADING, *lines, ''])
+    return heading(names) + ''.join(csv_line(row, names) for row in rows(run(scenario, since)))
+
+
+def series(scenario, since, length, names=None):
+    """The CSV of its figures by time, in steps from a moment on, a step at a time."""
+    yield f'time,{heading(names)}'
+    for begin, end, net in steps(scenario, since, length):
+        yield ''.join(csv_line((begin, *row), names) for row in step_rows(net, end))

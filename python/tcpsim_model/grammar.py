@@ -8,22 +8,27 @@ MOST_LINE = 65_536      # bytes
 MOST_WORD = 32          # bytes of a word whose nearest name is told
 # The names that a first word can begin, the first of them first, and the step that each came with.
 NAMES = {b'step': 1, b'back': 1, b'break': 1, b'breaks': 2, b'run': 1, b'reverse': 6, b'until': 1, b'state': 1, b'lines': 3,
-         b'delete': 2, b'clear': 1, b'help': 2, b'quit': 1, b'why': 5}
+         b'delete': 2, b'clear': 1, b'help': 2, b'quit': 1, b'why': 5, b'goto': 9, b'where': 9}
+BEFORE_TOPICS = 8       # names of these steps go before a topic behind `help`, later ones behind it
 # The conditions of a breakpoint, in the order in which its words are told.
 CONDITIONS = (b'node', b'flow', b'kind', b'drop', b'link', b'byte')
 MOST_BYTE = 9 * 10**12      # of the greatest flow
 # Of each name in the order of `help`: how it is used, what it does, what else there is to say, and an example.
 HELP = {
     b'step': ('step [K]', 'run the next K events (1)',
-        'It shows the lines of the trace that it passes, ten at most, and where it came to.\n', 'step 10'),
+        'It shows the last ten lines of the trace that it passes, how many more there are, and where it came to.\n', 'step 10'),
     b'back': ('back [K]', 'take the last K events back (1)',
-        'It shows the lines that it takes back, the latest first, ten at most, and where it came to.\n', 'back 10'),
+        'It shows the last ten lines that it takes back, the latest first, and where it came to.\n', 'back 10'),
     b'run': ('run', 'run until a breakpoint matches, or to the end',
         'It stops after the next event whose line a breakpoint matches, and shows that breakpoint.\n', 'run'),
     b'reverse': ('reverse', 'go back until a breakpoint matches, or to the beginning',
         'It stops after the last event before this position whose line a breakpoint matches, else at position 0.\n', 'reverse'),
     b'until': ('until T', 'run all events before the moment T, as 1.5s, 20ms or 10000ns',
-        'T is a number of nanoseconds, or has a unit: ns, us, ms or s. It only goes forwards.\n', 'until 20ms'),
+        'T is a number of nanoseconds, or has a unit: ns, us, ms or s. It only goes forwards, and else says so.\n', 'until 20ms'),
+    b'goto': ('goto N', 'go to position N, forwards or back, or to the end',
+        'N is how many events were run there, as the first number of a line of the trace.\n', 'goto 25'),
+    b'where': ('where', 'show the position, the next event, and how far the run is known to go',
+        'The next event is shown by the line that it gives. A run is known to go to where the session was.\n', 'where'),
     b'state': ('state [PART]', 'show all of the state, or of it: node N, link L or flow F',
         'node N and link L show one line each, flow F all that there is of a flow: both of its ends, the links\n'
         'where its packets wait, and its events to come. N, L and F are numbers from 0: help numbers\n', 'state flow 0'),
@@ -102,6 +107,15 @@ MEANINGS = {
     'B4': 'B4: a 65th breakpoint',
     'B5': 'B5: there is no breakpoint of this number',
 }
+# What a refusal tells of besides, since step 9: behind `break` the conditions, of the names that other debuggers have what does the
+# same, and of a time its units.
+SORTS_TOLD = 'conditions are node N, flow F, kind K, drop, link L, byte B; or stall: see help break'
+ELSEWHERE = {
+    b'print': 'state flow F shows all values of a flow, state link L those of a link: see help state',
+    b'watch': 'break stops where a line meets conditions: see help break',
+    b'info': 'state shows the state, where the position, breaks the breakpoints: see help',
+}
+UNITS_TOLD = 'a time has a unit, ns, us, ms or s, as 1.5s: see help until'
 # The commands that can have the number of a node, a link or a flow: where one is refused, those that there are are told.
 NUMBERED = (b'break', b'state', b'why')
 PLACES = {b'ns': 0, b'us': 3, b'ms': 6, b's': 9}     # of a time's unit: how many digits a nanosecond is behind it

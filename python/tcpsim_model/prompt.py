@@ -13,18 +13,20 @@ none reads lines as a session whose commands are all there (`debugger.obey`).
 6. Back to where a breakpoint matches.
 7. Breakpoints of several conditions, each sort once, which a line has to meet all.
 8. Breakpoints where a flow is stalled and was not before.
+9. Of a move the last lines, with the one that matched; to a position, either way; where the session is; what there is in
+   the place of what is refused.
 """
 from tcpsim_model.debugger import MOST, Debugger, breakpoint_of, matches, number_to, obey, set_breakpoint, words_in, words_wanted
-from tcpsim_model.grammar import (HELP, LAST_OF_HELP, MEANINGS, MOST_LINE, MOST_WORD, NAMES, NUMBERED, TOPICS, at_most,
-                                  conditions_in, count_in, edits, printable, time_in, usage, words_of)
+from tcpsim_model.grammar import (BEFORE_TOPICS, ELSEWHERE, HELP, LAST_OF_HELP, MEANINGS, MOST_LINE, MOST_WORD, NAMES, NUMBERED, SORTS_TOLD, TOPICS,
+                                  UNITS_TOLD, at_most, conditions_in, count_in, edits, printable, time_in, usage, words_of)
 from tcpsim_model.scenario import Refused
 from tcpsim_model.simulate import line_text
 from tcpsim_model.text import NUMBER
 from tcpsim_model.waits import why
 
-STEPS = 8
+STEPS = 9
 # How many of them the program has.
-BUILT = 8
+BUILT = 9
 PROMPT = '(tcpsim) '
 MOST_SHOWN = 10         # lines that a move passed
 MOST_LINES = 1_000      # of `lines`
@@ -35,9 +37,14 @@ def numbered(lines, after, to):
     return [line_text(n, lines[n - 1]) for n in range(after + 1, to + 1)]
 
 
-def shown(passed):
+def first_shown(passed):
     more = len(passed) - MOST_SHOWN
     return ''.join(passed[:MOST_SHOWN]) + (f'.. {more} more\n' if more > 0 else '')
+
+
+def last_shown(passed):
+    more = len(passed) - MOST_SHOWN
+    return (f'.. {more} more\n' if more > 0 else '') + ''.join(passed[-MOST_SHOWN:])
 
 
 class Marked(Debugger):
@@ -61,6 +68,12 @@ class Marked(Debugger):
     def back(self, count):
         self.marks = self.marks[:0]
         super().back(count)
+
+    def goto(self, position):
+        if position < self.net.position:
+            self.back(self.net.position - position)
+        else:
+            self.step(position - self.net.position)
 
     def is_matched(self, breakpoint, position):
         if not isinstance(breakpoint[0], tuple):
@@ -88,6 +101,7 @@ class Prompt:
     def __init__(self, scenario, steps=STEPS):
         self.debugger, self.steps = self.DEBUGGER(scenario), steps
         self.last = None        # the last move: its name and its numbers
+        self.known, self.ends = 0, False        # the greatest position where the session was; whether the run ends there
 
     def name_of(self, word):
         """The first name that the word begins."""
@@ -97,11 +111,9 @@ class Prompt:
         raise Refused('B1')
 
     def topic_of(self, word):
-        """The first name that the word begins, else the first topic."""
-        for topic in self.TOPICS:
-            if topic.startswith(word) and not any(step <= self.steps and name.startswith(word) for name, step in self.NAMES.items()):
-                return topic
-        return self.name_of(word)
+        """The first name that the word begins, else the first topic, else a later name."""
+        old = any(name.startswith(word) for name, step in self.NAMES.items() if step <= min(self.steps, BEFORE_TOPICS))
+        return next((topic for topic in self.TOPICS if topic.startswith(word) and not old), None) or self.name_of(word)
 
     def quits(self, line):
         words = words_in(line)
@@ -128,11 +140,21 @@ class Prompt:
         if self.steps == 0:
             return note
         note += MEANINGS[refusal.code] + '\n'
+        if refusal.code == 'B3' and self.steps >= 9 and self.has_time(line):
+            note += f'tcpsim: {UNITS_TOLD}\n'
         return note + {'B1': self.nearest, 'B3': self.numbers}.get(refusal.code, lambda word: '')((words_in(line) or [b''])[0])
 
+    def has_time(self, line):
+        """Whether a line can have a time."""
+        return self.name_of(words_in(line)[0]) == b'until'
+
     def nearest(self, word):
-        """The line that tells the nearest name to a word that begins none."""
+        """The line that tells what there is in the place of a word that is none: the nearest name to one that begins none."""
         names = [name for name, step in self.NAMES.items() if step <= self.steps]
+        if self.steps >= 9 and word:
+            begun = next((name for name in (*names, *ELSEWHERE) if name.startswith(word)), None)
+            if begun == b'break' or begun in ELSEWHERE:
+                return f'tcpsim: {SORTS_TOLD if begun == b"break" else ELSEWHERE[begun]}\n'
         if len(word) > MOST_WORD or any(name.startswith(word) for name in names):
             return ''
         nearest = min(names, key=lambda name: edits(word, name))
@@ -155,7 +177,14 @@ class Prompt:
         now = self.debugger.net.position
         passed = numbered(self.debugger.lines, position, now) if now > position else numbered(before, now, position)[::-1]
         stops = now > position or name == 'reverse' and now > 0
-        return shown(passed) + self.where() + (self.what_matched() if stops else '')
+        matched = self.where() + (self.what_matched() if stops else '')
+        if self.steps < 9:
+            return first_shown(passed) + matched
+        self.known, self.ends = max(self.known, now), self.ends or not self.debugger.net.due()
+        if name == 'reverse' and now > 0:
+            passed.append(line_text(now, self.debugger.lines[-1]))
+        idle = f'nothing was done: no event before {numbers[0]} ns is left\n' if name == 'until' and now == position else ''
+        return idle + last_shown(passed) + matched
 
     def where(self):
         """The line that says where in the run the session is."""
@@ -191,6 +220,18 @@ class Prompt:
         if len(words) != 1:
             raise Refused('B2')
         return self.move('until', time_in(words[0]))
+
+    def on_goto(self, words):
+        if len(words) != 1:
+            raise Refused('B2')
+        return self.move('goto', number_to(MOST, words[0]))
+
+    def on_where(self, words):
+        at_most(words, 0)
+        on = Marked(self.debugger.scenario)
+        on.step(self.debugger.net.position + 1)
+        due = line_text(on.net.position, on.lines[-1]) if self.debugger.net.due() else 'none\n'
+        return f'{self.where()}next: {due}known to {"end at" if self.ends else "go to"} {self.known}\n'
 
     def on_state(self, words):
         if not words or self.steps < 4:

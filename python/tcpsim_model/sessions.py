@@ -15,7 +15,7 @@ WRONG_TIMES = (b'1.5', b'1.s', b'.5s', b's', b'ms', b'.', b'.s', b'01s', b'00.5s
                b'1.' + b'0' * 30 + b's')
 NO_COMMANDS = (b'bak', b'stepp', b'Step', b'S', b'steps', b'runn', b'x', b'?', b'---', b'#', b'# step', b'0', b'w', b'why', b'quitt',
                b'exit', b'cl ear', b'unti1', b'\xff', b'\0', b'step\t1', b'step\r', b'\tstep', b'\t', b'\r', b'\xc2\xa0', b'\x0b',
-               b'step\xc2\xa01', b'run\x0c')
+               b'step\xc2\xa01', b'run\x0c', b'gotos', b'goto', b'whe', b'where 1', b'print', b'p', b'print 3', b'watch', b'wa', b'inf', b'i', b'break foo', b'bre', b'infos')
 SPACES = (b' ', b' ', b' ', b' ', b' ', b'  ', b'   ', b'      ')
 
 
@@ -33,7 +33,12 @@ def time(pick, moments, end):
     chance = pick.random()
     if chance < 0.2:
         return pick.choice(TIMES_AT_BOUNDS + WRONG_TIMES + WRONG_NUMBERS)
-    moment = pick.choice((*[pick.choice(moments) + pick.choice((0, 0, 1))] * 6, pick.randint(0, moments[-1] + 10**6), end, MOST))
+    return spelled(pick, pick.choice((*[pick.choice(moments) + pick.choice((0, 0, 1))] * 6, pick.randint(0, moments[-1] + 10**6), end,
+                                      MOST)))
+
+
+def spelled(pick, moment):
+    """A moment in one of the forms, seldom in a wrong one."""
     unit = pick.choice((b'', *PLACES))
     places = PLACES.get(unit, 0)
     whole, part = divmod(moment, 10**places)
@@ -49,6 +54,8 @@ def breakpoint_of(pick, scenario, steps):
     """The words of a breakpoint, most of them right."""
     if steps >= 8 and pick.random() < 0.3:
         return [b'stall'] + [number(pick, pick.randrange(len(scenario.flows)))] * pick.choice((0, 1, 1))
+    if steps >= 7 and pick.random() < 0.1:
+        return [b'link', value_of(pick, b'link', scenario), b'drop']
     words = condition(pick, scenario, steps)
     while steps >= 7 and pick.random() < 0.4:
         words += condition(pick, scenario, steps)
@@ -88,6 +95,8 @@ def words_behind(pick, name, scenario, moments, steps):
         return [number(pick, 0, 1, 1, 2, 5, 12, 40, 300, MOST)] if pick.random() < 0.6 else []
     if name == b'until':
         return [time(pick, moments, scenario.end)]
+    if name == b'goto':
+        return [number(pick, 0, 1, 5, 11, 12, 40, 300, MOST, MOST + 1) if steps < 10 or pick.random() < 0.5 else time(pick, moments, scenario.end)]
     if name == b'break':
         return breakpoint_of(pick, scenario, steps)
     if name == b'why':
@@ -145,7 +154,7 @@ def any_line(pick, scenario, moments, steps):
         return pick.choice((b'', b'', b'', b' ', b'   '))
     if chance < 0.17:
         return pick.choice(NO_COMMANDS)
-    weights = {b'quit': 0.08, b'clear': 0.5, b'run': 2, b'reverse': 2, b'step': 2, b'break': 2, b'until': 2}
+    weights = {b'quit': 0.08, b'clear': 0.5, b'run': 2, b'reverse': 2, b'step': 2, b'break': 2, b'until': 2, b'goto': 2}
     names = [name for name, step in NAMES.items() if step <= max(steps, 1) or pick.random() < 0.05]
     name = pick.choices(names, [weights.get(name, 1) for name in names])[0]
     words = [cut_short(pick, name) if steps else name, *words_behind(pick, name, scenario, moments, steps)]

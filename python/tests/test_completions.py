@@ -161,7 +161,7 @@ class TestCompgen(Shelf):
                               (['tcpsim', 'run', '--'], ['--explain', '--groups', '--help', '--progress', '--workers']),
                               (['tcpsim', 'dis', '--'], ['--explain', '--help']),
                               (['tcpsim', 'debug', '--'], ['--explain', '--groups', '--help', '--workers']),
-                              (['tcpsim', 'figures', '--'], ['--explain', '--from', '--help', '--progress']),
+                              (['tcpsim', 'figures', '--'], ['--every', '--explain', '--from', '--help', '--names', '--progress', '--series']),
                               (['tcpsim', 'run', '--workers', ''], ['1', '16', '2', '32', '4', '64', '8']),
                               (['tcpsim', 'run', '--groups', '=', 'o'], ['one']),
                               (['tcpsim', 'run', '--groups', '='], ['auto', 'each', 'one']),

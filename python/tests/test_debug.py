@@ -16,7 +16,6 @@ pexpect = pytest.importorskip('pexpect', reason='no pexpect: apt-get install pyt
 from clone import BIN, EXAMPLES, MODEL, PROGRAM, TOP, of_model, read, read_text, tool  # noqa: E402
 from tcpsim.console.completion import Completion  # noqa: E402
 from tcpsim.prompt import Prompt  # noqa: E402
-from tcpsim_model.later import STEPS  # noqa: E402
 
 TWO = os.path.join(EXAMPLES, 'two_timeouts_in_a_row.txt')
 FAIR = os.path.join(EXAMPLES, 'two_flows_share_fairly.txt')
@@ -390,7 +389,7 @@ def completion():
     prompt.end()
 
 
-COMMANDS = ['step', 'back', 'run', 'reverse', 'until', 'state', 'break', 'breaks', 'delete', 'clear', 'lines', 'why', 'help', 'quit']
+COMMANDS = ['step', 'back', 'run', 'reverse', 'until', 'goto', 'where', 'state', 'break', 'breaks', 'delete', 'clear', 'lines', 'why', 'help', 'quit']
 SORTS = ['node', 'flow', 'kind', 'drop', 'link', 'byte']
 
 
@@ -421,40 +420,6 @@ def test_every_word_that_fits_is_taken(completion):
                 assert not prompt.ask(before + word).note, before + word
     finally:
         prompt.end()
-
-
-@pytest.fixture(scope='module')
-def later(tmp_path_factory):
-    """The model with the steps of its grammar that the program has not yet, as a program."""
-    path = tmp_path_factory.mktemp('later') / 'later'
-    path.write_text(f'#!/bin/sh\nfor last; do :; done\nexec {sys.executable} {MODEL} debug --steps {STEPS} "$last"\n')
-    path.chmod(0o700)
-    return str(path)
-
-
-def test_names_fit_where_the_program_has_them(later):
-    prompt = Prompt([later, 'debug'], read(FAIR))
-    try:
-        words = Completion(prompt.ask).words
-        assert words('why ') == [('fa', '0 from sa to ra'), ('fb', '1 from sb to rb')]
-        assert [word for word, _ in words('state node ')] == ['p', 'q', 'sa', 'ra', 'sb', 'rb']
-        assert [word for word, _ in words('break drop link ')][:1] == ['pq']
-        assert {'cwnd', 'queue', 'change', 'drop', 'stall'} <= {word for word, _ in words('break ')}
-        assert [word for word, _ in words('display ')] == ['flow', 'link']
-    finally:
-        prompt.end()
-
-
-def test_displays_are_kept_where_the_program_has_them(terminal, later, long):
-    session = terminal('--program', later, long)
-    session.begin()
-    for line in ('step 9', 'break cwnd<3000', 'display cwnd f', 'display link a'):
-        session.ask(line)
-    kept = {line: session.ask(line) for line in ('breaks', 'display', 'where')}
-    assert kept['breaks'] == 'break 1: cwnd<3000\n' and kept['display'].count('\n') == 2
-    assert 'ended; the session is at 9 of the run' in session.interrupt('goto 1000s')
-    assert {line: session.ask(line) for line in kept} == kept       # where the session is, is no move
-    assert '\nat 18 of the run' in session.ask('')
 
 
 def test_tab(terminal):

@@ -449,7 +449,7 @@ def test_what_is_wrong_by_one_is_seen(compared):
     """Among them a percentile that is still at most 1/32 above the exact one."""
     for words in ('flow,0,sent again by timeout,segments', 'link,0,median delay in the queue,ns', 'link,1,busy,ns',
                   'run,,events,events'):
-        done = compared(MORE.format(words=words), '--count', '4')
+        done = compared(MORE.format(words=words), '--count', '16')
         assert done.returncode == 1, done.stderr
         assert re.search(f'program: {words},', done.stdout)
         assert ' 0 different' not in done.stdout
@@ -457,7 +457,7 @@ def test_what_is_wrong_by_one_is_seen(compared):
 
 def test_a_row_too_few_or_a_note_too_many_is_seen(compared):
     for change in ('table = table.rpartition("run")[0]', 'note = note or "done"', 'status = status or 3'):
-        done = compared(change, '--count', '4')
+        done = compared(change, '--count', '16')
         assert (done.returncode, ' 0 different' in done.stdout) == (1, False), change
 
 

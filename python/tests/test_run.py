@@ -88,6 +88,8 @@ def test_run_gives_the_trace(bare, words):
 def test_run_goes_on_as_the_other_commands(bare, tmp_path):
     figures = bare('tcpsim-run', 'figures', ONE_SEGMENT)
     assert figures.stdout.startswith(b'what,number,figure,unit,value\n')
+    for words in (['--from', '2ms'], ['--every', '1ms', '--names'], ['--series', '--every=1ms']):
+        assert bare('tcpsim-run', 'figures', *words, ONE_SEGMENT).stdout == ran(sys.executable, MODEL, 'figures', *words, ONE_SEGMENT).stdout != figures.stdout
     image = tmp_path / 'image'
     image.write_bytes(bare('tcpsim-run', 'asm', ONE_SEGMENT).stdout)
     assert len(image.read_bytes()) == 135

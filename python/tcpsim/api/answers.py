@@ -21,7 +21,7 @@ class Move:
     passed: int
     matched: bool
     at_end: bool
-    text: str                   # the prompt's answer: the lines that were passed, ten at most
+    text: str                   # the prompt's answer: the last ten lines that were passed
 
     def __repr__(self) -> str:
         return self.text.rstrip('\n')

@@ -17,17 +17,24 @@ from tcpsim.whole_trace import scenario_bytes, scenario_text
 COMMANDS = ('run', 'figures', 'debug', 'asm', 'dis')
 LASTING = ('run', 'figures')            # go to the run's end
 OWN = ('--progress', '--explain')       # options that the program alone has
+VALUES = ('workers', 'groups', 'from', 'every')     # options of the program and of the model, and their flags
+FLAGS = ('series', 'names')
 
 
 def command_line() -> Words:
     """The words of the command."""
-    words = Words(usage='%(prog)s [COMMAND] [--workers N] [--groups G] [--model | --program FILE] [SCENARIO]',
+    words = Words(usage='%(prog)s [COMMAND] [--workers N] [--groups G] [--from T] [--every D [--series]] [--names] '
+                  '[--model | --program FILE] [SCENARIO]',
                   description='Runs a scenario, by the program or else by the model: each command is that of tcpsim.')
     words.add_argument('words', metavar='COMMAND SCENARIO', nargs='*',
                        help=f'{", ".join(COMMANDS)}; where none is named: run. The scenario is a text or an image, else '
                        'standard input; with a scenario `debug` is a prompt')
     words.add_argument('--workers', metavar='N', help='of run and debug: how many run its groups side by side')
     words.add_argument('--groups', metavar='G', help='of run and debug: which nodes are in which group')
+    words.add_argument('--from', metavar='T', help='of figures: count from this moment on, as 1.5s or 20ms')
+    words.add_argument('--every', metavar='D', help='of figures: print rows by time behind the table, in steps as 1.5s or 20ms')
+    words.add_argument('--series', action='store_true', help='of figures: print these rows without the table')
+    words.add_argument('--names', action='store_true', help='of figures: print the names of flows and links in a last column')
     for name in OWN:
         words.add_argument(name, action='store_true', help='as of tcpsim, which the model has not')
     words.add_program('the program that is run')
@@ -71,5 +78,6 @@ def main() -> None:
     own = [name for name in OWN if getattr(given, name[2:])]
     if own and is_model(path):
         raise Wrong(f'{own[0]} wants the program: build it with `make run`')
-    options = [word for name in ('workers', 'groups') if getattr(given, name) for word in (f'--{name}', getattr(given, name))]
-    become(path, [command, *own, *options, *([file] if file else [])])
+    options = [f'--{name}={getattr(given, name)}' for name in VALUES if getattr(given, name)]
+    flags = [f'--{name}' for name in FLAGS if getattr(given, name)]
+    become(path, [command, *own, *options, *flags, *([file] if file else [])])

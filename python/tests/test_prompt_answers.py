@@ -1,0 +1,186 @@
+#!/usr/bin/env python3
+"""Tests of what the model answers at the prompt: by hand, beside the lines of the runs' traces, from which each answer is found
+by other means. Usage: python/tests/test_prompt_answers.py, or pytest."""
+import os
+import random
+import sys
+
+import pytest
+
+from clone import EXAMPLES, paths, read, read_text
+from tcpsim_model import prompt
+from tcpsim_model.command_line import read as scenario_in
+from tcpsim_model.scenario import Refused
+
+TWO, STALLS, CODEL, FAIR = (paths(name)[0] for name in ('two_timeouts_in_a_row', 'two_stalls_of_different_causes', 'four_flows_before_codel',
+                                                        'two_flows_share_fairly'))
+START = 'at 0 of the run, time 0 ns, the beginning\n'
+
+
+class Session:
+    """A session over a file, or over a scenario."""
+
+    def __init__(self, path, steps=prompt.STEPS):
+        self.prompt = prompt.Prompt(scenario_in(read(path)) if isinstance(path, str) else path, steps)
+
+    def __call__(self, *lines):
+        """What the lines are answered, with what is noted of them."""
+        told = ''
+        for line in lines:
+            try:
+                told += self.prompt.answer(line.encode())
+            except Refused as refusal:
+                told += self.prompt.noted(line.encode(), refusal)
+        return told
+
+    @property
+    def position(self):
+        return self.prompt.debugger.net.position
+
+
+def trace_of(path):
+    """The lines of a run, as its trace has them."""
+    return read_text(path.replace('.txt', '.trace')).splitlines(True)[:-1]
+
+
+def time_of(line):
+    return int(line.split(' ', 2)[1])
+
+
+def at(lines, position):
+    """The line that says where a session is."""
+    time = time_of(lines[position - 1]) if position else 0
+    return f'at {position} of the run, time {time} ns{", the end" * (position == len(lines)) or ", the beginning" * (position == 0)}\n'
+
+
+def refuses(session, code, *lines):
+    for line in lines:
+        assert session(line).startswith(f'refused {code}\n'), line
+
+
+# ---- what a move shows
+
+def test_the_last_ten_lines_are_shown():
+    session, lines = Session(TWO), trace_of(TWO)
+    session('break stall')
+    assert session('run') == '.. 15 more\n' + ''.join(lines[15:25]) + 'at 25 of the run, time 9280000 ns\nbreak 1: stall\n'
+    assert session('step 10') == ''.join(lines[25:35]) + at(lines, 35)
+    assert session('step 11') == '.. 1 more\n' + ''.join(lines[36:46]) + at(lines, 46)
+    # Backwards the lines that are undone, and of `reverse` that of its breakpoint too, which is the last.
+    assert session('back 11') == '.. 1 more\n' + ''.join(lines[44:34:-1]) + at(lines, 35)
+    assert session('back 1') == lines[34] + at(lines, 34)
+    assert session('reverse') == ''.join(lines[33:23:-1]) + at(lines, 25) + 'break 1: stall\n'
+    assert session('back 0') == at(lines, 25)
+    assert session('reverse') == '.. 15 more\n' + ''.join(lines[9::-1]) + START
+    assert session('reverse') == START
+    session('break kind data', 'goto 4')
+    assert session('reverse') == lines[3] + lines[2] + 'at 3 of the run, time 2040000 ns\nbreak 2: kind data\n'
+
+
+@pytest.mark.parametrize('path', [TWO, STALLS, CODEL, FAIR])
+def test_a_move_ends_with_the_line_of_its_breakpoint(path):
+    session, lines, pick = Session(path), trace_of(path), random.Random(os.path.basename(path))
+    session('break drop')
+    for _ in range(30):
+        move, begin = pick.choice(('run', 'run', 'reverse', 'step 3')), session.position
+        told = session(move).splitlines(True)
+        if told[-1] == 'break 1: drop\n':
+            assert told[-3] == lines[session.position - 1] and ' drop=' in told[-3]
+        shown = [line for line in told if line[0].isdigit()]
+        count = abs(session.position - begin) + (move == 'reverse' and session.position > 0)
+        assert len(shown) == min(count, 10) and (told[0] == f'.. {count - 10} more\n') == (count > 10)
+
+
+def test_where_nothing_was_done():
+    session, lines = Session(TWO), trace_of(TWO)
+    session('goto 25')
+    told = 'nothing was done: no event before 1000000 ns is left\nat 25 of the run, time 9280000 ns\n'
+    assert session('until 1ms') == session('') == session('until 1000us') == told
+    assert session('until 9280001ns').startswith('nothing was done: no event before 9280001 ns is left\n')
+    assert session('until 2s') == lines[25] + 'at 26 of the run, time 1006200000 ns\n'
+    assert session('') == 'nothing was done: no event before 2000000000 ns is left\nat 26 of the run, time 1006200000 ns\n'
+    assert 'nothing' not in session('step 0', 'goto 26', 'until 4s')
+
+
+# ---- places
+
+def test_goto_a_position():
+    session, lines = Session(TWO), trace_of(TWO)
+    assert session('goto 2') == ''.join(lines[:2]) + 'at 2 of the run, time 1040000 ns\n'
+    assert session('') == 'at 2 of the run, time 1040000 ns\n'
+    assert session('goto 1') == lines[1] + 'at 1 of the run, time 0 ns\n'
+    session('break kind rto')
+    assert session('goto 26').endswith(lines[25] + 'at 26 of the run, time 1006200000 ns\nbreak 1: kind rto\n')
+    assert session('goto 27', 'goto 26').endswith(lines[26] + 'at 26 of the run, time 1006200000 ns\n')
+    assert session('goto 1000000000000000').endswith(f'{lines[50]}at 51 of the run, time 3017520000 ns, the end\n')
+    assert session('goto 0').endswith(lines[0] + START)
+    refuses(session, 'B2', 'goto', 'goto 1 2', 'goto 1 s')
+    refuses(session, 'B3', 'goto x', 'goto 01', 'goto -1', 'goto 1.5', 'goto 1000000000000001', 'goto 1000001s', 'goto 1.0000us')
+
+
+def test_where():
+    session, lines = Session(TWO), trace_of(TWO)
+    assert session('where') == START + f'next: {lines[0]}known to go to 0\n'
+    session('goto 25')
+    assert session('where') == 'at 25 of the run, time 9280000 ns\n' f'next: {lines[25]}known to go to 25\n'
+    session('back 20', 'stpe')
+    assert session('whe') == 'at 5 of the run, time 2080000 ns\n' f'next: {lines[5]}known to go to 25\n'
+    # On its way back `reverse` runs events again: where the session stood counts alone.
+    session('break kind rto', 'run', 'back 2', 'clear', 'break byte 9000', 'reverse')
+    assert session.position == 23 and session('where').endswith('known to go to 26\n')
+    session('clear', 'run')
+    assert session('where') == at(lines, 51) + 'next: none\nknown to end at 51\n'
+    assert session('back 50', 'where').endswith(at(lines, 1) + f'next: {lines[1]}known to end at 51\n')
+    # It is no move.
+    assert session('back', 'goto 3', 'where', '').endswith(at(lines, 3))
+    refuses(session, 'B2', 'where 1', 'wher x')
+
+
+# ---- refusals
+
+def test_what_there_is_in_the_place_of_what_is_refused():
+    session, meaning = Session(TWO, 9), 'refused B1\nB1: no command has this name, or no sort of breakpoint\n'
+    for line in ('break foo', 'br node 0 foo', 'bre n 0', 'break drop 1'):
+        assert session(line) == f'{meaning}tcpsim: conditions are node N, flow F, kind K, drop, link L, byte B; or stall: see help break\n', line
+    for word, told in (('print', 'state flow F shows all values of a flow, state link L those of a link: see help state'),
+                       ('watch', 'break stops where a line meets conditions: see help break'),
+                       ('info', 'state shows the state, where the position, breaks the breakpoints: see help')):
+        for line in (word, f'{word} cwnd', word[:-1], f'  {word[:2]} 3'):
+            assert session(line) == f'{meaning}tcpsim: {told}\n', line
+    assert session('p').endswith('see help state\n') and session('i').endswith('see help\n')
+    assert session('infos').endswith('tcpsim: no command infos; the nearest is lines\n')
+    assert session('help foo') == session('state foo') == meaning
+    wrong = 'refused B3\nB3: a word is no number, or out of its range; there is no such node, flow or kind\n'
+    for line in ('until 1.5', 'u x', 'until 01'):
+        assert session(line) == f'{wrong}tcpsim: a time has a unit, ns, us, ms or s, as 1.5s: see help until\n', line
+    assert session('goto x') == session('step x') == wrong
+    assert session('why 1') == f'{wrong}tcpsim: there are nodes 0 to 1, links 0 to 1, flows 0 to 0: see help numbers\n'
+    assert Session(TWO, 8)('print').endswith('the nearest is run\n')
+
+
+# ---- names of commands
+
+def test_short_words_mean_what_they_meant():
+    session = Session(TWO).prompt
+    old = {'s': 'step', 'b': 'back', 'br': 'break', 'r': 'run', 're': 'reverse', 'u': 'until', 'un': 'until', 'st': 'step', 'sta': 'state', 'l': 'lines',
+           'd': 'delete', 'c': 'clear', 'h': 'help', 'q': 'quit', 'w': 'why', 'wh': 'why'}
+    for word, name in {**old, 'g': 'goto', 'whe': 'where'}.items():
+        assert session.name_of(word.encode()).decode() == name, word
+    told = Session(TWO)
+    for word, begin in (('n', 'Nodes, links'), ('k', 'The kinds'), ('stal', 'A flow is stalled'), ('stall', 'A flow is stalled'), ('g', 'goto N '),
+                        ('w', 'why F '), ('whe', 'where '), ('t', 'A line of the trace')):
+        assert told(f'help {word}').startswith(begin), word
+    assert told('goot 3').endswith('tcpsim: no command goot; the nearest is goto\n')
+    assert told('wehre').endswith('tcpsim: no command wehre; the nearest is where\n')
+
+
+def test_a_grammar_of_fewer_steps_is_as_it_was():
+    session, lines = Session(TWO, 8), trace_of(TWO)
+    assert session('step 12') == ''.join(lines[:10]) + '.. 2 more\nat 12 of the run, time 4160000 ns\n'
+    assert session('break kind ack', 'reverse').endswith(lines[10] + 'at 10 of the run, time 4120000 ns\nbreak 1: kind ack\n')
+    assert session('until 1ns') == 'at 10 of the run, time 4120000 ns\n'
+    refuses(session, 'B1', 'goto 3', 'where', 'help where')
+
+
+if __name__ == '__main__':
+    sys.exit(pytest.main([__file__, '-q', *sys.argv[1:]]))
