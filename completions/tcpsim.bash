@@ -17,7 +17,7 @@ _tcpsim() {
   case ${COMP_WORDS[1]} in
     explain) COMPREPLY=($(compgen -W "$(_tcpsim_codes) --help -h" -- "$word")) ;;
     asm | dis) COMPREPLY=($(compgen -W '--explain --help -h' -- "$word")) ;;
-    figures) COMPREPLY=($(compgen -W '--from --progress --explain --help -h' -- "$word")) ;;
+    figures) COMPREPLY=($(compgen -W '--from --every --series --names --progress --explain --help -h' -- "$word")) ;;
     run | debug) case $before in
       --workers) COMPREPLY=($(compgen -W '1 2 4 8 16 32 64' -- "$word")) ;;
       --groups) COMPREPLY=($(compgen -W 'one each auto' -- "$word")) ;;
