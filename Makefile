@@ -1,7 +1,7 @@
 # `make run` builds the program and runs it on the first example; `make test` passes all tests, those
 # of the gate, and those of dev/ and python/tests, of the tools and of the built program, side by side
 # (`make test-tools` passes those that are in Python alone);
-# `make wrong-bodies` tries the wrong bodies that stand beside the gate, `make wrong-bodies NAME=aqm` those
+# `make mutants` tries the mutants that stand beside the gate, `make mutants NAME=aqm` those
 # of one crate;
 # `make bench` measures the built program and writes bench/RESULTS.md (python3 and valgrind);
 # `make pictures` draws the pictures of README.md and docs/ (python3 and matplotlib);
@@ -14,7 +14,7 @@
 # `make dist` writes what is installed elsewhere, from the built program, into out/dist: a tarball, a .deb, a wheel, the
 # page where out/page has it, a MANIFEST and SHA256SUMS;
 # `make test-dist` tries each of them, the .deb in a Debian 12 of its own (root, debootstrap, and a network).
-.PHONY: run test test-tools setup wrong-bodies bench pictures page pages install uninstall dist test-dist
+.PHONY: run test test-tools setup mutants bench pictures page pages install uninstall dist test-dist
 
 # A python3 that has these modules: the one that is found first, or Debian's own.
 python_with = $(shell for python in python3 /usr/bin/python3; do \
@@ -24,7 +24,7 @@ PYTEST = $(or $(call python_with,pytest; import matplotlib),$(call python_with,p
 WITH_MARKDOWN = $(call python_with,markdown)
 PROGRAM = crates/tcpsim/out/tcpsim
 PREFIX = /usr/local
-# The crates of `make wrong-bodies`, all where none is named.
+# The crates of `make mutants`, all where none is named.
 NAME =
 DOCUMENTS = share/doc/tcpsim
 BASH_COMPLETIONS = share/bash-completion/completions
@@ -37,7 +37,7 @@ PACKAGES = tcpsim tcpsim_model
 # Where CI=true all that tests want is installed first, and a test that is left out has failed.
 test: setup
 	@python3 dev/build.py --ready
-	@python3 dev/wrong_bodies.py --check
+	@python3 dev/mutants.py --check
 	@python3 dev/pass_gate.py
 	@python3 dev/build.py --module
 	@python3 dev/run_tests.py --python '$(PYTEST)'
@@ -48,8 +48,8 @@ setup:
 test-tools: setup
 	@python3 dev/run_tests.py --python '$(PYTEST)' $(wildcard dev/test_*.py python/tests/test_*.py)
 
-wrong-bodies:
-	@python3 dev/wrong_bodies.py $(NAME)
+mutants:
+	@python3 dev/mutants.py $(NAME)
 
 run:
 	@python3 dev/build.py

@@ -6,7 +6,7 @@
 
 The first runs a command, `rt ci` with one job a processor where none is given. Every quarter of a second it
 looks at the processes that the command started, and counts what each has used: of a prover the crate is in
-its words (`--crate-name`), and whether it checks the crate, its tests (`--test`) or a wrong body (it then
+its words (`--crate-name`), and whether it checks the crate, its tests (`--test`) or a mutant (it then
 runs in a folder of its own).
 
 With --kept no command is run: what is proved anew is each CRATE with its tests, over what `make run` keeps.
@@ -29,7 +29,7 @@ import build  # pylint: disable=wrong-import-position
 
 TICKS = os.sysconf("SC_CLK_TCK")
 PAGE = os.sysconf("SC_PAGE_SIZE")
-KINDS = ("check", "tests", "wrong bodies")
+KINDS = ("check", "tests", "mutants")
 BEGIN, END = "<!-- the table of bench/gate.py -->", "<!-- its end -->"
 
 
@@ -58,7 +58,7 @@ class Process:
     def kind(self):
         if "--test" in self.words:
             return "tests"
-        return "wrong bodies" if "/rt-edit" in self.folder else "check"
+        return "mutants" if "/rt-edit" in self.folder else "check"
 
 
 def look(session, seen):
@@ -126,7 +126,7 @@ def prove_with_tests(name, kit, libraries):
 
 def table():
     """The lines of the table: a row a crate, then all."""
-    rows = ["| crate | check | tests | wrong bodies | most memory, GB |", "|---|---|---|---|---|"]
+    rows = ["| crate | check | tests | mutants | most memory, GB |", "|---|---|---|---|---|"]
     every = {name: build.cost_of(name) for name in build.declared()}
     for name, costs in every.items():
         spent = [f"{costs[kind]['seconds']:.0f}" if kind in costs else "-" for kind in KINDS]

@@ -24,7 +24,7 @@ HEAD = '## Images\n'
 FIRST = os.path.join(TOP, 'examples', 'one_segment.txt')
 NAMES = 'chain', 'dumbbell_codel', 'tree', 'largest'
 LOAD_MS, SAVE_MS = 20, 10
-LOAD, SAVE = 'sessions::scenario_input::told_scenario', 'sessions::conversion::put_image'
+LOAD, SAVE = 'sessions::scenario_input::reported_scenario', 'sessions::conversion::put_image'
 
 
 def cost(said, name):

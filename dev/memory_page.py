@@ -14,7 +14,7 @@ TOP = os.path.dirname(os.path.dirname(os.path.abspath(__file__)))
 PAGE = os.path.join(TOP, 'docs', 'MEMORY.md')
 BEGIN, END = '<!-- {} of dev/memory_page.py -->\n', '<!-- its end -->'
 # Crates that have tests alone and what these run by, and the program, which has no call but `main`.
-WITHOUT_CALLS = {'end_trials', 'text_trials', 'part_trials', 'net_trials', 'engine_trials', 'trials', 'tcpsim'}
+WITHOUT_CALLS = {'end_tests', 'text_tests', 'part_tests', 'net_tests', 'engine_tests', 'program_tests', 'tcpsim'}
 # Types that are numbers or the like: who gives one keeps it.
 PLAIN = re.compile(r'(u8|u16|u32|u64|u128|usize|bool|Global|Time|Key|Break|Packet|Action|Limits|Subcommand|LoadFault)$')
 # The page's tables that are written by hand.

@@ -9,19 +9,19 @@ set -u
 LC_ALL=C
 top=$(cd "$(dirname "$0")/.." && pwd)
 tests='aqm tests::copies_are_in_the_same_state
-part_trials chains::a_refused_copy_leaves_its_source
-part_trials links::copies_are_in_the_same_state
-net_trials nets::two_flows::every_event_is_run_also_where_memory_was_refused
-net_trials nets::by_nodes::nodes_run_their_events_as_the_net_does
-net_trials nets::by_nodes::receivers_hold_segments_and_codel_drops_as_in_the_net
-net_trials nets::copies::a_refused_copy_leaves_the_net
-net_trials windows::refused::a_refused_window_gives_the_net_back
-net_trials windows::refused::a_refused_turn_leaves_the_window
-net_trials windows::refused::a_refused_group_stands_after_whole_events
-net_trials boards::refused::a_refused_board_gives_its_pieces_up
-engine_trials refused::a_refused_window_fails_the_engine
-engine_trials refused::a_refused_text_commits_nothing_of_its_window
-engine_trials refused::a_refused_move_changes_nothing'
+part_tests chains::a_refused_copy_leaves_its_source
+part_tests links::copies_are_in_the_same_state
+net_tests nets::two_flows::every_event_is_run_also_where_memory_was_refused
+net_tests nets::by_nodes::nodes_run_their_events_as_the_net_does
+net_tests nets::by_nodes::receivers_hold_segments_and_codel_drops_as_in_the_net
+net_tests nets::copies::a_refused_copy_leaves_the_net
+net_tests windows::refused::a_refused_window_gives_the_net_back
+net_tests windows::refused::a_refused_turn_leaves_the_window
+net_tests windows::refused::a_refused_group_stands_after_whole_events
+net_tests boards::refused::a_refused_board_gives_its_pieces_up
+engine_tests refused::a_refused_window_fails_the_engine
+engine_tests refused::a_refused_text_commits_nothing_of_its_window
+engine_tests refused::a_refused_move_changes_nothing'
 
 if ! command -v cc > /dev/null; then
   echo 'LEFT OUT, not passed: memory refused to tests (no cc)'

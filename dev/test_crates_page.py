@@ -17,7 +17,7 @@ def test_a_page_is_as_it_is_written(name):
 
 def test_the_parts_are_read():
     rows = list(crates_page.lemmas())
-    assert len(rows) > 20 and any(row.startswith('| ranking | ') and 'node_core' in row for row in rows)
+    assert len(rows) > 20 and any(row.startswith('| tournament | ') and 'node_core' in row for row in rows)
     found = [word for row in list(crates_page.levels())[1:-1] for word in row.split()[1:]]
     assert sorted(found) == sorted(crates_page.crates())
 
@@ -28,14 +28,14 @@ def test_each_crate_says_what_it_is():
 
 
 def test_each_file_has_a_row():
-    """But for the modules of trials that begin with their first line of code."""
+    """But for the modules of crates of tests that begin with their first line of code."""
     page = '\n'.join(crates_page.of_files())
     for crate in crates_page.crates():
         for folder, kind in (('src', 'rt'), ('specs', 'antt')):
             for at, _, names in os.walk(os.path.join(TOP, 'crates', crate, folder)):
                 for name in names:
                     path = os.path.relpath(os.path.join(at, name), TOP)
-                    if name.endswith('.' + kind) and not name.lower().startswith(('lib.', 'mod.')) and not crate.endswith('trials'):
+                    if name.endswith('.' + kind) and not name.lower().startswith(('lib.', 'mod.')) and not crate.endswith('_tests'):
                         assert f'](../{path})' in page
 
 

@@ -7,7 +7,7 @@ use Rattle.packet_chain.specs.Stamped.{Stamped, bytes_of}
 use Rattle.sim_time.specs.ControlLaw.{gap_of}
 use Rattle.aqm.specs.Codel.{CodelState}
 use Rattle.aqm.specs.Judgement.{Judgement, cleared, judged, judgement, above_target}
-use Rattle.aqm.specs.Drops.{stops, drops, due, counted}
+use Rattle.aqm.specs.Drops.{stops, drops, drop_due, count_after_drops}
 use Rattle.aqm.proofs.Front.{not_stopped, stops_past}
 use Rattle.aqm.proofs.SoFar.{drops_is, stops_at, goes_on}
 
@@ -23,8 +23,8 @@ IsAbove s now = IsSomeAnd s.first_above (λ t. t ≤ now)
 pub record IsForeseen (s : CodelState) (now n left at count : ℕ) (behind : List Stamped) : Type 0 where
   pub rest : behind ≡ drop n s.fifo.waiting
   pub bytes : left ≡ bytes_of behind
-  pub due_at : at ≡ due s n
-  pub counted_so : count ≡ counted s.count n
+  pub due_at : at ≡ drop_due s n
+  pub counted_so : count ≡ count_after_drops s.count n
   pub before : (j : ℕ) → j < n → stops s now j ≡ false
   pub within : n + length behind ≡ length s.fifo.waiting
 
@@ -111,14 +111,14 @@ first_foreseen s now left at count behind most behind_is left_is at_is count_is 
 
 -- one more may be dropped
 pub more_foreseen : (s : CodelState) (now n left at count : ℕ) (x : Stamped) (more : List Stamped) → IsAbove s now → IsForeseen s now n left at count (x ∷ more) →
-    at ≤ now → is_late s now x.1 (left - x.0.bytes) ≡ true → (count' gap' : ℕ) → count' ≡ counted count 1 → gap' ≡ gap_of s.interval count' →
+    at ≤ now → is_late s now x.1 (left - x.0.bytes) ≡ true → (count' gap' : ℕ) → count' ≡ count_after_drops count 1 → gap' ≡ gap_of s.interval count' →
     IsForeseen s now (n + 1) (left - x.0.bytes) (at + gap') count' more
 more_foreseen s now n left at count x more above i come late count' gap' count_is gap_is =
     let next = next_of s now n left at count x more above i in
     let was = i.counted_so in
-    let more_counted : count' ≡ counted s.count (suc n) = omega (arith, was, count_is) in
+    let more_counted : count' ≡ count_after_drops s.count (suc n) = omega (arith, was, count_is) in
     let due_at = i.due_at in
-    let next_due : at + gap' ≡ due s (suc n) = ap (λ d. d + gap') due_at ∙ ap (λ g. due s n + g) (gap_is ∙ ap (gap_of s.interval) more_counted) in
+    let next_due : at + gap' ≡ drop_due s (suc n) = ap (λ d. d + gap') due_at ∙ ap (λ g. drop_due s n + g) (gap_is ∙ ap (gap_of s.interval) more_counted) in
     let within = i.within in
     record {
       rest = rw (add-one n) next.rest;

@@ -14,7 +14,7 @@ use Rattle.aqm.specs.Judgement.{Judgement, judged, judgement}
 use Rattle.aqm.specs.Taken.{CodelTaken, codel_taken, handed_out, after_one}
 use Rattle.aqm.proofs.TakenCases.{taken_in_drop_state}
 use Rattle.aqm.proofs.Front.{number_at}
-use Rattle.aqm.specs.Drops.{stops, drops, due, counted, after_drops}
+use Rattle.aqm.specs.Drops.{stops, drops, drop_due, count_after_drops, after_drops}
 use Rattle.aqm.specs.OneDrop.{after_drop}
 
 -- the queue after k drops, with the packet behind them judged
@@ -56,29 +56,29 @@ next_judged s now k =
     ∙ ap (λ xs. judged s now (slice_get s.fifo.waiting (k + 1)) (bytes_of xs) (judgement s now k).first_above) (drop-drop 1 (k + 1) s.fifo.waiting)
     ∙ rw (add-one k) refl
 
-next_due : (s : CodelState) (k : ℕ) (ok : Bool) → cond ok (due s k + gap_of s.interval (counted s.count (k + 1))) (due s k) ≡ due s (cond ok (k + 1) (k + 1 - 1))
+next_due : (s : CodelState) (k : ℕ) (ok : Bool) → cond ok (drop_due s k + gap_of s.interval (count_after_drops s.count (k + 1))) (drop_due s k) ≡ drop_due s (cond ok (k + 1) (k + 1 - 1))
 next_due s k true = rw (add-one k) refl
 next_due s k false = let back : k + 1 - 1 ≡ k = omega arith in rw back refl
 
-due_none : (s : CodelState) (ok : Bool) → s.drop_next ≡ due s (cond ok 0 (0 - 1))
+due_none : (s : CodelState) (ok : Bool) → s.drop_next ≡ drop_due s (cond ok 0 (0 - 1))
 due_none s true = refl
 due_none s false = refl
 
-by_test : (ok : Bool) (now due : ℕ) → (ok ≡ true → now < due) → (not ok || nat_lt now due) ≡ true
-by_test true now due lt = lt-ltb now due (lt refl)
-by_test false now due lt = refl
+by_test : (ok : Bool) (now drop_due : ℕ) → (ok ≡ true → now < drop_due) → (not ok || nat_lt now drop_due) ≡ true
+by_test true now drop_due lt = lt-ltb now drop_due (lt refl)
+by_test false now drop_due lt = refl
 
-pub stops_at : (s : CodelState) (now k : ℕ) → ((judgement s now k).ok ≡ true → now < due s k) → stops s now k ≡ true
-stops_at s now k lt = by_test (judgement s now k).ok now (due s k) lt
+pub stops_at : (s : CodelState) (now k : ℕ) → ((judgement s now k).ok ≡ true → now < drop_due s k) → stops s now k ≡ true
+stops_at s now k lt = by_test (judgement s now k).ok now (drop_due s k) lt
 
-pub goes_on : (s : CodelState) (now k : ℕ) → (judgement s now k).ok ≡ true → due s k ≤ now → stops s now k ≡ false
-goes_on s now k ok le = rw ok (le-ltb now (due s k) le)
+pub goes_on : (s : CodelState) (now k : ℕ) → (judgement s now k).ok ≡ true → drop_due s k ≤ now → stops s now k ≡ false
+goes_on s now k ok le = rw ok (le-ltb now (drop_due s k) le)
 
 -- one drop more leads from k drops to k + 1
 pub next_is : (s : CodelState) (now k : ℕ) → (judgement s now k).ok ≡ true → after_drop (so_far s now k) now ≡ so_far s now (k + 1)
 next_is s now k ok =
     let j : judgement (so_far s now k) now 0 ≡ judgement s now (k + 1) = next_judged s now k in
-    let c : counted (counted s.count k) 1 ≡ counted s.count (k + 1) = omega arith in
+    let c : count_after_drops (count_after_drops s.count k) 1 ≡ count_after_drops s.count (k + 1) = omega arith in
     let waiting = drop-drop 1 (k + 1) s.fifo.waiting in
     let d = next_due s k (judgement s now (k + 1)).ok in
     rw ok (cc)
@@ -92,13 +92,13 @@ some_judged : (s : CodelState) (now k : ℕ) → (judgement s now k).ok ≡ true
 some_judged s now zero e = late_is_some s now _ _ _ e
 some_judged s now (suc k) e = late_is_some s now _ _ _ e
 
-due_at : (s : CodelState) (now k : ℕ) → (judgement s now k).ok ≡ true → (so_far s now k).drop_next ≡ due s k
-due_at s now k ok = ap (λ b. due s (cond b k (k - 1))) ok
+due_at : (s : CodelState) (now k : ℕ) → (judgement s now k).ok ≡ true → (so_far s now k).drop_next ≡ drop_due s k
+due_at s now k ok = ap (λ b. drop_due s (cond b k (k - 1))) ok
 
 -- before the first drop
 begins : (s : CodelState) (now : ℕ) → s.count ≤ 4294967295 → after_one s now ≡ so_far s now 0
 begins s now most =
-    let c : s.count ≡ counted s.count 0 = omega arith in
+    let c : s.count ≡ count_after_drops s.count 0 = omega arith in
     let d = due_none s (judgement s now 0).ok in
     cc
 
@@ -128,7 +128,7 @@ more_so_far s now start chain q cell ok k i is_ok is_due chain' q' cell' ok' cel
       taken = cell_is ∙ ap (λ (r : CodelState). slice_get r.fifo.waiting 0) i.state ∙ first_of_rest (k + 1) s.fifo.waiting;
       judged = ok_is ∙ ap (λ r. (judgement r now 0).ok) i.state ∙ ap (λ (j : Judgement). j.ok) (next_judged s now k);
       dropped = pushed ∙ ap (λ xs. xs ++ some.0 ∷ []) i.dropped ∙ append_assoc start (take k s.fifo.waiting) (some.0 ∷ []) ∙ ap (λ xs. start ++ xs) (sym (rw (add-one k) (taken_more k s.fifo.waiting some.0 some.1)));
-      before = below_more _ _ i.before (let at : q.drop_next ≡ due s k = ap (λ (r : CodelState). r.drop_next) i.state ∙ due_at s now k late in goes_on s now k late (rw at at is_due));
+      before = below_more _ _ i.before (let at : q.drop_next ≡ drop_due s k = ap (λ (r : CodelState). r.drop_next) i.state ∙ due_at s now k late in goes_on s now k late (rw at at is_due));
       within = let lt : k < length s.fifo.waiting = slice_get_within s.fifo.waiting k some.0 some.1 in omega arith;
     }
 
@@ -140,7 +140,7 @@ ended_as s k cell q ok = record { dropped = take k s.fifo.waiting; given = cell;
 pub ended : (s : CodelState) (now : ℕ) (start chain : List Stamped) (q : CodelState) (cell : Option Stamped) (ok : Bool) (k : ℕ) →
     IsSoFar s now start chain q cell ok k → s.dropping ≡ true → (ok ≡ true → now < q.drop_next) → codel_taken s now ≡ ended_as s k cell q ok
 ended s now start chain q cell ok k i dropping late =
-    let at : (judgement s now k).ok ≡ true → now < due s k = λ e. let d : q.drop_next ≡ due s k = ap (λ (r : CodelState). r.drop_next) i.state ∙ due_at s now k e in rw d at (late (i.judged ∙ e)) in
+    let at : (judgement s now k).ok ≡ true → now < drop_due s k = λ e. let d : q.drop_next ≡ drop_due s k = ap (λ (r : CodelState). r.drop_next) i.state ∙ due_at s now k e in rw d at (late (i.judged ∙ e)) in
     let is : drops s now ≡ k = drops_is s now k i.within i.before (stops_at s now k at) in
     taken_in_drop_state s now dropping
     ∙ ap (λ n. handed_out s n (after_drops s now n)) is

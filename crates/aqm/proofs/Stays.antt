@@ -5,7 +5,7 @@ use Rattle.packet_chain.specs.Stamped.{Stamped}
 use Rattle.aqm.specs.declared.queue.Queue.{Queue}
 use Rattle.aqm.specs.declared.queue.Queue.TheVariants.{DropTail, Codel}
 use Rattle.aqm.specs.DropTail.{DropTailState, empty_fifo, is_full, after_offer}
-use Rattle.aqm.specs.Codel.{CodelState, opening_codel}
+use Rattle.aqm.specs.Codel.{CodelState, initial_codel}
 use Rattle.aqm.specs.Judgement.{judgement}
 use Rattle.aqm.specs.Taken.{codel_taken}
 use Rattle.aqm.specs.Queue.{fifo_of, emptied}
@@ -36,7 +36,7 @@ queues_stay (DropTail s) now = record {
 }
 queues_stay (Codel s) now = record {
   taken = codel_stays s now s.dropping (judgement s now 0).ok refl refl;
-  offered = λ cell. ap (λ n. Codel (opening_codel (empty_fifo n) s.target s.interval s.maxpacket)) (same_capacity s.fifo cell now (is_full s.fifo));
+  offered = λ cell. ap (λ n. Codel (initial_codel (empty_fifo n) s.target s.interval s.maxpacket)) (same_capacity s.fifo cell now (is_full s.fifo));
   fifo = λ cell. refl;
   capacity = refl;
 }

@@ -27,8 +27,8 @@ pub record IsCodel (s : CodelState) : Type 0 where
   pub count_most : s.count ≤ 4294967295
 
 -- at first: nothing is above target, and nothing was dropped
-abbrev pub opening_codel : DropTailState → ℕ → ℕ → ℕ → CodelState
-opening_codel fifo target interval maxpacket = record {
+abbrev pub initial_codel : DropTailState → ℕ → ℕ → ℕ → CodelState
+initial_codel fifo target interval maxpacket = record {
   fifo = fifo;
   target = target;
   interval = interval;

@@ -7,17 +7,17 @@ use Rattle.aqm.specs.Codel.{CodelState}
 use Rattle.aqm.specs.Judgement.{judgement}
 
 -- the count of drops after so many more: it stops at 4,294,967,295
-abbrev pub counted : ℕ → ℕ → ℕ
-counted count more = min (count + more) 4294967295
+abbrev pub count_after_drops : ℕ → ℕ → ℕ
+count_after_drops count more = min (count + more) 4294967295
 
 -- when drops are due: the first at drop_next, each later one a gap after the one before it
-abbrev pub due : CodelState → ℕ → ℕ
-due s zero = s.drop_next
-due s (suc j) = due s j + gap_of s.interval (counted s.count (suc j))
+abbrev pub drop_due : CodelState → ℕ → ℕ
+drop_due s zero = s.drop_next
+drop_due s (suc j) = drop_due s j + gap_of s.interval (count_after_drops s.count (suc j))
 
 -- after j drops there is no further one: the packet at the head may not be dropped, or its drop isn't due yet
 abbrev pub stops : CodelState → ℕ → ℕ → Bool
-stops s now j = not (judgement s now j).ok || nat_lt now (due s j)
+stops s now j = not (judgement s now j).ok || nat_lt now (drop_due s j)
 
 -- the least number of drops after which there is no further one; past the last packet there is none
 abbrev pub drops : CodelState → ℕ → ℕ
@@ -30,7 +30,7 @@ after_drops s now k =
     record s {
       fifo = without_first (k + 1) s.fifo;
       first_above = j.first_above;
-      drop_next = due s (if j.ok then k else k - 1);
-      count = counted s.count k;
+      drop_next = drop_due s (if j.ok then k else k - 1);
+      count = count_after_drops s.count k;
       dropping = j.ok;
     }

@@ -4,9 +4,9 @@ use Rattle.sim_time.specs.declared.queue_kind.QueueKind.{QueueKind}
 use Rattle.packet_chain.specs.Stamped.{Stamped, bytes_of}
 use Rattle.aqm.specs.DropTail.{DropTailState, is_full, after_offer}
 use Rattle.aqm.specs.Codel.{CodelState, IsCodel}
-use Rattle.aqm.specs.Drops.{stops, due, drops}
+use Rattle.aqm.specs.Drops.{stops, drop_due, drops}
 use Rattle.aqm.specs.Taken.{codel_taken}
-use Rattle.aqm.specs.Queue.{fifo_of, waiting_in, opening_queue, emptied, offered_to, taken_from}
+use Rattle.aqm.specs.Queue.{fifo_of, waiting_in, initial_queue, emptied, offered_to, taken_from}
 use Rattle.aqm.specs.declared.queue.Queue.{Queue}
 use Rattle.aqm.specs.declared.queue.Queue.TheVariants.{DropTail, Codel}
 
@@ -35,8 +35,8 @@ QueuesStay = (q : Queue) (now : ℕ) → StaysTheSame q now
 
 -- a queue of a kind is empty at first, and as it was before anything was offered to it
 pub record OpensEmpty (kind : QueueKind) (capacity : ℕ) : Type 0 where
-  pub empty : waiting_in (opening_queue kind capacity) ≡ []
-  pub afresh : emptied (opening_queue kind capacity) ≡ opening_queue kind capacity
+  pub empty : waiting_in (initial_queue kind capacity) ≡ []
+  pub afresh : emptied (initial_queue kind capacity) ≡ initial_queue kind capacity
 
 abbrev pub QueuesOpenEmpty : Type 0
 QueuesOpenEmpty = (kind : QueueKind) (capacity : ℕ) → OpensEmpty kind capacity
@@ -72,15 +72,15 @@ DropsStopAtTheFirstStop = (s : CodelState) (now : ℕ) → IsLeastStop s now (dr
 
 -- in one drop state the wait from a drop to the next is no longer than the one before
 abbrev pub DropsComeCloser : Type 0
-DropsComeCloser = (s : CodelState) (j : ℕ) → due s (j + 2) - due s (j + 1) ≤ due s (j + 1) - due s j
+DropsComeCloser = (s : CodelState) (j : ℕ) → drop_due s (j + 2) - drop_due s (j + 1) ≤ drop_due s (j + 1) - drop_due s j
 
 -- the wait after the first drop of a drop state is no shorter than the next
 abbrev pub FirstWaitIsLongest : Type 0
 FirstWaitIsLongest =
     (s : CodelState) (now : ℕ) → IsCodel s → s.dropping ≡ false → (codel_taken s now).queue.dropping ≡ true →
-    let q = (codel_taken s now).queue in due q 1 - due q 0 ≤ due q 0 - now
+    let q = (codel_taken s now).queue in drop_due q 1 - drop_due q 0 ≤ drop_due q 0 - now
 
 -- while drop state lasts, what is due after a take is what was due before, but for the drops made
 abbrev pub ScheduleStays : Type 0
 ScheduleStays =
-    (s : CodelState) (now j : ℕ) → s.dropping ≡ true → (codel_taken s now).queue.dropping ≡ true → due (codel_taken s now).queue j ≡ due s (drops s now + j)
+    (s : CodelState) (now j : ℕ) → s.dropping ≡ true → (codel_taken s now).queue.dropping ≡ true → drop_due (codel_taken s now).queue j ≡ drop_due s (drops s now + j)

@@ -4,7 +4,7 @@ use Rattle.sim_time.specs.ControlLaw.{gap_of}
 use Rattle.aqm.specs.DropTail.{without_first}
 use Rattle.aqm.specs.Codel.{CodelState}
 use Rattle.aqm.specs.Judgement.{judgement}
-use Rattle.aqm.specs.Drops.{counted}
+use Rattle.aqm.specs.Drops.{count_after_drops}
 
 -- one drop more, and the packet behind it judged: where it may be dropped too, its drop is due a gap after the last
 abbrev pub after_drop : CodelState → ℕ → CodelState
@@ -13,6 +13,6 @@ after_drop s now =
     record s {
       fifo = without_first 1 s.fifo;
       first_above = j.first_above;
-      drop_next = if j.ok then s.drop_next + gap_of s.interval (counted s.count 1) else s.drop_next;
-      count = counted s.count 1;
+      drop_next = if j.ok then s.drop_next + gap_of s.interval (count_after_drops s.count 1) else s.drop_next;
+      count = count_after_drops s.count 1;
     }

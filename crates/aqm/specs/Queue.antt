@@ -8,7 +8,7 @@ use Rattle.aqm.specs.declared.drop_reason.TakeDrop.TheVariants.{Codel as ByCodel
 use Rattle.aqm.specs.declared.queue.Queue.{Queue}
 use Rattle.aqm.specs.declared.queue.Queue.TheVariants.{DropTail, Codel}
 use Rattle.aqm.specs.DropTail.{DropTailState, empty_fifo, after_offer, without_first}
-use Rattle.aqm.specs.Codel.{opening_codel}
+use Rattle.aqm.specs.Codel.{initial_codel}
 use Rattle.aqm.specs.Taken.{codel_taken}
 
 -- the packets and the capacity
@@ -21,14 +21,14 @@ abbrev pub waiting_in : Queue → List Stamped
 waiting_in q = (fifo_of q).waiting
 
 -- a queue of a kind and a capacity, before anything was offered to it
-abbrev pub opening_queue : QueueKind → ℕ → Queue
-opening_queue DropTailKind capacity = DropTail (empty_fifo capacity)
-opening_queue (CodelKind codel) capacity = Codel (opening_codel (empty_fifo capacity) codel.target codel.interval codel.maxpacket)
+abbrev pub initial_queue : QueueKind → ℕ → Queue
+initial_queue DropTailKind capacity = DropTail (empty_fifo capacity)
+initial_queue (CodelKind codel) capacity = Codel (initial_codel (empty_fifo capacity) codel.target codel.interval codel.maxpacket)
 
 -- a queue as it was before anything was offered to it
 abbrev pub emptied : Queue → Queue
 emptied (DropTail s) = DropTail (empty_fifo s.capacity)
-emptied (Codel s) = Codel (opening_codel (empty_fifo s.fifo.capacity) s.target s.interval s.maxpacket)
+emptied (Codel s) = Codel (initial_codel (empty_fifo s.fifo.capacity) s.target s.interval s.maxpacket)
 
 -- the queue after a packet was offered at a moment
 abbrev pub offered_to : Queue → Stamped → ℕ → Queue

@@ -26,14 +26,14 @@ abbrev pub first_count : CodelState → ℕ → ℕ
 first_count s now = if nat_lt 1 (s.count - s.lastcount) && nat_lt (now - s.drop_next) (16 * s.interval) then s.count - s.lastcount else 1
 
 -- drop state begins: the next drop is a gap from now
-abbrev pub begun : CodelState → ℕ → CodelState
-begun s now =
+abbrev pub drop_state_begun : CodelState → ℕ → CodelState
+drop_state_begun s now =
     let count = first_count s now in
     record s { drop_next = now + gap_of s.interval count; count = count; lastcount = count; dropping = true }
 
 -- the first packet was dropped, and the one behind it judged
 abbrev pub after_first_drop : CodelState → ℕ → CodelState
-after_first_drop s now = begun (record s { fifo = without_first 2 s.fifo; first_above = (judgement s now 1).first_above }) now
+after_first_drop s now = drop_state_begun (record s { fifo = without_first 2 s.fifo; first_above = (judgement s now 1).first_above }) now
 
 -- a take: in drop state, outside of it with a packet that may be dropped, and with one that may not
 abbrev pub codel_taken : CodelState → ℕ → CodelTaken

@@ -5,7 +5,7 @@ ghost use Rattle.std.specs.Iterator.Runs.{YieldsInOrder};
 ghost use Rattle.sim_time.specs.Moment.{IsMoment};
 ghost use Rattle.packet_chain.specs.Stamped.{Stamped};
 ghost use Rattle.aqm.specs.DropTail.{DropTailState, after_offer, answer_to};
-ghost use Rattle.aqm.specs.Codel.{IsCodel, opening_codel};
+ghost use Rattle.aqm.specs.Codel.{IsCodel, initial_codel};
 
 mod foresee;
 mod judge;
@@ -68,7 +68,7 @@ impl Codel {
         requires interval_least { 1 ≤ interval }
         requires interval_most { interval ≤ 10000000000 }
         requires maxpacket { 1 ≤ maxpacket }
-        ensures { result ≡ opening_codel (record { waiting = []; capacity = capacity }) target interval maxpacket }
+        ensures { result ≡ initial_codel (record { waiting = []; capacity = capacity }) target interval maxpacket }
     {
         Codel {
             fifo: DropTail::new(alloc, capacity),

@@ -6,7 +6,7 @@ ghost use Rattle.sim_time.specs.Moment.{IsMoment};
 ghost use Rattle.sim_time.specs.QueueLimits.{IsQueueInLimits};
 ghost use Rattle.packet_chain.specs.Stamped.{Stamped};
 ghost use Rattle.aqm.specs.DropTail.{IsDropTail, answer_to};
-ghost use Rattle.aqm.specs.Queue.{fifo_of, waiting_in, opening_queue, offered_to, may_drop, take_reason, taken_from};
+ghost use Rattle.aqm.specs.Queue.{fifo_of, waiting_in, initial_queue, offered_to, may_drop, take_reason, taken_from};
 
 use crate::codel::Codel;
 use crate::drop_reason::TakeDrop;
@@ -31,7 +31,7 @@ impl Queue {
     pub fn new(alloc: Global, kind: QueueKind, capacity: u16) -> Queue
         requires capacity { 1 ≤ capacity }
         requires numbers { IsQueueInLimits kind }
-        ensures { result ≡ opening_queue kind capacity }
+        ensures { result ≡ initial_queue kind capacity }
     {
         match kind {
             QueueKind::DropTail => Queue::DropTail(DropTail::new(alloc, capacity)),

@@ -153,8 +153,8 @@ abbrev pub WordsAskForOne : Type 0
 WordsAskForOne = (words : List (List ℕ)) → AskForOne words
 
 -- one worker, and all nodes in one group
-abbrev pub alone : SharingValue
-alone = record { workers = 1; groups = codes "one" }
+abbrev pub one_worker_one_group : SharingValue
+one_worker_one_group = record { workers = 1; groups = codes "one" }
 
 -- three workers, and the groups of two nodes
 abbrev pub shared : SharingValue
@@ -174,12 +174,12 @@ series_counting = record { from = None; every = Some (codes "10ms"); series = tr
 abbrev pub no_wishes : Wishes
 no_wishes = record { progress = false; explain = false }
 
-abbrev pub told : Wishes
-told = record { progress = true; explain = false }
+abbrev pub reported : Wishes
+reported = record { progress = true; explain = false }
 
 -- to be shown why an input is refused
-abbrev pub shown : Wishes
-shown = record { progress = false; explain = true }
+abbrev pub explain_asked : Wishes
+explain_asked = record { progress = false; explain = true }
 
 -- a session of standard input, where no file is named
 abbrev pub of_input : Task → Asked
@@ -189,23 +189,23 @@ of_input task = Session task None no_wishes
 pub record WordsOfSubcommands : Type 0 where
   pub asm : AskFor (codes "tcpsim" ∷ codes "asm" ∷ []) (of_input (Scenario Asm))
   pub dis : AskFor (codes "tcpsim" ∷ codes "dis" ∷ []) (of_input (Scenario Dis))
-  pub run : AskFor (codes "tcpsim" ∷ codes "run" ∷ []) (of_input (Scenario (Run alone)))
+  pub run : AskFor (codes "tcpsim" ∷ codes "run" ∷ []) (of_input (Scenario (Run one_worker_one_group)))
   pub run_shared : AskFor (codes "tcpsim" ∷ codes "run" ∷ codes "--workers" ∷ codes "3" ∷ codes "--groups=0,1" ∷ []) (of_input (Scenario (Run shared)))
-  pub debug : AskFor (codes "tcpsim" ∷ codes "debug" ∷ []) (of_input (Debug alone))
+  pub debug : AskFor (codes "tcpsim" ∷ codes "debug" ∷ []) (of_input (Debug one_worker_one_group))
   pub debug_shared : AskFor (codes "tcpsim" ∷ codes "debug" ∷ codes "--groups" ∷ codes "0,1" ∷ codes "--workers=+3" ∷ []) (of_input (Debug shared))
   pub debug_file : AskFor (codes "tcpsim" ∷ codes "debug" ∷ codes "a.txt" ∷ codes "--workers=3" ∷ codes "--groups=0,1" ∷ []) (Session (Debug shared) (Some (codes "a.txt")) no_wishes)
-  pub debug_dash : AskFor (codes "tcpsim" ∷ codes "debug" ∷ codes "-" ∷ []) (Session (Debug alone) (Some (codes "-")) no_wishes)
-  pub debug_shown : AskFor (codes "tcpsim" ∷ codes "debug" ∷ codes "--explain" ∷ codes "a.txt" ∷ []) (Session (Debug alone) (Some (codes "a.txt")) shown)
+  pub debug_dash : AskFor (codes "tcpsim" ∷ codes "debug" ∷ codes "-" ∷ []) (Session (Debug one_worker_one_group) (Some (codes "-")) no_wishes)
+  pub debug_shown : AskFor (codes "tcpsim" ∷ codes "debug" ∷ codes "--explain" ∷ codes "a.txt" ∷ []) (Session (Debug one_worker_one_group) (Some (codes "a.txt")) explain_asked)
   pub asm_file : AskFor (codes "tcpsim" ∷ codes "asm" ∷ codes "a.txt" ∷ []) (Session (Scenario Asm) (Some (codes "a.txt")) no_wishes)
   pub dis_file : AskFor (codes "tcpsim" ∷ codes "dis" ∷ codes "-" ∷ []) (Session (Scenario Dis) (Some (codes "-")) no_wishes)
   pub run_file : AskFor (codes "tcpsim" ∷ codes "run" ∷ codes "--workers" ∷ codes "3" ∷ codes "a.txt" ∷ codes "--groups=0,1" ∷ []) (Session (Scenario (Run shared)) (Some (codes "a.txt")) no_wishes)
-  pub run_dashes : AskFor (codes "tcpsim" ∷ codes "run" ∷ codes "--" ∷ codes "--workers" ∷ []) (Session (Scenario (Run alone)) (Some (codes "--workers")) no_wishes)
-  pub run_told : AskFor (codes "tcpsim" ∷ codes "run" ∷ codes "--progress" ∷ codes "a.txt" ∷ []) (Session (Scenario (Run alone)) (Some (codes "a.txt")) told)
+  pub run_dashes : AskFor (codes "tcpsim" ∷ codes "run" ∷ codes "--" ∷ codes "--workers" ∷ []) (Session (Scenario (Run one_worker_one_group)) (Some (codes "--workers")) no_wishes)
+  pub run_reported : AskFor (codes "tcpsim" ∷ codes "run" ∷ codes "--progress" ∷ codes "a.txt" ∷ []) (Session (Scenario (Run one_worker_one_group)) (Some (codes "a.txt")) reported)
   pub figures : AskFor (codes "tcpsim" ∷ codes "figures" ∷ []) (of_input (Scenario (Figures plain_counting)))
-  pub figures_told : AskFor (codes "tcpsim" ∷ codes "figures" ∷ codes "--progress" ∷ codes "a.txt" ∷ []) (Session (Scenario (Figures plain_counting)) (Some (codes "a.txt")) told)
+  pub figures_reported : AskFor (codes "tcpsim" ∷ codes "figures" ∷ codes "--progress" ∷ codes "a.txt" ∷ []) (Session (Scenario (Figures plain_counting)) (Some (codes "a.txt")) reported)
   pub figures_from : AskFor (codes "tcpsim" ∷ codes "figures" ∷ codes "--from" ∷ codes "1.5s" ∷ codes "a.txt" ∷ []) (Session (Scenario (Figures later_counting)) (Some (codes "a.txt")) no_wishes)
   pub figures_by_time : AskFor (codes "tcpsim" ∷ codes "figures" ∷ codes "--series" ∷ codes "--every=10ms" ∷ codes "a.txt" ∷ codes "--names" ∷ []) (Session (Scenario (Figures series_counting)) (Some (codes "a.txt")) no_wishes)
-  pub asm_shown : AskFor (codes "tcpsim" ∷ codes "asm" ∷ codes "a.txt" ∷ codes "--explain" ∷ []) (Session (Scenario Asm) (Some (codes "a.txt")) shown)
+  pub asm_shown : AskFor (codes "tcpsim" ∷ codes "asm" ∷ codes "a.txt" ∷ codes "--explain" ∷ []) (Session (Scenario Asm) (Some (codes "a.txt")) explain_asked)
   pub explain : AskFor (codes "tcpsim" ∷ codes "explain" ∷ []) (Explanation None)
   pub explain_code : AskFor (codes "tcpsim" ∷ codes "explain" ∷ codes "E4" ∷ []) (Explanation (Some (codes "E4")))
 
@@ -253,5 +253,5 @@ pub record WordsOfMistake : Type 0 where
   pub many_workers : AreMistaken (codes "tcpsim" ∷ codes "debug" ∷ codes "--workers" ∷ codes "65" ∷ [])
   pub asm_is_not_shared : AreMistaken (codes "tcpsim" ∷ codes "asm" ∷ codes "--groups" ∷ codes "one" ∷ [])
   pub figures_are_not_shared : AreMistaken (codes "tcpsim" ∷ codes "figures" ∷ codes "--workers" ∷ codes "2" ∷ [])
-  pub debug_is_not_told : AreMistaken (codes "tcpsim" ∷ codes "debug" ∷ codes "--progress" ∷ [])
+  pub debug_is_not_reported : AreMistaken (codes "tcpsim" ∷ codes "debug" ∷ codes "--progress" ∷ [])
   pub two_codes : AreMistaken (codes "tcpsim" ∷ codes "explain" ∷ codes "E1" ∷ codes "E2" ∷ [])

@@ -1,7 +1,7 @@
 //! Why an input is refused, as a person is shown it.
 
-use explanations::{Names, image_parts, tell_witness, text_of};
-use scenario_asm::{Part, Place, fault_place, parts_of_text};
+use explanations::{Names, image_parts, tell_counterexample, text_of};
+use scenario_asm::{FaultPlace, Part, fault_place, parts_of_text};
 use std::alloc::{AllocError, Global};
 
 /// How many bytes of a line are shown at most, and how many of them before what is wrong.
@@ -27,7 +27,7 @@ fn push_times(shown: &mut String, count: usize, it: char) -> Result<(), AllocErr
 }
 
 /// Where what is wrong with a line begins in it, and how many bytes it has.
-fn faulty_part(place: &Place) -> (usize, usize) {
+fn faulty_part(place: &FaultPlace) -> (usize, usize) {
     match place.part {
         Part::Line => (0, place.bytes.len()),
         Part::Byte(at) => (at, 1),
@@ -37,7 +37,7 @@ fn faulty_part(place: &Place) -> (usize, usize) {
 
 /// Adds the line that is refused, or the bytes of it around what is wrong, and a second line with
 /// carets under that.
-fn push_place(shown: &mut String, place: &Place) -> Result<(), AllocError> {
+fn push_place(shown: &mut String, place: &FaultPlace) -> Result<(), AllocError> {
     let (start, count) = faulty_part(place);
     let first = start.saturating_sub(BEFORE).min(place.bytes.len());
     let last = place.bytes.len().min(first.saturating_add(SHOWN));
@@ -65,7 +65,7 @@ fn push_meaning(shown: &mut String, code: &str) -> Result<(), AllocError> {
 }
 
 /// Adds what shows first that a text in which no line is faulty has the fault of this code, by names.
-fn push_text_witness(
+fn push_text_counterexample(
     alloc: Global,
     shown: &mut String,
     text: &[u8],
@@ -77,23 +77,23 @@ fn push_text_witness(
             links: named.links.as_slice(),
             flows: named.flows.as_slice(),
         };
-        if let Some(told) = tell_witness(alloc, code, &named.parts, &names)? {
-            shown.push_str(told.as_str())?;
+        if let Some(reported) = tell_counterexample(alloc, code, &named.parts, &names)? {
+            shown.push_str(reported.as_str())?;
         }
     }
     Ok(())
 }
 
 /// Adds what shows first that an image has the fault of this code, by numbers.
-fn push_image_witness(
+fn push_image_counterexample(
     alloc: Global,
     shown: &mut String,
     image: &[u8],
     code: &str,
 ) -> Result<(), AllocError> {
     if let Some(parts) = image_parts(alloc, image)? {
-        if let Some(told) = tell_witness(alloc, code, &parts, &Names::NONE)? {
-            shown.push_str(told.as_str())?;
+        if let Some(reported) = tell_counterexample(alloc, code, &parts, &Names::NONE)? {
+            shown.push_str(reported.as_str())?;
         }
     }
     Ok(())
@@ -119,7 +119,7 @@ pub fn text_reason(alloc: Global, text: &[u8], code: &str) -> Result<String, All
     let mut shown = String::new(alloc);
     match fault_place(alloc, text)? {
         Some(place) => push_place(&mut shown, &place)?,
-        None => push_text_witness(alloc, &mut shown, text, code)?,
+        None => push_text_counterexample(alloc, &mut shown, text, code)?,
     }
     push_meaning(&mut shown, code)?;
     Ok(shown)
@@ -128,7 +128,7 @@ pub fn text_reason(alloc: Global, text: &[u8], code: &str) -> Result<String, All
 /// What is shown of an image that is refused by this code: what shows the fault first, and what the code means.
 pub fn image_reason(alloc: Global, image: &[u8], code: &str) -> Result<String, AllocError> {
     let mut shown = String::new(alloc);
-    push_image_witness(alloc, &mut shown, image, code)?;
+    push_image_counterexample(alloc, &mut shown, image, code)?;
     push_meaning(&mut shown, code)?;
     Ok(shown)
 }

@@ -20,7 +20,7 @@ use Rattle.debug_session.specs.TypedAnswers.{ObeysTyped}
 use Rattle.debug_session.proofs.Setting.{stands}
 
 pub set_again : (b : Break) (d : Debugging) (out : List ℕ) → (i : ℕ) × IsNumber d.breaks b i × (out ≡ set_line i b) → ObeysTyped d.start (Plain (SetBreak b)) (standing d) (standing d) out
-set_again b d out has = inl (inl (has.0, has.1, record { same = refl; told = has.2 }))
+set_again b d out has = inl (inl (has.0, has.1, record { same = refl; reported = has.2 }))
 
 module _ (b : Break) (old new : Debugging) (out : List ℕ) (hasn't : ¬ Contains old.breaks b) (known : length old.breaks ≤ 64) where
   fewer : (length old.breaks ≡ 64 → ⊥) → length old.breaks < 64
@@ -28,29 +28,29 @@ module _ (b : Break) (old new : Debugging) (out : List ℕ) (hasn't : ¬ Contain
 
   pub set_joined : (n : ℕ) → new ≡ record old { breaks = new.breaks } → n ≡ length new.breaks → new.breaks ≡ old.breaks ++ b ∷ [] → (length old.breaks ≡ 64 → ⊥) → out ≡ set_line n b
       → ObeysTyped old.start (Plain (SetBreak b)) (standing old) (standing new) out
-  set_joined n same count joined full told =
+  set_joined n same count joined full reported =
       inl (inr (inl (record {
         fresh = hasn't;
         few = fewer full;
         joined = stands old new same (old.breaks ++ b ∷ []) joined;
-        told = told ∙ ap (λ i. set_line i b) (count ∙ ap length joined ∙ length-append old.breaks (b ∷ []));
+        reported = reported ∙ ap (λ i. set_line i b) (count ∙ ap length joined ∙ length-append old.breaks (b ∷ []));
       })))
 
   pub set_full : new ≡ old → (length old.breaks < 64 → ⊥) → out ≡ refusal_line B4 → ObeysTyped old.start (Plain (SetBreak b)) (standing old) (standing new) out
-  set_full same room told =
+  set_full same room reported =
       let many : length old.breaks ≡ 64 = ⊎_elim (λ (under : length old.breaks < 64). absurd (room under)) (λ (past : 64 ≤ length old.breaks). omega (arith, past, known)) (cases_lt (length old.breaks) 64) in
-      inl (inr (inr (hasn't, many, record { same = ap standing same; told = told })))
+      inl (inr (inr (hasn't, many, record { same = ap standing same; reported = reported })))
 
   pub set_refused : new ≡ old → (length old.breaks ≡ 64 → ⊥) → out ≡ refusal_line M → ObeysTyped old.start (Plain (SetBreak b)) (standing old) (standing new) out
-  set_refused same full told = inr ((hasn't, fewer full), record { same = ap standing same; told = told })
+  set_refused same full reported = inr ((hasn't, fewer full), record { same = ap standing same; reported = reported })
 
 pub taken_away : (number index : ℕ) (b : Break) (old new : Debugging) (out : List ℕ) → number ≡ index + 1 → new ≡ record old { breaks = new.breaks } → IsTakenOut old.breaks new.breaks index b → out ≡ deleted_line number b
     → ObeysTyped old.start (Delete number) (standing old) (standing new) out
-taken_away number index b old new out count same taken told =
-    inl (inl (record { index = index; b = b; number = count; taken = taken; same = stands old new same new.breaks refl; told = told }))
+taken_away number index b old new out count same taken reported =
+    inl (inl (record { index = index; b = b; number = count; taken = taken; same = stands old new same new.breaks refl; reported = reported }))
 
 pub none_to_take : (number : ℕ) (d : Debugging) (out : List ℕ) → (number < 1) ⊎ (length d.breaks < number) → out ≡ refusal_line B5 → ObeysTyped d.start (Delete number) (standing d) (standing d) out
-none_to_take number d out outside told = inl (inr (hasn't, record { same = refl; told = told }))
+none_to_take number d out outside reported = inl (inr (hasn't, record { same = refl; reported = reported }))
   where
     hasn't : ¬ HasNumber d.breaks number
     hasn't has = ⊎_elim (λ (low : number < 1). omega (arith, low, has.above)) (λ (high : length d.breaks < number). omega (arith, high, has.upto)) outside
@@ -63,23 +63,23 @@ pub clear_obeyed : (start : NetState) (old new : Standing) (out : List ℕ) → 
 clear_obeyed start old new out obeys = obeys
 
 -- what help tells
-pub help_told : (d : Debugging) (out : List ℕ) → (out ≡ help_text) ⊎ (out ≡ refusal_line M) → ObeysTyped d.start Help (standing d) (standing d) out
-help_told d out told = ⊎_elim (λ (t : out ≡ help_text). inl (record { same = refl; told = t })) (λ (t : out ≡ refusal_line M). inr (tt, record { same = refl; told = t })) told
+pub help_reported : (d : Debugging) (out : List ℕ) → (out ≡ help_text) ⊎ (out ≡ refusal_line M) → ObeysTyped d.start Help (standing d) (standing d) out
+help_reported d out reported = ⊎_elim (λ (t : out ≡ help_text). inl (record { same = refl; reported = t })) (λ (t : out ≡ refusal_line M). inr (tt, record { same = refl; reported = t })) reported
 
-pub help_on_told : (d : Debugging) (topic : Topic) (out : List ℕ) → (out ≡ help_on topic) ⊎ (out ≡ refusal_line M) → ObeysTyped d.start (HelpOn topic) (standing d) (standing d) out
-help_on_told d topic out told = ⊎_elim (λ (t : out ≡ help_on topic). inl (record { same = refl; told = t })) (λ (t : out ≡ refusal_line M). inr (tt, record { same = refl; told = t })) told
+pub help_on_reported : (d : Debugging) (topic : Topic) (out : List ℕ) → (out ≡ help_on topic) ⊎ (out ≡ refusal_line M) → ObeysTyped d.start (HelpOn topic) (standing d) (standing d) out
+help_on_reported d topic out reported = ⊎_elim (λ (t : out ≡ help_on topic). inl (record { same = refl; reported = t })) (λ (t : out ≡ refusal_line M). inr (tt, record { same = refl; reported = t })) reported
 
 -- what is told of a part of the state
-pub part_told : (d : Debugging) (part : DumpPart) (out : List ℕ) → (out ≡ part_bytes part d.shown) ⊎ (out ≡ refusal_line M) → ObeysTyped d.start (Part part) (standing d) (standing d) out
-part_told d part out told = ⊎_elim (λ (t : out ≡ part_bytes part d.shown). inl (record { same = refl; told = t })) (λ (t : out ≡ refusal_line M). inr (tt, record { same = refl; told = t })) told
+pub part_reported : (d : Debugging) (part : DumpPart) (out : List ℕ) → (out ≡ part_bytes part d.shown) ⊎ (out ≡ refusal_line M) → ObeysTyped d.start (Part part) (standing d) (standing d) out
+part_reported d part out reported = ⊎_elim (λ (t : out ≡ part_bytes part d.shown). inl (record { same = refl; reported = t })) (λ (t : out ≡ refusal_line M). inr (tt, record { same = refl; reported = t })) reported
 
 -- what is told of a flow
-pub why_told : (d : Debugging) (flow : ℕ) (out : List ℕ) → (out ≡ waits_bytes flow d.shown.state) ⊎ (out ≡ refusal_line M) → ObeysTyped d.start (Why flow) (standing d) (standing d) out
-why_told d flow out told = ⊎_elim (λ (t : out ≡ waits_bytes flow d.shown.state). inl (record { same = refl; told = t })) (λ (t : out ≡ refusal_line M). inr (tt, record { same = refl; told = t })) told
+pub why_reported : (d : Debugging) (flow : ℕ) (out : List ℕ) → (out ≡ waits_bytes flow d.shown.state) ⊎ (out ≡ refusal_line M) → ObeysTyped d.start (Why flow) (standing d) (standing d) out
+why_reported d flow out reported = ⊎_elim (λ (t : out ≡ waits_bytes flow d.shown.state). inl (record { same = refl; reported = t })) (λ (t : out ≡ refusal_line M). inr (tt, record { same = refl; reported = t })) reported
 
 -- what is told of the breakpoints
-pub breaks_told : (d : Debugging) (breaks : List Break) (out : List ℕ) → breaks ≡ d.breaks → out ≡ listing breaks → ObeysTyped d.start Breaks (standing d) (standing d) out
-breaks_told d breaks out same told = inl (record { same = refl; told = told ∙ ap listing same })
+pub breaks_reported : (d : Debugging) (breaks : List Break) (out : List ℕ) → breaks ≡ d.breaks → out ≡ listing breaks → ObeysTyped d.start Breaks (standing d) (standing d) out
+breaks_reported d breaks out same reported = inl (record { same = refl; reported = reported ∙ ap listing same })
 
 pub breaks_refused : (d : Debugging) (breaks : List Break) (out : List ℕ) → breaks ≡ d.breaks → 0 < length breaks → out ≡ refusal_line M → ObeysTyped d.start Breaks (standing d) (standing d) out
-breaks_refused d breaks out same some told = inr (subst (λ (bs : List Break). 0 < length bs) same some, record { same = refl; told = told })
+breaks_refused d breaks out same some reported = inr (subst (λ (bs : List Break). 0 < length bs) same some, record { same = refl; reported = reported })

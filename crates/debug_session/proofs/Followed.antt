@@ -9,7 +9,7 @@ use Rattle.debug_session.specs.Prompt.{AtPrompt, ObeysAtPrompt, MovesAgain, Foll
 use Rattle.debug_session.specs.TypedGrammar.{TypedReading, typed_reading}
 
 pub nothing_again : (start : State) (old : AtPrompt) (out : List ℕ) → old.memo.last ≡ None → out ≡ [] → MovesAgain start old.memo.last old old out
-nothing_again start old out none told = subst (λ (m : Option Typed). MovesAgain start m old old out) (sym none) (record { same = refl; told = told })
+nothing_again start old out none reported = subst (λ (m : Option Typed). MovesAgain start m old old out) (sym none) (record { same = refl; reported = reported })
 
 pub done_again : (start : State) (old new : AtPrompt) (out : List ℕ) (move : Typed) → old.memo.last ≡ Some move → ObeysAtPrompt start move old new out → MovesAgain start old.memo.last old new out
 done_again start old new out move is obeys = subst (λ (m : Option Typed). MovesAgain start m old new out) (sym is) obeys
@@ -23,4 +23,4 @@ module _ (limits : Limits) (start : State) (line : List ℕ) (old new : AtPrompt
 
 pub is_refused : (limits : Limits) (start : State) (line : List ℕ) (old : AtPrompt) (out : List ℕ) (refusal : Refusal) → Some (Err refusal) ≡ typed_reading limits line → out ≡ refusal_line refusal
     → AnswersTyped limits start line old old out
-is_refused limits start line old out refusal read told = subst (λ (r : Option TypedReading). FollowsTyped start r old old out) read (record { same = refl; told = told })
+is_refused limits start line old out refusal read reported = subst (λ (r : Option TypedReading). FollowsTyped start r old old out) read (record { same = refl; reported = reported })

@@ -17,14 +17,14 @@ pub listed_all : (out all : List ℕ) (i n : ℕ) (breaks : List Break) → leng
 listed_all out all i n breaks past so_far = sym (append-nil out) ∙ ap (λ bs. out ++ lines_from n bs) (sym (drop_all i breaks past)) ∙ so_far
 
 -- the same of texts of other things
-pub told_more : {A : Type 0} (text : A → List ℕ) (out made all : List ℕ) (i : ℕ) (xs : List A) (x : A) → i < length xs → x ≡ get_or xs i x → made ≡ out ++ text x
+pub reported_more : {A : Type 0} (text : A → List ℕ) (out made all : List ℕ) (i : ℕ) (xs : List A) (x : A) → i < length xs → x ≡ get_or xs i x → made ≡ out ++ text x
     → out ++ flat_map text (drop i xs) ≡ all → made ++ flat_map text (drop (i + 1) xs) ≡ all
-told_more text out made all i xs x within is appended so_far =
+reported_more text out made all i xs x within is appended so_far =
     let next : drop i xs ≡ x ∷ drop (i + 1) xs = drop_more xs i x within ∙ ap (λ y. y ∷ drop (i + 1) xs) (sym is) in
     ap (λ l. l ++ flat_map text (drop (i + 1) xs)) appended ∙ append_assoc out (text x) (flat_map text (drop (i + 1) xs)) ∙ ap (λ ys. out ++ flat_map text ys) (sym next) ∙ so_far
 
-pub told_all : {A : Type 0} (text : A → List ℕ) (out all : List ℕ) (i : ℕ) (xs : List A) → length xs ≤ i → out ++ flat_map text (drop i xs) ≡ all → out ≡ all
-told_all text out all i xs past so_far = sym (append-nil out) ∙ ap (λ ys. out ++ flat_map text ys) (sym (drop_all i xs past)) ∙ so_far
+pub reported_all : {A : Type 0} (text : A → List ℕ) (out all : List ℕ) (i : ℕ) (xs : List A) → length xs ≤ i → out ++ flat_map text (drop i xs) ≡ all → out ≡ all
+reported_all text out all i xs past so_far = sym (append-nil out) ∙ ap (λ ys. out ++ flat_map text ys) (sym (drop_all i xs past)) ∙ so_far
 
 -- the first of so many that is this one has the number behind those before it
 pub is_number : (breaks : List Break) (b : Break) (i n : ℕ) → i < length breaks → ¬ Contains (take i breaks) b → Contains (take (i + 1) breaks) b → n ≡ i + 1 → IsNumber breaks b n

@@ -2,42 +2,42 @@
 use Rattle.std.proofs.Common.{◌≡◌, ℕ, List, Option, Ok, Err, inl, inr, sym, subst, ◌∙◌, ◌++◌}
 use Rattle.scenario_image.specs.declared.parts.ScenarioParts.{ScenarioParts}
 use Rattle.scenario_asm.specs.declared.fault.Fault.{Fault}
-use Rattle.scenario_asm.specs.Lines.{lines_of}
+use Rattle.scenario_asm.specs.Lines.{lines_of_text}
 use Rattle.scenario_asm.specs.Meaning.{AreRead, MeansScenario, MeansFault}
-use Rattle.table_run.specs.State.{opening}
-use Rattle.debugger.specs.Debugging.{opened}
-use Rattle.debug_session.specs.declared.session.SessionFault.TheVariants.{OutputFailed}
+use Rattle.table_run.specs.State.{initial}
+use Rattle.debugger.specs.Debugging.{debugging_opened}
+use Rattle.debug_session.specs.declared.session.DialogueFault.TheVariants.{OutputFailed}
 use Rattle.debug_session.specs.Input.{text_lines, command_lines}
 use Rattle.debug_session.specs.Taking.{Takes, IsBeginningOf}
 use Rattle.debug_session.specs.Answers.{standing}
 use Rattle.debug_session.specs.Sessions.{Output, OutputStart, limits_of, HasScenario, HasFault, IsOutput, IsOutputStart, IsEnding}
 
 -- texts of the same lines mean the same
-pub same_scenario : (a b : List ℕ) (p : ScenarioParts) → lines_of a ≡ lines_of b → MeansScenario a p → MeansScenario b p
+pub same_scenario : (a b : List ℕ) (p : ScenarioParts) → lines_of_text a ≡ lines_of_text b → MeansScenario a p → MeansScenario b p
 same_scenario a b p same m = record { said = m.said; all_read = subst (λ ls. AreRead ls m.said) same m.all_read; made = m.made }
 
-pub same_fault : (a b : List ℕ) (number : ℕ) (fault : Fault) → lines_of a ≡ lines_of b → MeansFault a number fault → MeansFault b number fault
+pub same_fault : (a b : List ℕ) (number : ℕ) (fault : Fault) → lines_of_text a ≡ lines_of_text b → MeansFault a number fault → MeansFault b number fault
 same_fault a b number fault same (inl m) = inl (record { above = m.above; line = m.line; below = m.below; said = m.said; lines = sym same ∙ m.lines; counted = m.counted; above_read = m.above_read; faulty = m.faulty })
 same_fault a b number fault same (inr m) = inr (record { said = m.said; all_read = subst (λ ls. AreRead ls m.said) same m.all_read; no_line = m.no_line; faulty = m.faulty })
 
-pub scenario_of : (input text : List ℕ) (p : ScenarioParts) → lines_of text ≡ text_lines input → HasScenario input p → MeansScenario text p
+pub scenario_of : (input text : List ℕ) (p : ScenarioParts) → lines_of_text text ≡ text_lines input → HasScenario input p → MeansScenario text p
 scenario_of input text p same (other, lines, means) = same_scenario other text p (lines ∙ sym same) means
 
-pub fault_of : (input text : List ℕ) (number : ℕ) (fault : Fault) → lines_of text ≡ text_lines input → HasFault input number fault → MeansFault text number fault
+pub fault_of : (input text : List ℕ) (number : ℕ) (fault : Fault) → lines_of_text text ≡ text_lines input → HasFault input number fault → MeansFault text number fault
 fault_of input text number fault same (other, lines, means) = same_fault other text number fault (lines ∙ sym same) means
 
 -- the input has a text that means this scenario, and these commands
-module _ (input text commands : List ℕ) (p : ScenarioParts) (before after : Option (List ℕ)) (same : lines_of text ≡ text_lines input) (behind : lines_of commands ≡ command_lines input) (means : MeansScenario text p) where
+module _ (input text commands : List ℕ) (p : ScenarioParts) (before after : Option (List ℕ)) (same : lines_of_text text ≡ text_lines input) (behind : lines_of_text commands ≡ command_lines input) (means : MeansScenario text p) where
   -- what a session over the scenario puts out, that is done, is the input's output
-  pub whole_output : Takes (IsEnding p (lines_of commands) (Ok tt)) before after → Takes (IsOutput input) before after
+  pub whole_output : Takes (IsEnding p (lines_of_text commands) (Ok tt)) before after → Takes (IsOutput input) before after
   whole_output took =
-      (took.0, took.1, record { scenario = p; meant = (text, same, means); answers = subst (λ (ls : List (List ℕ)). Output (limits_of p) (opening p) ls (standing (opened (opening p))) took.0) behind took.2 })
+      (took.0, took.1, record { scenario = p; meant = (text, same, means); answers = subst (λ (ls : List (List ℕ)). Output (limits_of p) (initial p) ls (standing (debugging_opened (initial p))) took.0) behind took.2 })
 
   -- and where the output failed, a beginning of that of the first commands
-  pub begun_output : Takes (IsEnding p (lines_of commands) (Err OutputFailed)) before after → Takes (IsBeginningOf (IsOutputStart input)) before after
+  pub begun_output : Takes (IsEnding p (lines_of_text commands) (Err OutputFailed)) before after → Takes (IsBeginningOf (IsOutputStart input)) before after
   begun_output took =
       let all = took.0 ++ took.2.0 in (
         took.0,
         took.1,
-        (took.2.0, record { scenario = p; meant = (text, same, means); answers = subst (λ (ls : List (List ℕ)). OutputStart (limits_of p) (opening p) ls (standing (opened (opening p))) all) behind took.2.1 }),
+        (took.2.0, record { scenario = p; meant = (text, same, means); answers = subst (λ (ls : List (List ℕ)). OutputStart (limits_of p) (initial p) ls (standing (debugging_opened (initial p))) all) behind took.2.1 }),
       )

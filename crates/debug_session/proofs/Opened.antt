@@ -1,15 +1,15 @@
--- What a session puts out that begins at the opening state of a scenario.
+-- What a session puts out that begins at the initial state of a scenario.
 use Rattle.std.proofs.Common.{◌≡◌, ℕ, List, ◌++◌, Option, Ok, Err, subst}
 use Rattle.scenario_image.specs.declared.parts.ScenarioParts.{ScenarioParts}
-use Rattle.table_run.specs.State.{opening}
-use Rattle.debugger.specs.Debugging.{Debugging, opened}
+use Rattle.table_run.specs.State.{initial}
+use Rattle.debugger.specs.Debugging.{Debugging, debugging_opened}
 use Rattle.debug_session.specs.declared.command.Limits.{Limits}
-use Rattle.debug_session.specs.declared.session.SessionFault.TheVariants.{OutputFailed}
+use Rattle.debug_session.specs.declared.session.DialogueFault.TheVariants.{OutputFailed}
 use Rattle.debug_session.specs.Taking.{Takes, IsBeginningOf}
 use Rattle.debug_session.specs.Answers.{standing}
 use Rattle.debug_session.specs.Sessions.{Output, OutputStart, limits_of, IsEnding}
 
-module _ (lines : List (List ℕ)) (p : ScenarioParts) (d : Debugging) (limits : Limits) (before after : Option (List ℕ)) (is : d ≡ opened (opening p)) (bounds : limits ≡ limits_of p) where
+module _ (lines : List (List ℕ)) (p : ScenarioParts) (d : Debugging) (limits : Limits) (before after : Option (List ℕ)) (is : d ≡ debugging_opened (initial p)) (bounds : limits ≡ limits_of p) where
   pub all_put : Takes (Output limits d.start lines (standing d)) before after → Takes (IsEnding p lines (Ok tt)) before after
   all_put took =
       let one = subst (λ (l : Limits). Output l d.start lines (standing d) took.0) bounds took.2 in

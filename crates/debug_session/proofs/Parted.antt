@@ -5,7 +5,7 @@ use Rattle.std.proofs.lemmas.Bool.{false≢true, eqb-true}
 use Rattle.std.proofs.lemmas.List.{take_all, drop_all}
 use Rattle.std.proofs.lemmas.List.Folds.{list_all-append}
 use Rattle.std.specs.List.{before_first, after_first, onto_first, list_all, prefix_len}
-use Rattle.scenario_asm.specs.Lines.{lines_of}
+use Rattle.scenario_asm.specs.Lines.{lines_of_text}
 use Rattle.scenario_asm.proofs.Pieces.{pieces_first}
 use Rattle.debug_session.specs.Input.{is_marker, text_lines, command_lines}
 
@@ -19,21 +19,21 @@ onto_append : (b : ℕ) (ps qs : List (List ℕ)) → 0 < length ps → onto_fir
 onto_append b [] qs some = absurd (omega (arith, some))
 onto_append b (p ∷ ps) qs some = refl
 
-some_pieces : (b : ℕ) (bs : List ℕ) → 0 < length (lines_of (b ∷ bs))
-some_pieces b bs = elim (b == 10) as (λ t. 0 < length (cond t ([] ∷ lines_of bs) (onto_first b (lines_of bs)))) [ true ↦ omega arith | false ↦ onto_some (lines_of bs) ]
+some_pieces : (b : ℕ) (bs : List ℕ) → 0 < length (lines_of_text (b ∷ bs))
+some_pieces b bs = elim (b == 10) as (λ t. 0 < length (cond t ([] ∷ lines_of_text bs) (onto_first b (lines_of_text bs)))) [ true ↦ omega arith | false ↦ onto_some (lines_of_text bs) ]
   where
     onto_some : (ps : List (List ℕ)) → 0 < length (onto_first b ps)
     onto_some [] = omega arith
     onto_some (p ∷ ps) = omega arith
 
 -- behind whole lines the lines are those of the rest
-pub whole_lines : (a b : List ℕ) → is_whole a ≡ true → lines_of (a ++ b) ≡ lines_of a ++ lines_of b
+pub whole_lines : (a b : List ℕ) → is_whole a ≡ true → lines_of_text (a ++ b) ≡ lines_of_text a ++ lines_of_text b
 whole_lines [] b h = refl
 whole_lines (x ∷ []) b h = simp h
 whole_lines (x ∷ y ∷ a) b h =
-    elim (x == 10) as (λ t. cond t ([] ∷ lines_of (y ∷ a ++ b)) (onto_first x (lines_of (y ∷ a ++ b))) ≡ cond t ([] ∷ lines_of (y ∷ a)) (onto_first x (lines_of (y ∷ a))) ++ lines_of b) [
+    elim (x == 10) as (λ t. cond t ([] ∷ lines_of_text (y ∷ a ++ b)) (onto_first x (lines_of_text (y ∷ a ++ b))) ≡ cond t ([] ∷ lines_of_text (y ∷ a)) (onto_first x (lines_of_text (y ∷ a))) ++ lines_of_text b) [
       | true ↦ ap (λ ls. [] ∷ ls) (whole_lines (y ∷ a) b h)
-      | false ↦ ap (onto_first x) (whole_lines (y ∷ a) b h) ∙ onto_append x (lines_of (y ∷ a)) (lines_of b) (some_pieces y a)
+      | false ↦ ap (onto_first x) (whole_lines (y ∷ a) b h) ∙ onto_append x (lines_of_text (y ∷ a)) (lines_of_text b) (some_pieces y a)
     ]
 
 whole_ended : (line : List ℕ) → is_whole (line ++ 10 ∷ []) ≡ true
@@ -49,7 +49,7 @@ whole_append (x ∷ y ∷ a) b h k = whole_append (y ∷ a) b h k
 
 -- a line and what stands behind it: either the line is ended, or it is the last
 abbrev pub IsCut : List ℕ → List ℕ → List ℕ → Type 0
-IsCut bs line after = ((bs ≡ line ++ 10 ∷ after) × (lines_of (line ++ 10 ∷ []) ≡ line ∷ [])) ⊎ ((bs ≡ line) × (after ≡ []))
+IsCut bs line after = ((bs ≡ line ++ 10 ∷ after) × (lines_of_text (line ++ 10 ∷ []) ≡ line ∷ [])) ⊎ ((bs ≡ line) × (after ≡ []))
 
 before_more : (b : ℕ) (bs : List ℕ) → (b == 10) ≡ false → before_first (λ x. x == 10) (b ∷ bs) ≡ b ∷ before_first (λ x. x == 10) bs
 before_more b bs isn't = simp (isn't, one_plus)
@@ -64,7 +64,7 @@ after_more b bs isn't = simp (isn't, one_plus, add-one)
     one_plus n = omega arith
 
 longer : (b : ℕ) (bs line after : List ℕ) → (b == 10) ≡ false → IsCut bs line after → IsCut (b ∷ bs) (b ∷ line) after
-longer b bs line after isn't (inl h) = inl (ap (λ l. b ∷ l) h.0, ap (λ t. cond t ([] ∷ lines_of (line ++ 10 ∷ [])) (onto_first b (lines_of (line ++ 10 ∷ [])))) isn't ∙ ap (onto_first b) h.1)
+longer b bs line after isn't (inl h) = inl (ap (λ l. b ∷ l) h.0, ap (λ t. cond t ([] ∷ lines_of_text (line ++ 10 ∷ [])) (onto_first b (lines_of_text (line ++ 10 ∷ [])))) isn't ∙ ap (onto_first b) h.1)
 longer b bs line after isn't (inr h) = inr (ap (λ l. b ∷ l) h.0, h.1)
 
 pub cut_is : (bs : List ℕ) → IsCut bs (before_first (λ x. x == 10) bs) (after_first (λ x. x == 10) bs)
@@ -96,7 +96,7 @@ pub record Scanned (input rest : List ℕ) : Type 0 where
   pub before : List ℕ
   pub parted : input ≡ before ++ rest
   pub whole : (is_whole before ≡ true) ⊎ (rest ≡ [])
-  pub clear : list_all is_text (lines_of before) ≡ true
+  pub clear : list_all is_text (lines_of_text before) ≡ true
 
 pub scanned_none : (input : List ℕ) → Scanned input input
 scanned_none input = record { before = []; parted = refl; whole = inl refl; clear = refl }
@@ -110,28 +110,28 @@ scanned_more input rest line after s some is behind text =
     let whole = some_left input rest s some in
     let cut : IsCut rest line after = subst (λ l. IsCut rest l after) (sym is) (subst (IsCut rest (before_first (λ x. x == 10) rest)) (sym behind) (cut_is rest)) in
     let one : list_all is_text (line ∷ []) ≡ true = ap (λ t. not t && true) text in
-    let clear : list_all is_text (lines_of s.before ++ line ∷ []) ≡ true = list_all-append is_text (lines_of s.before) (line ∷ []) ∙ ap (λ t. t && list_all is_text (line ∷ [])) s.clear ∙ one in
+    let clear : list_all is_text (lines_of_text s.before ++ line ∷ []) ≡ true = list_all-append is_text (lines_of_text s.before) (line ∷ []) ∙ ap (λ t. t && list_all is_text (line ∷ [])) s.clear ∙ one in
     ⊎_elim
-    (λ (h : (rest ≡ line ++ 10 ∷ after) × (lines_of (line ++ 10 ∷ []) ≡ line ∷ [])). record {
+    (λ (h : (rest ≡ line ++ 10 ∷ after) × (lines_of_text (line ++ 10 ∷ []) ≡ line ∷ [])). record {
       before = s.before ++ (line ++ 10 ∷ []);
       parted = s.parted ∙ ap (λ r. s.before ++ r) (h.0 ∙ sym (append_assoc line (10 ∷ []) after)) ∙ sym (append_assoc s.before (line ++ 10 ∷ []) after);
       whole = inl (whole_append s.before (line ++ 10 ∷ []) whole (whole_ended line));
-      clear = ap (list_all is_text) (whole_lines s.before (line ++ 10 ∷ []) whole ∙ ap (λ ls. lines_of s.before ++ ls) h.1) ∙ clear;
+      clear = ap (list_all is_text) (whole_lines s.before (line ++ 10 ∷ []) whole ∙ ap (λ ls. lines_of_text s.before ++ ls) h.1) ∙ clear;
     })
     (λ (h : (rest ≡ line) × (after ≡ [])).
-    let last : lines_of rest ≡ line ∷ [] = pieces_first 10 rest some ∙ (λ i. sym is i ∷ lines_of ((sym behind ∙ h.1) i)) in
+    let last : lines_of_text rest ≡ line ∷ [] = pieces_first 10 rest some ∙ (λ i. sym is i ∷ lines_of_text ((sym behind ∙ h.1) i)) in
     record {
       before = s.before ++ rest;
       parted = s.parted ∙ sym (append-nil (s.before ++ rest)) ∙ ap (λ r. (s.before ++ rest) ++ r) (sym h.1);
       whole = inr h.1;
-      clear = ap (list_all is_text) (whole_lines s.before rest whole ∙ ap (λ ls. lines_of s.before ++ ls) last) ∙ clear;
+      clear = ap (list_all is_text) (whole_lines s.before rest whole ∙ ap (λ ls. lines_of_text s.before ++ ls) last) ∙ clear;
     })
     cut
 
 -- the two parts are those of the input
 pub record AreParts (input text commands : List ℕ) : Type 0 where
-  pub text_is : lines_of text ≡ text_lines input
-  pub commands_are : lines_of commands ≡ command_lines input
+  pub text_is : lines_of_text text ≡ text_lines input
+  pub commands_are : lines_of_text commands ≡ command_lines input
 
 taken_front : (ps qs : List (List ℕ)) (n : ℕ) → n ≡ length ps → take n (ps ++ qs) ≡ ps
 taken_front ps qs n is = ap (λ m. take m (ps ++ qs)) is ∙ take-append_seam ps qs
@@ -144,25 +144,25 @@ dropped_front (p ∷ ps) qs line = let one : length (p ∷ ps) + 1 ≡ suc (leng
 pub parts_at : (input rest line after text : List ℕ) → Scanned input rest → 0 < length rest → line ≡ before_first (λ x. x == 10) rest → after ≡ after_first (λ x. x == 10) rest
     → is_marker line ≡ true → text ≡ take (length input - length rest) input → AreParts input text after
 parts_at input rest line after text s some is behind marker taken =
-    let ps = lines_of s.before in
-    let lines : lines_of input ≡ ps ++ line ∷ lines_of after =
-    ap lines_of s.parted ∙ whole_lines s.before rest (some_left input rest s some) ∙ ap (λ ls. ps ++ ls) (pieces_first 10 rest some ∙ (λ i. sym is i ∷ lines_of (sym behind i))) in
-    let none : prefix_len is_text (line ∷ lines_of after) ≡ 0 = ap (λ t. cond (not t) (1 + prefix_len is_text (lines_of after)) 0) marker in
-    let many : prefix_len is_text (lines_of input) ≡ length ps = ap (prefix_len is_text) lines ∙ all_prefix ps (line ∷ lines_of after) s.clear ∙ omega (arith, none) in
-    let front : text_lines input ≡ ps = ap (take (prefix_len is_text (lines_of input))) lines ∙ taken_front ps (line ∷ lines_of after) (prefix_len is_text (lines_of input)) many in
+    let ps = lines_of_text s.before in
+    let lines : lines_of_text input ≡ ps ++ line ∷ lines_of_text after =
+    ap lines_of_text s.parted ∙ whole_lines s.before rest (some_left input rest s some) ∙ ap (λ ls. ps ++ ls) (pieces_first 10 rest some ∙ (λ i. sym is i ∷ lines_of_text (sym behind i))) in
+    let none : prefix_len is_text (line ∷ lines_of_text after) ≡ 0 = ap (λ t. cond (not t) (1 + prefix_len is_text (lines_of_text after)) 0) marker in
+    let many : prefix_len is_text (lines_of_text input) ≡ length ps = ap (prefix_len is_text) lines ∙ all_prefix ps (line ∷ lines_of_text after) s.clear ∙ omega (arith, none) in
+    let front : text_lines input ≡ ps = ap (take (prefix_len is_text (lines_of_text input))) lines ∙ taken_front ps (line ∷ lines_of_text after) (prefix_len is_text (lines_of_text input)) many in
     let size : length input - length rest ≡ length s.before = omega (arith, ap length s.parted, length-append s.before rest) in
     let before : text ≡ s.before = taken ∙ ap (λ n. take n input) size ∙ ap (take (length s.before)) s.parted ∙ take-append_seam s.before rest in
     record {
-      text_is = ap lines_of before ∙ sym front;
-      commands_are = sym (ap (λ ls. drop (length ls + 1) (lines_of input)) front ∙ ap (drop (length ps + 1)) lines ∙ dropped_front ps (lines_of after) line);
+      text_is = ap lines_of_text before ∙ sym front;
+      commands_are = sym (ap (λ ls. drop (length ls + 1) (lines_of_text input)) front ∙ ap (drop (length ps + 1)) lines ∙ dropped_front ps (lines_of_text after) line);
     }
 
 -- nothing is left, and there was no marker
 pub parts_none : (input rest : List ℕ) → Scanned input rest → length rest ≡ 0 → AreParts input input []
 parts_none input [] s none =
     let all : input ≡ s.before = s.parted ∙ append-nil s.before in
-    let ls = lines_of input in
-    let clear : list_all is_text ls ≡ true = ap (λ b. list_all is_text (lines_of b)) all ∙ s.clear in
+    let ls = lines_of_text input in
+    let clear : list_all is_text ls ≡ true = ap (λ b. list_all is_text (lines_of_text b)) all ∙ s.clear in
     let many : prefix_len is_text ls ≡ length ls = ap (prefix_len is_text) (sym (append-nil ls)) ∙ all_prefix ls [] clear ∙ omega arith in
     let front : text_lines input ≡ ls = take_all (prefix_len is_text ls) ls (omega (arith, many)) in
     record { text_is = sym front; commands_are = sym (drop_all (length (text_lines input) + 1) ls (omega (arith, ap length front))) }

@@ -23,32 +23,32 @@ stands old new same breaks is = let shown : new.shown ≡ old.shown = ap (λ (d 
 pub set_done : (b : Break) (old new : Debugging) (n : ℕ) (out : List ℕ) → Contains old.breaks b ⊎ (¬ Contains old.breaks b) → length old.breaks ≤ 64
     → new ≡ record old { breaks = new.breaks } → n ≡ length new.breaks → (Contains old.breaks b → new ≡ old) → (¬ Contains old.breaks b → new.breaks ≡ old.breaks ++ b ∷ [])
     → (¬ Contains old.breaks b → length old.breaks ≡ 64 → ⊥) → out ≡ break_line n → Obeys old.start (SetBreak b) (standing old) (standing new) out
-set_done b old new n out known few same count again fresh full told =
+set_done b old new n out known few same count again fresh full reported =
     inl (⊎_elim
     (λ (has : Contains old.breaks b).
     let kept : new ≡ old = again has in
-    inl (has, record { same = ap standing kept; told = told ∙ ap break_line (count ∙ ap (λ (d : Debugging). length d.breaks) kept) }))
+    inl (has, record { same = ap standing kept; reported = reported ∙ ap break_line (count ∙ ap (λ (d : Debugging). length d.breaks) kept) }))
     (λ (hasn't : ¬ Contains old.breaks b).
     let joined : new.breaks ≡ old.breaks ++ b ∷ [] = fresh hasn't in
     inr (inl (record {
       fresh = hasn't;
       few = ⊎_elim (λ (under : length old.breaks < 64). under) (λ (past : 64 ≤ length old.breaks). absurd (full hasn't (omega (arith, past, few)))) (cases_lt (length old.breaks) 64);
       joined = stands old new same (old.breaks ++ b ∷ []) joined;
-      told = told ∙ ap break_line (count ∙ ap length joined ∙ length-append old.breaks (b ∷ []));
+      reported = reported ∙ ap break_line (count ∙ ap length joined ∙ length-append old.breaks (b ∷ []));
     })))
     known)
 
 pub set_full : (b : Break) (old new : Debugging) (out : List ℕ) → Contains old.breaks b ⊎ (¬ Contains old.breaks b) → length old.breaks ≤ 64
     → new ≡ old → (Contains old.breaks b → ⊥) → (length old.breaks < 64 → ⊥) → out ≡ refusal_line B4 → Obeys old.start (SetBreak b) (standing old) (standing new) out
-set_full b old new out known few same again room told =
+set_full b old new out known few same again room reported =
     let many : length old.breaks ≡ 64 = ⊎_elim (λ (under : length old.breaks < 64). absurd (room under)) (λ (past : 64 ≤ length old.breaks). omega (arith, past, few)) (cases_lt (length old.breaks) 64) in
-    inl (inr (inr (again, many, record { same = ap standing same; told = told })))
+    inl (inr (inr (again, many, record { same = ap standing same; reported = reported })))
 
 pub set_refused : (b : Break) (old new : Debugging) (out : List ℕ) → length old.breaks ≤ 64
     → new ≡ old → (Contains old.breaks b → ⊥) → (¬ Contains old.breaks b → length old.breaks ≡ 64 → ⊥) → out ≡ refusal_line M → Obeys old.start (SetBreak b) (standing old) (standing new) out
-set_refused b old new out few same again full told =
+set_refused b old new out few same again full reported =
     let under : length old.breaks < 64 = ⊎_elim (λ (under : length old.breaks < 64). under) (λ (past : 64 ≤ length old.breaks). absurd (full again (omega (arith, past, few)))) (cases_lt (length old.breaks) 64) in
-    inr ((again, under), record { same = ap standing same; told = told })
+    inr ((again, under), record { same = ap standing same; reported = reported })
 
 -- the answers differ
 pub ok_no_err : (n : ℕ) (fault : BreakFault) → Ok n ≡ Err fault → ⊥

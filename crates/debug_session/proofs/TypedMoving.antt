@@ -12,7 +12,7 @@ use Rattle.table_run.specs.State.{State, due, step}
 use Rattle.net_machine.specs.Run.{Reached}
 use Rattle.debugger.specs.declared.fault.MoveFault.{MoveFault}
 use Rattle.debugger.specs.declared.passed.LastEvent.{LastEvent}
-use Rattle.debugger.specs.declared.passed.Order.TheVariants.{Rising, Falling}
+use Rattle.debugger.specs.declared.passed.LineOrder.TheVariants.{Rising, Falling}
 use Rattle.debugger.specs.declared.passed.Stretch.{Stretch}
 use Rattle.debugger.specs.Debugging.{Debugging, HasMoved}
 use Rattle.debugger.specs.LastEvents.{IsLastEvent}
@@ -24,7 +24,7 @@ use Rattle.debug_session.specs.declared.memo.Extent.{Extent}
 use Rattle.debug_session.specs.declared.refusal.Refusal.TheVariants.{M}
 use Rattle.debug_session.specs.declared.report.Report.{Report}
 use Rattle.debug_session.specs.Answers.{Standing, standing, Stays, refusal_line}
-use Rattle.debug_session.specs.Told.{GoesBack, ToldPast, ToldMove, AddsPlace, AddsMove, passed_count, told_hit, shown_stretch}
+use Rattle.debug_session.specs.Reported.{GoesBack, ReportedPast, ReportedMove, AddsPlace, AddsMove, passed_count, reported_hit, shown_stretch}
 use Rattle.debug_session.specs.TypedMoves.{lowest, passed, more_line, last_ten, passed_lines, last_time, place_line, where_line, hit_line, onwards, next_text, known_line, where_text, TellsPast, MovesPast}
 use Rattle.debug_session.proofs.Moved.{left_of, start_of, breaks_of}
 
@@ -123,8 +123,8 @@ module _ (start : State) (m bound : ℕ) (at : Reached) (has : HasPosition start
       (cases_lt m at.position)
 
   -- how many more there are, and then the last lines
-  pub passed_told : (out made all : List ℕ) (count : ℕ) → made ≡ out ++ more_line count → count ≡ passed_count m low at.position → all ≡ made ++ concat (stretch_texts start (shown_stretch m low at.position)) → all ≡ out ++ last_ten (passed start m bound at.position)
-  passed_told out made all count more is lines =
+  pub passed_reported : (out made all : List ℕ) (count : ℕ) → made ≡ out ++ more_line count → count ≡ passed_count m low at.position → all ≡ made ++ concat (stretch_texts start (shown_stretch m low at.position)) → all ≡ out ++ last_ten (passed start m bound at.position)
+  passed_reported out made all count more is lines =
       let texts = passed start m bound at.position in
       let shown = concat (stretch_texts start (shown_stretch m low at.position)) in
       lines ∙ ap (λ l. l ++ shown) (more ∙ ap (λ n. out ++ more_line n) (is ∙ sym so_many))
@@ -142,8 +142,8 @@ time_at start line p given =
 
 module _ (start : State) (m : ℕ) (at : Standing) (out made : List ℕ) (at_end : Bool) (end_is : at_end ≡ is_none (due at.shown.state)) where
   -- at the beginning there is no event
-  pub begin_told : at.shown.position ≡ 0 → made ≡ out ++ place_line 0 0 at_end → AddsPlace start m at out made
-  begin_told none is =
+  pub begin_reported : at.shown.position ≡ 0 → made ≡ out ++ place_line 0 0 at_end → AddsPlace start m at out made
+  begin_reported none is =
       let place : place_line 0 0 at_end ≡ where_line start at.shown =
       ap (λ n. place_line n (last_time 0 (lines_between start 0 n)) at_end) (sym none) ∙ ap (place_line at.shown.position (last_time 0 (lines_between start 0 at.shown.position))) end_is in (
         [],
@@ -151,26 +151,26 @@ module _ (start : State) (m : ℕ) (at : Standing) (out made : List ℕ) (at_end
         is ∙ ap (λ l. out ++ l) (place ∙ sym (append-nil (where_line start at.shown))),
       )
 
-  pub event_told : (event : LastEvent) → IsLastEvent start at.breaks at.shown.position event → made ≡ out ++ (place_line at.shown.position event.time at_end ++ hit_line (told_hit m at.shown.position event.hit)) → AddsPlace start m at out made
-  event_told event last is =
+  pub event_reported : (event : LastEvent) → IsLastEvent start at.breaks at.shown.position event → made ≡ out ++ (place_line at.shown.position event.time at_end ++ hit_line (reported_hit m at.shown.position event.hit)) → AddsPlace start m at out made
+  event_reported event last is =
       let p = at.shown.position in
-      let matched = hit_line (told_hit m p event.hit) in
+      let matched = hit_line (reported_hit m p event.hit) in
       let time : event.time ≡ last_time 0 (lines_between start 0 p) = last.time ∙ sym (time_at start last.line p last.given) in
       let place : place_line p event.time at_end ≡ where_line start at.shown = ap (λ t. place_line p t at_end) time ∙ ap (place_line p (last_time 0 (lines_between start 0 p))) end_is in (
         matched,
         record {
-          past = λ under. record { line = last.line; given = last.given; hit = event.hit; first = last.first; told_is = ap (λ b. hit_line (if b then event.hit else None)) (lt-ltb m p under) };
+          past = λ under. record { line = last.line; given = last.given; hit = event.hit; first = last.first; reported_is = ap (λ b. hit_line (if b then event.hit else None)) (lt-ltb m p under) };
           before = λ past. ap (λ b. hit_line (if b then event.hit else None)) (le-ltb m p past);
         },
         is ∙ ap (λ l. out ++ (l ++ matched)) place,
       )
 
 -- what was passed, and then where that is
-pub move_told : (start : State) (m : ℕ) (report : Report) (at : Standing) (out made all : List ℕ) → made ≡ out ++ passed_lines start m report at.shown.position → AddsPlace start report.bound at made all → AddsMove start m report at out all
-move_told start m report at out made all lines place =
+pub move_reported : (start : State) (m : ℕ) (report : Report) (at : Standing) (out made all : List ℕ) → made ≡ out ++ passed_lines start m report at.shown.position → AddsPlace start report.bound at made all → AddsMove start m report at out all
+move_reported start m report at out made all lines place =
     let texts = passed_lines start m report at.shown.position in
     let behind = where_line start at.shown ++ place.0 in
-    (texts ++ behind, record { matched = place.0; matches = place.1; told = refl }, place.2 ∙ ap (λ l. l ++ behind) lines ∙ append_assoc out texts behind)
+    (texts ++ behind, record { matched = place.0; matches = place.1; reported = refl }, place.2 ∙ ap (λ l. l ++ behind) lines ∙ append_assoc out texts behind)
 
 -- the answer alone
 pub only_move : (start : State) (m : ℕ) (report : Report) (at : Standing) (out all : List ℕ) → out ≡ [] → AddsMove start m report at out all → TellsPast start m report at all
@@ -194,8 +194,8 @@ pub has_from : (old between : Debugging) (moved : Result ℕ MoveFault) (m : ℕ
 has_from old between (Ok p) m is here has err = subst (λ (s : State). HasPosition s m) (sym (start_of old between p has)) (subst (HasPosition old.start) (sym is) (old.shown.state, here))
 has_from old between (Err fault) m is here has err = subst (λ (d : Debugging). HasPosition d.start m) (sym err) (subst (HasPosition old.start) (sym is) (old.shown.state, here))
 
-on_told : (report : Report) (goes : ℕ → Type 0) (old new : Debugging) (m : ℕ) (w : Report) (p : ℕ) (out : List ℕ) → m ≡ old.shown.position → w ≡ report → HasMoved old new p → goes p → TellsPast new.start m w (standing new) out → GonePast report goes old new out
-on_told report goes old new m w p out is report_is moved there told =
+on_reported : (report : Report) (goes : ℕ → Type 0) (old new : Debugging) (m : ℕ) (w : Report) (p : ℕ) (out : List ℕ) → m ≡ old.shown.position → w ≡ report → HasMoved old new p → goes p → TellsPast new.start m w (standing new) out → GonePast report goes old new out
+on_reported report goes old new m w p out is report_is moved there reported =
     let same = start_of old new p moved in
     record {
       start = same;
@@ -203,43 +203,43 @@ on_told report goes old new m w p out is report_is moved there told =
         at = subst goes (sym moved.at) there;
         on_run = subst (λ (s : State). Passes s new.shown) same moved.on_run;
         breaks = breaks_of old new p moved;
-        told =
+        reported =
             subst (λ n. TellsPast old.start n report (standing new) out) is
-            (subst (λ (v : Report). TellsPast old.start m v (standing new) out) report_is (subst (λ (s : State). TellsPast s m w (standing new) out) same told));
+            (subst (λ (v : Report). TellsPast old.start m v (standing new) out) report_is (subst (λ (s : State). TellsPast s m w (standing new) out) same reported));
       });
     }
 
 back_again : (report : Report) (goes : ℕ → Type 0) (old between new : Debugging) (p : ℕ) (out : List ℕ) → HasMoved old between p → GoesBack between new → out ≡ refusal_line M → GonePast report goes old new out
-back_again report goes old between new p out moved back told =
+back_again report goes old between new p out moved back reported =
     let undone : new ≡ record between { shown = old.shown; left = None } = back old.shown (left_of old between p moved) in
     let shown : new.shown ≡ old.shown = ap (λ (d : Debugging). d.shown) undone in
     let breaks : new.breaks ≡ old.breaks = ap (λ (d : Debugging). d.breaks) undone ∙ breaks_of old between p moved in
     record {
       start = ap (λ (d : Debugging). d.start) undone ∙ start_of old between p moved;
-      went = inr (tt, record { same = λ i. record { shown = shown i; breaks = breaks i }; told = told });
+      went = inr (tt, record { same = λ i. record { shown = shown i; breaks = breaks i }; reported = reported });
     }
 
 pub gone_past : (report : Report) (goes : ℕ → Type 0) (old between new : Debugging) (m : ℕ) (w : Report) (moved : Result ℕ MoveFault) (out : List ℕ) → m ≡ old.shown.position → w ≡ report
     → IfOk moved (HasMoved old between) → IfOk moved goes → OnErr moved (between ≡ old)
-    → IfOk moved (λ _. ToldPast m w between new out) → OnErr moved ((new ≡ between) × (out ≡ refusal_line M)) → GonePast report goes old new out
-gone_past report goes old between new m w (Ok p) out is report_is has there err told refused =
+    → IfOk moved (λ _. ReportedPast m w between new out) → OnErr moved ((new ≡ between) × (out ≡ refusal_line M)) → GonePast report goes old new out
+gone_past report goes old between new m w (Ok p) out is report_is has there err reported refused =
     ⊎_elim
     (λ (t : (new ≡ between) × TellsPast between.start m w (standing between) out).
-    subst (λ (d : Debugging). GonePast report goes old d out) (sym t.0) (on_told report goes old between m w p out is report_is has there t.1))
+    subst (λ (d : Debugging). GonePast report goes old d out) (sym t.0) (on_reported report goes old between m w p out is report_is has there t.1))
     (λ (t : GoesBack between new × (out ≡ refusal_line M)). back_again report goes old between new p out has t.0 t.1)
-    told
-gone_past report goes old between new m w (Err fault) out is report_is has there err told refused =
+    reported
+gone_past report goes old between new m w (Err fault) out is report_is has there err reported refused =
     let same = refused.0 ∙ err in
-    record { start = ap (λ (d : Debugging). d.start) same; went = inr (tt, record { same = ap standing same; told = refused.1 }) }
+    record { start = ap (λ (d : Debugging). d.start) same; went = inr (tt, record { same = ap standing same; reported = refused.1 }) }
 
 pub gone_on : (goes : ℕ → Type 0) (old between new : Debugging) (m : ℕ) (moved : Result ℕ MoveFault) (out : List ℕ) → m ≡ old.shown.position
     → IfOk moved (HasMoved old between) → IfOk moved goes → OnErr moved (between ≡ old)
-    → IfOk moved (λ _. ToldMove m between new out) → OnErr moved ((new ≡ between) × (out ≡ refusal_line M)) → GoneOn goes old new out
-gone_on goes old between new m moved out is has there err told refused = gone_past (onwards old.shown.position) goes old between new m (onwards m) moved out is (ap onwards is) has there err told refused
+    → IfOk moved (λ _. ReportedMove m between new out) → OnErr moved ((new ≡ between) × (out ≡ refusal_line M)) → GoneOn goes old new out
+gone_on goes old between new m moved out is has there err reported refused = gone_past (onwards old.shown.position) goes old between new m (onwards m) moved out is (ap onwards is) has there err reported refused
 
 -- `where`: behind the place, where no breakpoint is told, the next event and how far the run is known to go
-pub where_told : (start : State) (at : Standing) (known : Extent) (out made all : List ℕ) → AddsPlace start at.shown.position at out made → all ≡ made ++ (next_text start at.shown ++ known_line known) → all ≡ out ++ where_text start at.shown known
-where_told start at known out made all place more =
+pub where_reported : (start : State) (at : Standing) (known : Extent) (out made all : List ℕ) → AddsPlace start at.shown.position at out made → all ≡ made ++ (next_text start at.shown ++ known_line known) → all ≡ out ++ where_text start at.shown known
+where_reported start at known out made all place more =
     let behind = next_text start at.shown ++ known_line known in
     let none : place.0 ≡ [] = place.1.before (omega arith) in
     let here = where_line start at.shown in

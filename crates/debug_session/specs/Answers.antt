@@ -2,7 +2,7 @@
 use Rattle.std.specs.Prelude.{◌≡◌, ◌<◌, ◌+◌, ◌-◌, ◌⊎◌, ℕ, List, [], ◌∷◌, ◌++◌, length, Contains, codes, decimal, Option, None, Some, Ok, Err}
 use Rattle.table_run.specs.State.{State as NetState}
 use Rattle.net_machine.specs.Run.{Reached}
-use Rattle.trace_text.specs.Words.{line_of}
+use Rattle.trace_text.specs.Words.{line_of_words}
 use Rattle.trace_text.specs.Dump.{dump_bytes}
 use Rattle.debugger.specs.declared.breaks.Break.{Break}
 use Rattle.debugger.specs.Moves.{Passes, StepGoesTo, RunGoesTo, UntilGoesTo}
@@ -31,33 +31,33 @@ refusal_code B5 = codes "B5"
 refusal_code M = codes "M"
 
 abbrev pub refusal_line : Refusal → List ℕ
-refusal_line refusal = line_of (codes "refused" ∷ refusal_code refusal ∷ [])
+refusal_line refusal = line_of_words (codes "refused" ∷ refusal_code refusal ∷ [])
 
 -- so many breakpoints are set
 abbrev pub break_line : ℕ → List ℕ
-break_line count = line_of (codes "break" ∷ decimal count ∷ [])
+break_line count = line_of_words (codes "break" ∷ decimal count ∷ [])
 
 abbrev pub clear_line : List ℕ
-clear_line = line_of (codes "clear" ∷ [])
+clear_line = line_of_words (codes "clear" ∷ [])
 
 -- nothing changes, and this is answered
 pub record Stays (old new : Standing) (out said : List ℕ) : Type 0 where
   pub same : new ≡ old
-  pub told : out ≡ said
+  pub reported : out ≡ said
 
 -- the state at a position that the move goes to is shown, and its dump is answered
 pub record Shows (start : NetState) (goes : ℕ → Type 0) (old new : Standing) (out : List ℕ) : Type 0 where
   pub at : goes new.shown.position
   pub on_run : Passes start new.shown
   pub breaks : new.breaks ≡ old.breaks
-  pub told : out ≡ dump_bytes new.shown
+  pub reported : out ≡ dump_bytes new.shown
 
 -- a breakpoint that is not set yet joins the others
 pub record Joins (b : Break) (old new : Standing) (out : List ℕ) : Type 0 where
   pub fresh : ¬ Contains old.breaks b
   pub few : length old.breaks < 64
   pub joined : new ≡ record old { breaks = old.breaks ++ b ∷ [] }
-  pub told : out ≡ break_line (length old.breaks + 1)
+  pub reported : out ≡ break_line (length old.breaks + 1)
 
 -- a breakpoint is set: one that is set already stays, and there are at most 64
 abbrev pub Sets : Break → Standing → Standing → List ℕ → Type 0
@@ -69,7 +69,7 @@ Sets b old new out =
 -- all breakpoints are taken away
 pub record Clears (old new : Standing) (out : List ℕ) : Type 0 where
   pub cleared : new ≡ record old { breaks = [] }
-  pub told : out ≡ clear_line
+  pub reported : out ≡ clear_line
 
 -- a command is done
 abbrev pub Does : NetState → Command → Standing → Standing → List ℕ → Type 0

@@ -41,9 +41,9 @@ abbrev pub amount : (ℕ → Command) → List Word → Reading
 amount make words = with_number make (one_number 1000000000000001 words)
 
 -- no word
-abbrev pub alone : Command → List Word → Reading
-alone command [] = Ok command
-alone command (word ∷ words) = Err B2
+abbrev pub no_word_left : Command → List Word → Reading
+no_word_left command [] = Ok command
+no_word_left command (word ∷ words) = Err B2
 
 -- the kinds of events, by the names that the trace gives them
 abbrev pub kind_named : Word → Option EventKind
@@ -77,7 +77,7 @@ breakpoint limits (sort ∷ words) =
     if bytes_eq sort (codes "node") then with_number (λ n. sets (Node n)) (one_number limits.nodes words)
     else (if bytes_eq sort (codes "flow") then with_number (λ n. sets (Flow n)) (one_number limits.flows words)
     else (if bytes_eq sort (codes "kind") then one_kind words
-    else (if bytes_eq sort (codes "drop") then alone (sets Drop) words
+    else (if bytes_eq sort (codes "drop") then no_word_left (sets Drop) words
     else Err B1)))
 
 -- a command by its name and the words behind it
@@ -86,10 +86,10 @@ command_named limits name words =
     if bytes_eq name (codes "step") then amount Step words
     else (if bytes_eq name (codes "back") then amount Back words
     else (if bytes_eq name (codes "until") then amount Until words
-    else (if bytes_eq name (codes "run") then alone Run words
-    else (if bytes_eq name (codes "state") then alone State words
+    else (if bytes_eq name (codes "run") then no_word_left Run words
+    else (if bytes_eq name (codes "state") then no_word_left State words
     else (if bytes_eq name (codes "break") then breakpoint limits words
-    else (if bytes_eq name (codes "clear") then alone Clear words
+    else (if bytes_eq name (codes "clear") then no_word_left Clear words
     else Err B1))))))
 
 -- nothing where there are no words

@@ -1,13 +1,13 @@
 -- What the commands of a prompt are for, and what there is to say of other topics.
 use Rattle.std.specs.Prelude.{ℕ, List, [], ◌∷◌, ◌++◌, codes}
 use Rattle.std.specs.List.{flat_map}
-use Rattle.debug_session.specs.declared.name.Name.{Name}
-use Rattle.debug_session.specs.declared.name.Name.TheVariants.{Step, Back, Break, Breaks, Run, Reverse, Until, Goto, Where, State, Delete, Clear, Lines, Why, Help, Quit}
+use Rattle.debug_session.specs.declared.name.CommandName.{CommandName}
+use Rattle.debug_session.specs.declared.name.CommandName.TheVariants.{Step, Back, Break, Breaks, Run, Reverse, Until, Goto, Where, State, Delete, Clear, Lines, Why, Help, Quit}
 use Rattle.debug_session.specs.declared.topic.Topic.{Topic}
 use Rattle.debug_session.specs.declared.topic.Topic.TheVariants.{Command, Numbers, Trace, Kinds, Stall}
 
 -- how a command is used
-abbrev pub usage : Name → List ℕ
+abbrev pub usage : CommandName → List ℕ
 usage Step = codes "step [K]     run the next K events (1)\n"
 usage Back = codes "back [K]     take the last K events back (1)\n"
 usage Run = codes "run          run until a breakpoint matches, or to the end\n"
@@ -26,7 +26,7 @@ usage Help = codes "help [NAME]  show this, or more of NAME: a command, numbers,
 usage Quit = codes "quit         end the session\n"
 
 -- what else there is to say of it
-abbrev pub more : Name → List ℕ
+abbrev pub more : CommandName → List ℕ
 more Step = codes "It shows the last ten lines of the trace that it passes, how many more there are, and where it came to.\n"
 more Back = codes "It shows the last ten lines that it takes back, the latest first, and where it came to.\n"
 more Run = codes "It stops after the next event whose line a breakpoint matches, and shows that breakpoint.\n"
@@ -55,7 +55,7 @@ more Why =
 more Help = codes "NAME can be cut short, as a command can. In the shell, tcpsim explain B3 tells more of refused B3.\n"
 more Quit = codes "The end of input (Ctrl-D) does so too.\n"
 
-abbrev pub example : Name → List ℕ
+abbrev pub example : CommandName → List ℕ
 example Step = codes "step 10\n"
 example Back = codes "back 10\n"
 example Run = codes "run\n"
@@ -73,7 +73,7 @@ example Why = codes "why 0\n"
 example Help = codes "help until\n"
 example Quit = codes "quit\n"
 
-abbrev pub all_names : List Name
+abbrev pub all_names : List CommandName
 all_names = Step ∷ Back ∷ Run ∷ Reverse ∷ Until ∷ Goto ∷ Where ∷ State ∷ Break ∷ Breaks ∷ Delete ∷ Clear ∷ Lines ∷ Why ∷ Help ∷ Quit ∷ []
 
 -- one line a command, one on numbers, and one on the empty line
@@ -83,7 +83,7 @@ help_text =
     ++ (codes "(nodes N, links L and flows F are numbers from 0, in the order of the text: help numbers)\n"
     ++ codes "(an empty line does the last move again)\n")
 
-abbrev pub help_on_command : Name → List ℕ
+abbrev pub help_on_command : CommandName → List ℕ
 help_on_command name = usage name ++ (more name ++ example name)
 
 -- the last line of a topic is one that can be typed

@@ -4,7 +4,7 @@ pub mod Conditions
 pub mod Answers
 pub mod Sessions
 pub mod Taking
-pub mod Told
+pub mod Reported
 pub mod Names
 pub mod Topics
 pub mod Times

@@ -1,15 +1,15 @@
 -- The names of the commands that are typed at a prompt: a word means the first name that it begins.
 use Rattle.std.specs.Prelude.{ℕ, nat_eq, Bool, if◌then◌else◌, List, codes, Option, None, Some}
 use Rattle.std.specs.List.{starts_with}
-use Rattle.debug_session.specs.declared.name.Name.{Name}
-use Rattle.debug_session.specs.declared.name.Name.TheVariants.{Step, Back, Break, Breaks, Run, Reverse, Until, State, Lines, Delete, Clear, Help, Quit, Why, Goto, Where}
+use Rattle.debug_session.specs.declared.name.CommandName.{CommandName}
+use Rattle.debug_session.specs.declared.name.CommandName.TheVariants.{Step, Back, Break, Breaks, Run, Reverse, Until, State, Lines, Delete, Clear, Help, Quit, Why, Goto, Where}
 
 -- a word is the beginning of a name, or all of it
 abbrev pub begins : List ℕ → List ℕ → Bool
 begins word name = starts_with nat_eq name word
 
 -- so `s` means step, `sta` state, `r` run, `re` reverse, `b` back, `br` break, `breaks` alone breaks, and `whe` where
-abbrev pub name_of : List ℕ → Option Name
+abbrev pub name_of : List ℕ → Option CommandName
 name_of word =
     if begins word (codes "step") then Some Step
     else (if begins word (codes "back") then Some Back

@@ -30,7 +30,7 @@ unmoved s = record { standing = s; memo = no_memo }
 -- nothing changes, and this is answered
 pub record Rests (old new : AtPrompt) (out said : List ℕ) : Type 0 where
   pub same : new ≡ old
-  pub told : out ≡ said
+  pub reported : out ≡ said
 
 -- more bytes than a line may have
 abbrev pub is_long : List ℕ → Bool
@@ -79,14 +79,14 @@ abbrev pub is_refusal : List ℕ → Bool
 is_refusal said = starts_with nat_eq said (codes "refused ")
 
 -- what the output gets of an answer: all but a refusal, which is told beside it
-abbrev pub put_out : List ℕ → List ℕ
-put_out said = if is_refusal said then [] else said
+abbrev pub answer_out : List ℕ → List ℕ
+answer_out said = if is_refusal said then [] else said
 
 -- the lines are answered one after another, from where the session stands
 abbrev pub TypedRan : Limits → State → List (List ℕ) → AtPrompt → AtPrompt → List ℕ → Type 0
 TypedRan limits start [] old new out = Rests old new out []
 TypedRan limits start (line ∷ lines) old new out =
-    (between : AtPrompt) × (said rest : List ℕ) × TypedAnswers limits start line old between said × TypedRan limits start lines between new rest × (out ≡ put_out said ++ rest)
+    (between : AtPrompt) × (said rest : List ℕ) × TypedAnswers limits start line old between said × TypedRan limits start lines between new rest × (out ≡ answer_out said ++ rest)
 
 -- these lines give this output, wherever the session stands in the end
 abbrev pub TypedOutput : Limits → State → List (List ℕ) → AtPrompt → List ℕ → Type 0

@@ -2,13 +2,13 @@
 use Rattle.std.specs.Prelude.{◌≡◌, ℕ, List, [], ◌∷◌, ◌++◌, length, take, Result, Ok, Err}
 use Rattle.scenario_image.specs.declared.parts.ScenarioParts.{ScenarioParts}
 use Rattle.scenario_asm.specs.declared.fault.Fault.{Fault}
-use Rattle.scenario_asm.specs.Lines.{lines_of}
+use Rattle.scenario_asm.specs.Lines.{lines_of_text}
 use Rattle.scenario_asm.specs.Meaning.{MeansScenario, MeansFault}
-use Rattle.table_run.specs.State.{State, opening}
-use Rattle.debugger.specs.Debugging.{opened}
+use Rattle.table_run.specs.State.{State, initial}
+use Rattle.debugger.specs.Debugging.{debugging_opened}
 use Rattle.debug_session.specs.declared.command.Limits.{Limits}
-use Rattle.debug_session.specs.declared.session.SessionFault.{SessionFault}
-use Rattle.debug_session.specs.declared.session.SessionFault.TheVariants.{NoMemory, OutputFailed}
+use Rattle.debug_session.specs.declared.session.DialogueFault.{DialogueFault}
+use Rattle.debug_session.specs.declared.session.DialogueFault.TheVariants.{NoMemory, OutputFailed}
 use Rattle.window_engine.specs.Failures.{counted}
 use Rattle.debug_session.specs.Taking.{IsBeginningOf}
 use Rattle.debug_session.specs.Input.{text_lines, command_lines}
@@ -33,32 +33,32 @@ limits_of p = record { nodes = length p.nodes; links = length p.links; flows = l
 
 -- a text of the input's text lines means this scenario
 abbrev pub HasScenario : List ℕ → ScenarioParts → Type 0
-HasScenario input p = (text : List ℕ) × (lines_of text ≡ text_lines input) × MeansScenario text p
+HasScenario input p = (text : List ℕ) × (lines_of_text text ≡ text_lines input) × MeansScenario text p
 
 -- or it has this fault
 abbrev pub HasFault : List ℕ → ℕ → Fault → Type 0
-HasFault input line fault = (text : List ℕ) × (lines_of text ≡ text_lines input) × MeansFault text line fault
+HasFault input line fault = (text : List ℕ) × (lines_of_text text ≡ text_lines input) × MeansFault text line fault
 
 -- the output of a session: its scenario's run is walked through by the commands
 pub record IsOutput (input out : List ℕ) : Type 0 where
   pub scenario : ScenarioParts
   pub meant : HasScenario input scenario
-  pub answers : Output (limits_of scenario) (opening scenario) (command_lines input) (standing (opened (opening scenario))) out
+  pub answers : Output (limits_of scenario) (initial scenario) (command_lines input) (standing (debugging_opened (initial scenario))) out
 
 -- the output of its first commands
 pub record IsOutputStart (input out : List ℕ) : Type 0 where
   pub scenario : ScenarioParts
   pub meant : HasScenario input scenario
-  pub answers : OutputStart (limits_of scenario) (opening scenario) (command_lines input) (standing (opened (opening scenario))) out
+  pub answers : OutputStart (limits_of scenario) (initial scenario) (command_lines input) (standing (debugging_opened (initial scenario))) out
 
 abbrev pub Ended : Type 0
-Ended = Result (Unit {0}) SessionFault
+Ended = Result (Unit {0}) DialogueFault
 
 -- what a session over a scenario that ended so has put out: the answers to all its lines; nothing, where memory was refused; a beginning of the answers to the first of them, where the output failed
 abbrev pub IsEnding : ScenarioParts → List (List ℕ) → Ended → List ℕ → Type 0
-IsEnding p lines (Ok done) out = Output (limits_of p) (opening p) lines (standing (opened (opening p))) out
+IsEnding p lines (Ok done) out = Output (limits_of p) (initial p) lines (standing (debugging_opened (initial p))) out
 IsEnding p lines (Err NoMemory) out = out ≡ []
-IsEnding p lines (Err OutputFailed) out = IsBeginningOf (OutputStart (limits_of p) (opening p) lines (standing (opened (opening p)))) out
+IsEnding p lines (Err OutputFailed) out = IsBeginningOf (OutputStart (limits_of p) (initial p) lines (standing (debugging_opened (initial p)))) out
 
 -- the output's count of failures after what ended so
 abbrev pub failures_of : Ended → ℕ → ℕ

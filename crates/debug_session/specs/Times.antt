@@ -42,12 +42,12 @@ with_part whole [] unit = None
 with_part whole (digit ∷ digits) unit = in_unit whole (digit ∷ digits) (places_of unit)
 
 -- behind the whole number stands nothing, or a point and a fraction and a unit, or a unit
-abbrev pub moment_of : Word → Word → Option ℕ
-moment_of whole [] = moment (number whole)
-moment_of whole (b ∷ bs) =
+abbrev pub moment_of_words : Word → Word → Option ℕ
+moment_of_words whole [] = moment (number whole)
+moment_of_words whole (b ∷ bs) =
     if b == 46 then with_part whole (first_digits bs) (behind_digits bs)
     else in_unit whole [] (places_of (b ∷ bs))
 
 -- the moment that a word is
 abbrev pub moment_in : Word → Option ℕ
-moment_in word = if is_numeral (first_digits word) then moment_of (first_digits word) (behind_digits word) else None
+moment_in word = if is_numeral (first_digits word) then moment_of_words (first_digits word) (behind_digits word) else None

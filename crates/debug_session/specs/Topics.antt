@@ -1,6 +1,6 @@
 -- What `help` can be asked about: a command, by the beginning of its name, or else one topic more.
 use Rattle.std.specs.Prelude.{ℕ, if◌then◌else◌, List, codes, Option, None, Some}
-use Rattle.debug_session.specs.declared.name.Name.{Name}
+use Rattle.debug_session.specs.declared.name.CommandName.{CommandName}
 use Rattle.debug_session.specs.declared.topic.Topic.{Topic}
 use Rattle.debug_session.specs.declared.topic.Topic.TheVariants.{Command, Numbers, Trace, Kinds, Stall}
 use Rattle.debug_session.specs.Names.{begins, name_of}
@@ -14,7 +14,7 @@ other_topic word =
     else (if begins word (codes "stall") then Some Stall
     else None)))
 
-abbrev pub topic_or : Option Topic → Option Name → Option Topic
+abbrev pub topic_or : Option Topic → Option CommandName → Option Topic
 topic_or other None = other
 topic_or other (Some name) = Some (Command name)
 

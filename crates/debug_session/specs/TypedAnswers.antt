@@ -20,7 +20,7 @@ pub record JoinsLast (b : Break) (old new : Standing) (out : List ℕ) : Type 0 
   pub fresh : ¬ Contains old.breaks b
   pub few : length old.breaks < 64
   pub joined : new ≡ record old { breaks = old.breaks ++ b ∷ [] }
-  pub told : out ≡ set_line (length old.breaks + 1) b
+  pub reported : out ≡ set_line (length old.breaks + 1) b
 
 -- a breakpoint is set: one that is set already keeps its number, and there are at most 64
 abbrev pub SetsNumbered : Break → Standing → Standing → List ℕ → Type 0
@@ -36,7 +36,7 @@ pub record TakesAway (i : ℕ) (old new : Standing) (out : List ℕ) : Type 0 wh
   pub number : i ≡ index + 1
   pub taken : IsTakenOut old.breaks new.breaks index b
   pub same : new ≡ record old { breaks = new.breaks }
-  pub told : out ≡ deleted_line i b
+  pub reported : out ≡ deleted_line i b
 
 abbrev pub Deletes : ℕ → Standing → Standing → List ℕ → Type 0
 Deletes i old new out = TakesAway i old new out ⊎ (¬ HasNumber old.breaks i × Stays old new out (refusal_line B5))

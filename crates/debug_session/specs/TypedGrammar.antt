@@ -8,13 +8,13 @@ use Rattle.debug_session.specs.declared.command.Command.TheVariants.{Step, Back,
 use Rattle.debug_session.specs.declared.command.Limits.{Limits}
 use Rattle.debug_session.specs.declared.command.Typed.{Typed}
 use Rattle.debug_session.specs.declared.command.Typed.TheVariants.{Plain, Reverse, Goto, Part, Why, Breaks, Delete, Lines, Where, Help, HelpOn}
-use Rattle.debug_session.specs.declared.name.Name.{Name}
-use Rattle.debug_session.specs.declared.name.Name.TheVariants as name
+use Rattle.debug_session.specs.declared.name.CommandName.{CommandName}
+use Rattle.debug_session.specs.declared.name.CommandName.TheVariants as name
 use Rattle.debug_session.specs.declared.refusal.Refusal.{Refusal}
 use Rattle.debug_session.specs.declared.refusal.Refusal.TheVariants.{B1, B2, B3, B5}
 use Rattle.debug_session.specs.declared.topic.Topic.{Topic}
 use Rattle.debug_session.specs.Conditions.{break_asked}
-use Rattle.debug_session.specs.Grammar.{Word, Reading, number_below, one_number, with_number, alone}
+use Rattle.debug_session.specs.Grammar.{Word, Reading, number_below, one_number, with_number, no_word_left}
 use Rattle.debug_session.specs.Input.{words_in}
 use Rattle.debug_session.specs.Memos.{nothing_known}
 use Rattle.debug_session.specs.Names.{name_of}
@@ -109,19 +109,19 @@ help_asked [] = Ok Help
 help_asked (word ∷ words) = help_named (topic_of word) words
 
 -- a command by its name and the words behind it: `quit` has none where it ends the session
-abbrev pub command_typed : Limits → Option Name → List Word → TypedReading
+abbrev pub command_typed : Limits → Option CommandName → List Word → TypedReading
 command_typed limits None words = Err B1
 command_typed limits (Some name.Step) words = plain (with_number Step (number_or 1 1000000000000001 words))
 command_typed limits (Some name.Back) words = plain (with_number Back (number_or 1 1000000000000001 words))
 command_typed limits (Some name.Break) words = plain (break_asked limits words)
 command_typed limits (Some name.Breaks) words = typed_alone Breaks words
-command_typed limits (Some name.Run) words = plain (alone Run words)
+command_typed limits (Some name.Run) words = plain (no_word_left Run words)
 command_typed limits (Some name.Reverse) words = typed_alone Reverse words
 command_typed limits (Some name.Until) words = plain (with_number Until (one_moment words))
 command_typed limits (Some name.State) words = state_asked limits words
 command_typed limits (Some name.Lines) words = lists (number_or 10 1001 words)
 command_typed limits (Some name.Delete) words = deletes (one_break_number words)
-command_typed limits (Some name.Clear) words = plain (alone Clear words)
+command_typed limits (Some name.Clear) words = plain (no_word_left Clear words)
 command_typed limits (Some name.Help) words = help_asked words
 command_typed limits (Some name.Quit) words = Err B2
 command_typed limits (Some name.Why) words = why_asked limits words

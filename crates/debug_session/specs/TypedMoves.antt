@@ -65,30 +65,30 @@ hit_line None = []
 hit_line (Some hit) = set_line hit.number hit.breakpoint
 
 -- the first breakpoint that matches the last line, with the states before and after it
-pub record TellsHit (start : NetState) (breaks : List Break) (p : ℕ) (told : List ℕ) : Type 0 where
+pub record TellsHit (start : NetState) (breaks : List Break) (p : ℕ) (reported : List ℕ) : Type 0 where
   pub line : TraceLine
   pub given : GivesAt start line p
   pub hit : Option Hit
   pub first : IsFirstHit breaks given.before.state line given.after hit
-  pub told_is : told ≡ hit_line hit
+  pub reported_is : reported ≡ hit_line hit
 
 -- it is told at a position past a bound, and at no other
-pub record TellsMatch (start : NetState) (breaks : List Break) (bound p : ℕ) (told : List ℕ) : Type 0 where
-  pub past : bound < p → TellsHit start breaks p told
-  pub before : p ≤ bound → told ≡ []
+pub record TellsMatch (start : NetState) (breaks : List Break) (bound p : ℕ) (reported : List ℕ) : Type 0 where
+  pub past : bound < p → TellsHit start breaks p reported
+  pub before : p ≤ bound → reported ≡ []
 
 -- a move from a position m is told: the lines that it passed, where it came to, and past a bound which breakpoint matches there
 pub record TellsPast (start : NetState) (m : ℕ) (report : Report) (at : Standing) (out : List ℕ) : Type 0 where
   pub matched : List ℕ
   pub matches : TellsMatch start at.breaks report.bound at.shown.position matched
-  pub told : out ≡ passed_lines start m report at.shown.position ++ (where_line start at.shown ++ matched)
+  pub reported : out ≡ passed_lines start m report at.shown.position ++ (where_line start at.shown ++ matched)
 
 -- the state at a position that the move goes to is shown, and the move is told
 pub record MovesPast (start : NetState) (report : Report) (goes : ℕ → Type 0) (old new : Standing) (out : List ℕ) : Type 0 where
   pub at : goes new.shown.position
   pub on_run : Passes start new.shown
   pub breaks : new.breaks ≡ old.breaks
-  pub told : TellsPast start old.shown.position report new out
+  pub reported : TellsPast start old.shown.position report new out
 
 -- a breakpoint is told after a move forwards, and after no other
 abbrev pub onwards : ℕ → Report

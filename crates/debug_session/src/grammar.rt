@@ -5,7 +5,7 @@ ghost use Rattle.std.specs.Str.{bytes_eq};
 ghost use Rattle.std.specs.Str.Parse.{digits_value};
 ghost use Rattle.scenario_asm.specs.Numbers.{is_numeral, is_digit};
 ghost use Rattle.debug_session.specs.Input.{words_in};
-ghost use Rattle.debug_session.specs.Grammar.{number_below, one_number, alone, kind_named, sets, one_kind, breakpoint, command_named, reading};
+ghost use Rattle.debug_session.specs.Grammar.{number_below, one_number, no_word_left, kind_named, sets, one_kind, breakpoint, command_named, reading};
 
 use crate::command::{Command, Limits};
 use crate::cut::next_word;
@@ -140,7 +140,7 @@ fn one_kind(line: &[u8]) -> Result<Command, Refusal>
 
 /// A command, where a line has no word.
 pub(crate) fn alone(command: Command, line: &[u8]) -> Result<Command, Refusal>
-    ensures { result ≡ alone command (words_in line.now) }
+    ensures { result ≡ no_word_left command (words_in line.now) }
 {
     match next_word(line) {
         None => Ok(command),

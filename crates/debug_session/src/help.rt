@@ -3,81 +3,83 @@ ghost use Rattle.std.specs.Prelude.{◌≡◌, ◌++◌, OnOk};
 ghost use Rattle.std.specs.List.{flat_map};
 ghost use Rattle.debug_session.specs.Help.{usage, more, example, all_names, help_text, help_on_command};
 
-use crate::name::Name;
+use crate::name::CommandName;
 use std::alloc::AllocError;
 
 /// The commands, in the order in which they are told of.
-const ALL_NAMES: [Name; 16] = [
-    Name::Step,
-    Name::Back,
-    Name::Run,
-    Name::Reverse,
-    Name::Until,
-    Name::Goto,
-    Name::Where,
-    Name::State,
-    Name::Break,
-    Name::Breaks,
-    Name::Delete,
-    Name::Clear,
-    Name::Lines,
-    Name::Why,
-    Name::Help,
-    Name::Quit,
+const ALL_NAMES: [CommandName; 16] = [
+    CommandName::Step,
+    CommandName::Back,
+    CommandName::Run,
+    CommandName::Reverse,
+    CommandName::Until,
+    CommandName::Goto,
+    CommandName::Where,
+    CommandName::State,
+    CommandName::Break,
+    CommandName::Breaks,
+    CommandName::Delete,
+    CommandName::Clear,
+    CommandName::Lines,
+    CommandName::Why,
+    CommandName::Help,
+    CommandName::Quit,
 ];
 
 /// How a command is used.
-fn usage(name: Name) -> &'static [u8]
+fn usage(name: CommandName) -> &'static [u8]
     ensures { result.now ≡ usage name }
 {
     match name {
-        Name::Step => b"step [K]     run the next K events (1)\n",
-        Name::Back => b"back [K]     take the last K events back (1)\n",
-        Name::Run => b"run          run until a breakpoint matches, or to the end\n",
-        Name::Reverse => b"reverse      go back until a breakpoint matches, or to the beginning\n",
-        Name::Until =>
+        CommandName::Step => b"step [K]     run the next K events (1)\n",
+        CommandName::Back => b"back [K]     take the last K events back (1)\n",
+        CommandName::Run => b"run          run until a breakpoint matches, or to the end\n",
+        CommandName::Reverse =>
+            b"reverse      go back until a breakpoint matches, or to the beginning\n",
+        CommandName::Until =>
             b"until T      run all events before the moment T, as 1.5s, 20ms or 10000ns\n",
-        Name::Goto => b"goto N       go to position N, forwards or back, or to the end\n",
-        Name::Where =>
+        CommandName::Goto => b"goto N       go to position N, forwards or back, or to the end\n",
+        CommandName::Where =>
             b"where        show the position, the next event, and how far the run is known to go\n",
-        Name::State => b"state [PART] show all of the state, or of it: node N, link L or flow F\n",
-        Name::Break =>
+        CommandName::State =>
+            b"state [PART] show all of the state, or of it: node N, link L or flow F\n",
+        CommandName::Break =>
             b"break COND.. stop where all match: node N, flow F, kind K, drop, link L, byte B; or stall [F]\n",
-        Name::Breaks => b"breaks       list the breakpoints\n",
-        Name::Delete => b"delete I     take breakpoint I away\n",
-        Name::Clear => b"clear        take all breakpoints away\n",
-        Name::Lines => b"lines [K]    show the last K lines of the trace (10)\n",
-        Name::Why => b"why F        tell what flow F waits for\n",
-        Name::Help =>
+        CommandName::Breaks => b"breaks       list the breakpoints\n",
+        CommandName::Delete => b"delete I     take breakpoint I away\n",
+        CommandName::Clear => b"clear        take all breakpoints away\n",
+        CommandName::Lines => b"lines [K]    show the last K lines of the trace (10)\n",
+        CommandName::Why => b"why F        tell what flow F waits for\n",
+        CommandName::Help =>
             b"help [NAME]  show this, or more of NAME: a command, numbers, trace, kinds or stall\n",
-        Name::Quit => b"quit         end the session\n",
+        CommandName::Quit => b"quit         end the session\n",
     }
 }
 
 /// What else there is to say of a command.
-fn more(name: Name) -> &'static [u8]
+fn more(name: CommandName) -> &'static [u8]
     ensures { result.now ≡ more name }
 {
     match name {
-        Name::Step =>
+        CommandName::Step =>
             b"It shows the last ten lines of the trace that it passes, how many more there are, and where it came to.\n",
-        Name::Back =>
+        CommandName::Back =>
             b"It shows the last ten lines that it takes back, the latest first, and where it came to.\n",
-        Name::Run =>
+        CommandName::Run =>
             b"It stops after the next event whose line a breakpoint matches, and shows that breakpoint.\n",
-        Name::Reverse =>
+        CommandName::Reverse =>
             b"It stops after the last event before this position whose line a breakpoint matches, else at position 0.\n",
-        Name::Until =>
+        CommandName::Until =>
             b"T is a number of nanoseconds, or has a unit: ns, us, ms or s. It only goes forwards, and else says so.\n",
-        Name::Goto =>
+        CommandName::Goto =>
             b"N is how many events were run there, as the first number of a line of the trace.\n",
-        Name::Where =>
+        CommandName::Where =>
             b"The next event is shown by the line that it gives. A run is known to go to where the session was.\n",
-        Name::State =>
+        CommandName::State =>
             b"node N and link L show one line each, flow F all that there is of a flow: both of its ends, the links
 where its packets wait, and its events to come. N, L and F are numbers from 0: help numbers
 ",
-        Name::Break =>
+        CommandName::Break =>
             b"node N       the event happens at node N (N, L and F are numbers from 0: help numbers)
 flow F       the event is of flow F; a free is of none
 kind K       start, rto, delack, free, data or ack: help kinds
@@ -86,47 +88,47 @@ link L       link L begins to send a packet, or drops one
 byte B       a segment that begins with byte B arrives, or an acknowledgement of B; with drop, it is dropped
 stall [F]    a flow, or flow F, is stalled from there on: help stall; it stands alone
 ",
-        Name::Breaks =>
+        CommandName::Breaks =>
             b"They are counted from 1; where one is taken away, those behind it move up by one.\n",
-        Name::Delete => b"I is its number, as breaks lists it.\n",
-        Name::Clear => b"",
-        Name::Lines => b"K is 1000 at most. What stands in a line: help trace\n",
-        Name::Why =>
+        CommandName::Delete => b"I is its number, as breaks lists it.\n",
+        CommandName::Clear => b"",
+        CommandName::Lines => b"K is 1000 at most. What stands in a line: help trace\n",
+        CommandName::Why =>
             b"F is a number, not a name: the first flow line of the text is flow 0, the next one flow 1.
 It tells how the flow stands, where its packets are, and when its alarms are due.
 ",
-        Name::Help =>
+        CommandName::Help =>
             b"NAME can be cut short, as a command can. In the shell, tcpsim explain B3 tells more of refused B3.\n",
-        Name::Quit => b"The end of input (Ctrl-D) does so too.\n",
+        CommandName::Quit => b"The end of input (Ctrl-D) does so too.\n",
     }
 }
 
 /// A line of a command.
-fn example(name: Name) -> &'static [u8]
+fn example(name: CommandName) -> &'static [u8]
     ensures { result.now ≡ example name }
 {
     match name {
-        Name::Step => b"step 10\n",
-        Name::Back => b"back 10\n",
-        Name::Run => b"run\n",
-        Name::Reverse => b"reverse\n",
-        Name::Until => b"until 20ms\n",
-        Name::Goto => b"goto 25\n",
-        Name::Where => b"where\n",
-        Name::State => b"state flow 0\n",
-        Name::Break => b"break flow 0 kind rto\n",
-        Name::Breaks => b"breaks\n",
-        Name::Delete => b"delete 1\n",
-        Name::Clear => b"clear\n",
-        Name::Lines => b"lines 20\n",
-        Name::Why => b"why 0\n",
-        Name::Help => b"help until\n",
-        Name::Quit => b"quit\n",
+        CommandName::Step => b"step 10\n",
+        CommandName::Back => b"back 10\n",
+        CommandName::Run => b"run\n",
+        CommandName::Reverse => b"reverse\n",
+        CommandName::Until => b"until 20ms\n",
+        CommandName::Goto => b"goto 25\n",
+        CommandName::Where => b"where\n",
+        CommandName::State => b"state flow 0\n",
+        CommandName::Break => b"break flow 0 kind rto\n",
+        CommandName::Breaks => b"breaks\n",
+        CommandName::Delete => b"delete 1\n",
+        CommandName::Clear => b"clear\n",
+        CommandName::Lines => b"lines 20\n",
+        CommandName::Why => b"why 0\n",
+        CommandName::Help => b"help until\n",
+        CommandName::Quit => b"quit\n",
     }
 }
 
 // Appends how these commands are used.
-fn append_usages(out: &mut Vec<u8>, names: &[Name]) -> Result<(), AllocError>
+fn append_usages(out: &mut Vec<u8>, names: &[CommandName]) -> Result<(), AllocError>
     ensures { OnOk result (out.new.items ≡ out.old.items ++ flat_map usage names.now) }
 {
     for name in names {
@@ -148,7 +150,7 @@ pub(crate) fn append_help(out: &mut Vec<u8>) -> Result<(), AllocError>
 }
 
 /// Appends how a command is used.
-pub(crate) fn append_help_on_command(out: &mut Vec<u8>, name: Name) -> Result<(), AllocError>
+pub(crate) fn append_help_on_command(out: &mut Vec<u8>, name: CommandName) -> Result<(), AllocError>
     ensures { OnOk result (out.new.items ≡ out.old.items ++ help_on_command name) }
 {
     out.extend_from_slice(usage(name))?;

@@ -2,7 +2,7 @@
 ghost use Rattle.std.specs.Prelude.{◌≡◌, ◌≤◌, ◌-◌, ◌^◌, min, length, IsTrue, IfSome, not};
 ghost use Rattle.std.specs.List.{list_all, position};
 ghost use Rattle.scenario_asm.specs.Numbers.{is_digit};
-ghost use Rattle.debug_session.specs.Times.{first_digits, behind_digits, places_of, nanoseconds, moment, in_unit, with_part, moment_of, moment_in};
+ghost use Rattle.debug_session.specs.Times.{first_digits, behind_digits, places_of, nanoseconds, moment, in_unit, with_part, moment_of_words, moment_in};
 
 use crate::grammar::{AMOUNTS, is, is_digit, is_numeral, value};
 
@@ -109,7 +109,7 @@ fn with_part(whole: &[u8], behind: &[u8]) -> Option<u64>
 /// The moment of a whole number and of what stands behind it.
 fn moment_of(whole: &[u8], behind: &[u8]) -> Option<u64>
     requires { IsTrue (list_all is_digit whole.now) }
-    ensures { result ≡ moment_of whole.now behind.now }
+    ensures { result ≡ moment_of_words whole.now behind.now }
 {
     match behind.split_first() {
         None => moment(value(whole)),

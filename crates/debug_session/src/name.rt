@@ -5,7 +5,7 @@ ghost use Rattle.debug_session.specs.Names.{name_of};
 
 /// The name of a command.
 #[derive(Clone, Copy, Debug, PartialEq, Eq)]
-pub enum Name {
+pub enum CommandName {
     /// Events are run.
     Step,
     /// Events are taken back.
@@ -48,41 +48,41 @@ pub(crate) fn begins(word: &[u8], name: &[u8]) -> bool
 }
 
 /// The first name that a word begins.
-pub(crate) fn name_of(word: &[u8]) -> Option<Name>
+pub(crate) fn name_of(word: &[u8]) -> Option<CommandName>
     ensures { result ≡ name_of word.now }
 {
     if begins(word, b"step") {
-        Some(Name::Step)
+        Some(CommandName::Step)
     } else if begins(word, b"back") {
-        Some(Name::Back)
+        Some(CommandName::Back)
     } else if begins(word, b"break") {
-        Some(Name::Break)
+        Some(CommandName::Break)
     } else if begins(word, b"breaks") {
-        Some(Name::Breaks)
+        Some(CommandName::Breaks)
     } else if begins(word, b"run") {
-        Some(Name::Run)
+        Some(CommandName::Run)
     } else if begins(word, b"reverse") {
-        Some(Name::Reverse)
+        Some(CommandName::Reverse)
     } else if begins(word, b"until") {
-        Some(Name::Until)
+        Some(CommandName::Until)
     } else if begins(word, b"state") {
-        Some(Name::State)
+        Some(CommandName::State)
     } else if begins(word, b"lines") {
-        Some(Name::Lines)
+        Some(CommandName::Lines)
     } else if begins(word, b"delete") {
-        Some(Name::Delete)
+        Some(CommandName::Delete)
     } else if begins(word, b"clear") {
-        Some(Name::Clear)
+        Some(CommandName::Clear)
     } else if begins(word, b"help") {
-        Some(Name::Help)
+        Some(CommandName::Help)
     } else if begins(word, b"quit") {
-        Some(Name::Quit)
+        Some(CommandName::Quit)
     } else if begins(word, b"why") {
-        Some(Name::Why)
+        Some(CommandName::Why)
     } else if begins(word, b"goto") {
-        Some(Name::Goto)
+        Some(CommandName::Goto)
     } else if begins(word, b"where") {
-        Some(Name::Where)
+        Some(CommandName::Where)
     } else {
         None
     }

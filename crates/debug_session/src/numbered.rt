@@ -152,7 +152,7 @@ fn put_break(line: &mut [u8], end: usize, b: Break) -> usize
 }
 
 // Writes a breakpoint and the end of its line, behind `:`, and answers where that starts.
-fn put_told(line: &mut [u8], b: Break) -> usize
+fn put_reported(line: &mut [u8], b: Break) -> usize
     requires { length line.old ≡ 192 }
     ensures written { drop result line.new ≡ codes ":" ++ break_text b ++ codes "\n" }
     ensures short { 33 ≤ result }
@@ -171,7 +171,7 @@ pub(crate) fn put_numbered(line: &mut [u8], word: &[u8], number: u64, b: Break) 
     ensures written { drop result line.new ≡ numbered_line word.now number b }
     ensures within { result ≤ 192 }
 {
-    let at = put_told(line, b);
+    let at = put_reported(line, b);
     put_named(line, at, word, number as usize)
 }
 

@@ -9,7 +9,7 @@ use crate::cut::next_word;
 use crate::grammar::{AMOUNTS, alone, is, is_numeral, number_below, one_number, one_word};
 use crate::memo::Extent;
 use crate::moment::moment_in;
-use crate::name::{Name, name_of};
+use crate::name::{CommandName, name_of};
 use crate::refusal::Refusal;
 use crate::topic::topic_of;
 use trace_text::DumpPart;
@@ -156,27 +156,27 @@ fn lines_typed(line: &[u8]) -> Result<u64, Refusal>
 }
 
 /// The command of a name, with the words behind it.
-fn command_typed(limits: Limits, name: Option<Name>, rest: &[u8]) -> Result<Typed, Refusal>
+fn command_typed(limits: Limits, name: Option<CommandName>, rest: &[u8]) -> Result<Typed, Refusal>
     ensures { result ≡ command_typed limits name (words_in rest.now) }
 {
     match name {
         None => Err(Refusal::B1),
-        Some(Name::Step) => Ok(Typed::Plain(Command::Step(count_typed(rest)?))),
-        Some(Name::Back) => Ok(Typed::Plain(Command::Back(count_typed(rest)?))),
-        Some(Name::Break) => plain(break_asked(limits, rest)),
-        Some(Name::Breaks) => typed_alone(Typed::Breaks, rest),
-        Some(Name::Run) => plain(alone(Command::Run, rest)),
-        Some(Name::Reverse) => typed_alone(Typed::Reverse, rest),
-        Some(Name::Until) => Ok(Typed::Plain(Command::Until(one_moment(rest)?))),
-        Some(Name::State) => state_asked(limits, rest),
-        Some(Name::Lines) => Ok(Typed::Lines(lines_typed(rest)?)),
-        Some(Name::Delete) => Ok(Typed::Delete(one_break_number(rest)?)),
-        Some(Name::Clear) => plain(alone(Command::Clear, rest)),
-        Some(Name::Help) => help_asked(rest),
-        Some(Name::Quit) => Err(Refusal::B2),
-        Some(Name::Why) => why_asked(limits, rest),
-        Some(Name::Goto) => goto_asked(rest),
-        Some(Name::Where) => typed_alone(Typed::Where(Extent::nothing()), rest),
+        Some(CommandName::Step) => Ok(Typed::Plain(Command::Step(count_typed(rest)?))),
+        Some(CommandName::Back) => Ok(Typed::Plain(Command::Back(count_typed(rest)?))),
+        Some(CommandName::Break) => plain(break_asked(limits, rest)),
+        Some(CommandName::Breaks) => typed_alone(Typed::Breaks, rest),
+        Some(CommandName::Run) => plain(alone(Command::Run, rest)),
+        Some(CommandName::Reverse) => typed_alone(Typed::Reverse, rest),
+        Some(CommandName::Until) => Ok(Typed::Plain(Command::Until(one_moment(rest)?))),
+        Some(CommandName::State) => state_asked(limits, rest),
+        Some(CommandName::Lines) => Ok(Typed::Lines(lines_typed(rest)?)),
+        Some(CommandName::Delete) => Ok(Typed::Delete(one_break_number(rest)?)),
+        Some(CommandName::Clear) => plain(alone(Command::Clear, rest)),
+        Some(CommandName::Help) => help_asked(rest),
+        Some(CommandName::Quit) => Err(Refusal::B2),
+        Some(CommandName::Why) => why_asked(limits, rest),
+        Some(CommandName::Goto) => goto_asked(rest),
+        Some(CommandName::Where) => typed_alone(Typed::Where(Extent::nothing()), rest),
     }
 }
 

@@ -2,7 +2,7 @@
 ghost use Rattle.std.specs.Prelude.{◌≡◌, IfOk, OnErr, MatchBool, MatchOption};
 ghost use Rattle.trace_text.specs.Dump.{dump_bytes};
 ghost use Rattle.debug_session.specs.Answers.{standing, refusal_line, Sets, Obeys, Answers};
-ghost use Rattle.debug_session.specs.Told.{Told};
+ghost use Rattle.debug_session.specs.Reported.{Reported};
 ghost use Rattle.debug_session.specs.WindowMoves.{IsAsked, IsLeft};
 
 use crate::command::{Command, Limits};
@@ -30,7 +30,7 @@ fn tell(debugger: &Debugger, said: &mut Said) -> bool
 /// Tells what a move came to. Where there is no memory for that, the move is undone.
 #[tactic(none)]
 fn show_move(debugger: &mut Debugger, moved: Result<u64, MoveFault>, said: &mut Said)
-    ensures told { IfOk moved (λ _. Told debugger.old debugger.new said.new) }
+    ensures reported { IfOk moved (λ _. Reported debugger.old debugger.new said.new) }
     ensures refused { OnErr moved ((debugger.new ≡ debugger.old) × (said.new ≡ refusal_line Refusal.M)) }
 {
     match moved {
@@ -78,7 +78,7 @@ pub(crate) fn obey(debugger: &mut Debugger, command: Command, said: &mut Said) -
         Command::Run => Some(WindowMove::Run),
         Command::State => {
             let _here = debugger.position();
-            let _told = tell(debugger, said);
+            let _reported = tell(debugger, said);
             None
         }
         Command::SetBreak(b) => {

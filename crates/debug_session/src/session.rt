@@ -1,8 +1,8 @@
 //! A whole session: a scenario's run, walked through by commands.
 ghost use Rattle.std.specs.Prelude.{◌≡◌, ◌<◌, ◌≤◌, length, OnOk, OnErr};
-ghost use Rattle.scenario_asm.specs.Lines.{lines_of};
-ghost use Rattle.table_run.specs.State.{opening};
-ghost use Rattle.debugger.specs.Debugging.{opened};
+ghost use Rattle.scenario_asm.specs.Lines.{lines_of_text};
+ghost use Rattle.table_run.specs.State.{initial};
+ghost use Rattle.debugger.specs.Debugging.{debugging_opened};
 ghost use Rattle.window_engine.specs.Failures.{failures_after};
 ghost use Rattle.debug_session.specs.Taking.{Takes, IsBeginningOf};
 ghost use Rattle.debug_session.specs.Answers.{standing};
@@ -20,8 +20,8 @@ use window_engine::{Gate, Hands, Sink, SinkFail, put_all};
 
 /// Why a session has no further output.
 #[derive(Debug, Drop)]
-pub enum SessionFault {
-    /// There was no memory for the opening state.
+pub enum DialogueFault {
+    /// There was no memory for the initial state.
     NoMemory,
     /// The output failed.
     OutputFailed,
@@ -40,8 +40,8 @@ pub fn run_commands<H: Hands, S: Sink>(
     out: &mut S,
 ) -> Result<(), SinkFail>
     requires ready { H.ready hands.now }
-    ensures ok { OnOk result (Takes (sessions.Output limits debugger.old.start (lines_of commands.now) (standing debugger.old)) (S.contents out.old) (S.contents out.new)) }
-    ensures err { OnErr result (Takes (IsBeginningOf (sessions.OutputStart limits debugger.old.start (lines_of commands.now) (standing debugger.old))) (S.contents out.old) (S.contents out.new)) }
+    ensures ok { OnOk result (Takes (sessions.Output limits debugger.old.start (lines_of_text commands.now) (standing debugger.old)) (S.contents out.old) (S.contents out.new)) }
+    ensures err { OnErr result (Takes (IsBeginningOf (sessions.OutputStart limits debugger.old.start (lines_of_text commands.now) (standing debugger.old))) (S.contents out.old) (S.contents out.new)) }
     ensures failures { S.failures out.new ≡ failures_after result (S.failures out.old) }
 {
     let mut rest = commands;
@@ -57,7 +57,7 @@ pub fn run_commands<H: Hands, S: Sink>(
     Ok(())
 }
 
-/// Answers all commands of a session, one a line, by a debugger at the opening state.
+/// Answers all commands of a session, one a line, by a debugger at the initial state.
 fn answer_all<H: Hands, S: Sink>(
     hands: &H,
     gate: &Gate,
@@ -66,20 +66,20 @@ fn answer_all<H: Hands, S: Sink>(
     debugger: &mut Debugger,
     said: &mut Said,
     out: &mut S,
-) -> Result<(), SessionFault>
+) -> Result<(), DialogueFault>
     requires ready { H.ready hands.now }
-    requires opened { debugger.old ≡ opened (opening scenario.now) }
-    ensures output { Takes (sessions.IsEnding scenario.now (lines_of commands.now) result) (S.contents out.old) (S.contents out.new) }
+    requires opened { debugger.old ≡ debugging_opened (initial scenario.now) }
+    ensures output { Takes (sessions.IsEnding scenario.now (lines_of_text commands.now) result) (S.contents out.old) (S.contents out.new) }
     ensures failures { S.failures out.new ≡ sessions.failures_of result (S.failures out.old) }
 {
     let limits = Limits::of(scenario);
     match run_commands(hands, gate, debugger, limits, commands, said, out) {
         Ok(()) => Ok(()),
-        Err(_) => Err(SessionFault::OutputFailed),
+        Err(_) => Err(DialogueFault::OutputFailed),
     }
 }
 
-/// A whole session over a scenario: its commands are answered, one a line, from the opening state
+/// A whole session over a scenario: its commands are answered, one a line, from the initial state
 /// on. A command that is refused for want of memory or workers doesn't end it.
 pub fn run_session<H: Hands, S: Sink>(
     hands: &H,
@@ -90,15 +90,15 @@ pub fn run_session<H: Hands, S: Sink>(
     workers: usize,
     commands: &[u8],
     out: &mut S,
-) -> Result<(), SessionFault>
+) -> Result<(), DialogueFault>
     requires ready { H.ready hands.now }
     requires partition { length partition ≡ length scenario.now.nodes }
     requires workers { (0 < workers) × (workers ≤ 64) }
-    ensures output { Takes (sessions.IsEnding scenario.now (lines_of commands.now) result) (S.contents out.old) (S.contents out.new) }
+    ensures output { Takes (sessions.IsEnding scenario.now (lines_of_text commands.now) result) (S.contents out.old) (S.contents out.new) }
     ensures failures { S.failures out.new ≡ sessions.failures_of result (S.failures out.old) }
 {
     let Ok(mut debugger) = Debugger::new(alloc, scenario, partition, workers) else {
-        return Err(SessionFault::NoMemory);
+        return Err(DialogueFault::NoMemory);
     };
     let mut said = Said::new(alloc);
     let ended = answer_all(

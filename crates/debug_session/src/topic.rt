@@ -4,14 +4,14 @@ ghost use Rattle.debug_session.specs.Help.{help_on};
 ghost use Rattle.debug_session.specs.Topics.{other_topic, topic_of};
 
 use crate::help::append_help_on_command;
-use crate::name::{Name, begins, name_of};
+use crate::name::{CommandName, begins, name_of};
 use std::alloc::AllocError;
 
 /// What help is told of.
 #[derive(Clone, Copy, Debug, PartialEq, Eq)]
 pub enum Topic {
     /// How a command is used.
-    Command(Name),
+    Command(CommandName),
     /// What nodes, links, flows and breakpoints are called.
     Numbers,
     /// What stands in a line of the trace.

@@ -5,14 +5,14 @@ ghost use Rattle.std.specs.List.{concat};
 ghost use Rattle.debugger.specs.Moves.{HasPosition};
 ghost use Rattle.debugger.specs.Passed.{texts_between};
 ghost use Rattle.debug_session.specs.Answers.{standing};
-ghost use Rattle.debug_session.specs.Told.{passed_count, shown_stretch, told_hit, AddsPlace, AddsMove};
+ghost use Rattle.debug_session.specs.Reported.{passed_count, shown_stretch, reported_hit, AddsPlace, AddsMove};
 ghost use Rattle.debug_session.specs.TypedMoves.{lowest, passed, more_line, last_ten, idle_line, passed_lines, end_words, time_words, place_line, hit_line, next_text, known_line, where_text, last_lines};
 
 use crate::memo::Extent;
 use crate::numbered::put_numbered;
 use crate::report::Report;
 use crate::said::{ROOM, put_count, put_text};
-use debugger::{Debugger, Hit, LastEvent, MoveFault, Order, Stretch};
+use debugger::{Debugger, Hit, LastEvent, LineOrder, MoveFault, Stretch};
 
 /// The most lines that a move shows.
 const MOST_SHOWN: u64 = 10;
@@ -38,13 +38,13 @@ fn shown_stretch(from: u64, low: u64, to: u64) -> Stretch
         Stretch {
             from: to - count,
             count,
-            order: Order::Rising,
+            order: LineOrder::Rising,
         }
     } else {
         Stretch {
             from: low,
             count: from.saturating_sub(low).min(MOST_SHOWN),
-            order: Order::Falling,
+            order: LineOrder::Falling,
         }
     }
 }
@@ -224,8 +224,8 @@ fn append_hit(out: &mut Vec<u8>, hit: Option<Hit>) -> Result<(), MoveFault>
 
 /// The breakpoint that is told at a position: none up to a bound, which is where the move began
 /// unless a breakpoint stops it backwards too.
-fn told_hit(bound: u64, position: u64, hit: Option<Hit>) -> Option<Hit>
-    ensures { result ≡ told_hit bound position hit }
+fn reported_hit(bound: u64, position: u64, hit: Option<Hit>) -> Option<Hit>
+    ensures { result ≡ reported_hit bound position hit }
 {
     if bound < position { hit } else { None }
 }
@@ -238,10 +238,10 @@ fn append_event(
     event: LastEvent,
     at_end: bool,
 ) -> Result<(), MoveFault>
-    ensures { OnOk result (out.new.items ≡ out.old.items ++ (place_line position event.time at_end ++ hit_line (told_hit bound position event.hit))) }
+    ensures { OnOk result (out.new.items ≡ out.old.items ++ (place_line position event.time at_end ++ hit_line (reported_hit bound position event.hit))) }
 {
     append_place(out, position, event.time, at_end)?;
-    append_hit(out, told_hit(bound, position, event.hit))
+    append_hit(out, reported_hit(bound, position, event.hit))
 }
 
 /// Appends where a session stands, and past a bound the breakpoint that matches there.
@@ -290,7 +290,7 @@ fn append_due(out: &mut Vec<u8>, debugger: &mut Debugger) -> Result<(), MoveFaul
     let stretch = Stretch {
         from: debugger.position(),
         count: 1,
-        order: Order::Rising,
+        order: LineOrder::Rising,
     };
     debugger.append_lines(&stretch, out)
 }
@@ -379,7 +379,7 @@ pub(crate) fn append_last(
     let stretch = Stretch {
         from,
         count: position - from,
-        order: Order::Rising,
+        order: LineOrder::Rising,
     };
     debugger.append_lines(&stretch, out)
 }

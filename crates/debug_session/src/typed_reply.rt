@@ -7,7 +7,7 @@ ghost use Rattle.debugger.specs.Moves.{HasPosition, StepGoesTo};
 ghost use Rattle.debug_session.specs.Answers.{standing, refusal_line};
 ghost use Rattle.debug_session.specs.Help.{help_text, help_on};
 ghost use Rattle.debug_session.specs.Numbered.{IsNumber, HasNumber, set_line};
-ghost use Rattle.debug_session.specs.Told.{ToldPast, ToldMove};
+ghost use Rattle.debug_session.specs.Reported.{ReportedPast, ReportedMove};
 ghost use Rattle.debug_session.specs.TypedAnswers.{ObeysTyped};
 ghost use Rattle.debug_session.specs.TypedMoves.{TellsPast, onwards};
 ghost use Rattle.debug_session.specs.WindowMoves.{IsAsked, IsTyped};
@@ -139,7 +139,7 @@ fn tell_help_on(topic: Topic, said: &mut Said)
 #[tactic(none)]
 fn tell_move(debugger: &mut Debugger, from: u64, report: Report, said: &mut Said) -> bool
     requires { HasPosition debugger.old.start from }
-    ensures told { MatchBool result (TellsPast debugger.old.start from report (standing debugger.old) said.new) (said.new ≡ refusal_line Refusal.M) }
+    ensures reported { MatchBool result (TellsPast debugger.old.start from report (standing debugger.old) said.new) (said.new ≡ refusal_line Refusal.M) }
     ensures same { debugger.new ≡ debugger.old }
 {
     match said.say_move(debugger, from, report) {
@@ -161,7 +161,7 @@ pub(crate) fn show_past(
     said: &mut Said,
 )
     requires { HasPosition debugger.old.start from }
-    ensures told { IfOk moved (λ _. ToldPast from report debugger.old debugger.new said.new) }
+    ensures reported { IfOk moved (λ _. ReportedPast from report debugger.old debugger.new said.new) }
     ensures refused { OnErr moved ((debugger.new ≡ debugger.old) × (said.new ≡ refusal_line Refusal.M)) }
 {
     match moved {
@@ -189,7 +189,7 @@ pub(crate) fn onwards(from: u64) -> Report
 #[tactic(none)]
 fn show_passed(debugger: &mut Debugger, from: u64, moved: Result<u64, MoveFault>, said: &mut Said)
     requires { HasPosition debugger.old.start from }
-    ensures told { IfOk moved (λ _. ToldMove from debugger.old debugger.new said.new) }
+    ensures reported { IfOk moved (λ _. ReportedMove from debugger.old debugger.new said.new) }
     ensures refused { OnErr moved ((debugger.new ≡ debugger.old) × (said.new ≡ refusal_line Refusal.M)) }
 {
     let report = onwards(from);

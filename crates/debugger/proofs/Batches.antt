@@ -3,7 +3,7 @@ use Rattle.std.proofs.Common.{◌≡◌, ℕ, zero, suc, ◌+◌, ◌-◌, ◌<�
 use Rattle.std.specs.Option.{option_map}
 use Rattle.std.proofs.Math.Seq.{get_or-append_seam}
 use Rattle.std.proofs.lemmas.List.{length-set}
-use Rattle.ranking.proofs.Maps.{same_some}
+use Rattle.tournament.proofs.Maps.{same_some}
 use Rattle.node_core.specs.TraceLine.{TraceLine, blank}
 use Rattle.table_run.specs.State.{State, due, step_at, step, run, effect_of}
 use Rattle.table_run.proofs.Runs.{of_step, of_run, run_add, run_parts, run_length}
@@ -16,8 +16,8 @@ use Rattle.debugger.specs.declared.breaks.Break.{Break}
 use Rattle.debugger.specs.Breaks.{IsLineHit}
 use Rattle.debugger.specs.Moves.{Passes, HasPosition, RunsTo, UntilGoesTo, IsTooLong}
 use Rattle.debugger.specs.Aims.{LineHit}
-use Rattle.debugger.specs.declared.course.Course.{Course}
-use Rattle.debugger.specs.Courses.{IsOnWay, WentOn, IsFirst, HasNone}
+use Rattle.debugger.specs.declared.course.WindowedNet.{WindowedNet}
+use Rattle.debugger.specs.Courses.{IsOnWindows, WentOn, IsFirstIndex, HasNone}
 use Rattle.debugger.proofs.Walks.{passes_next, NoneBy, none_by_next, run_stopped, SomeBefore, some_before_next, until_stopped}
 
 -- no step where nothing is due
@@ -51,8 +51,8 @@ pub no_window : (old new : Reached) (o : Option BatchValue) → o ≡ None → W
 no_window old new o is gone = subst (λ (x : Option BatchValue). WentOn old x new) is gone
 
 -- on its way after a window
-pub way_on : (start : State) (old new : Course) (batch : BatchValue) (most : ℕ) → IsOnWay start old.engine.net.position old → GoesOn old.engine.net batch new.engine.net → new.engine.failed ≡ false → new.behind ≡ old.behind → old.engine.net.position ≤ most
-    → IsOnWay start most new
+pub way_on : (start : State) (old new : WindowedNet) (batch : BatchValue) (most : ℕ) → IsOnWindows start old.engine.net.position old → GoesOn old.engine.net batch new.engine.net → new.engine.failed ≡ false → new.behind ≡ old.behind → old.engine.net.position ≤ most
+    → IsOnWindows start most new
 way_on start old new batch most way gone running behind from =
     let at = ap (λ (r : Reached). r.position) behind in
     record {
@@ -119,7 +119,7 @@ module _ (start : State) (m : ℕ) (old : Reached) (batch : BatchValue) (new : R
   none_hit_on breaks none has = subst (NoneBy (LineHit breaks) start m) (sym gone.position) (hits_none breaks (length batch.lines) (omega arith) has none)
 
   -- `run` ends after the first line that a breakpoint matches
-  pub run_ends_in : (breaks : List Break) (index p : ℕ) → NoneBy (LineHit breaks) start m old.position → IsFirst (IsLineHit breaks) batch index → p ≡ batch.first + index → RunsTo (LineHit breaks) start m p × HasPosition start p
+  pub run_ends_in : (breaks : List Break) (index p : ℕ) → NoneBy (LineHit breaks) start m old.position → IsFirstIndex (IsLineHit breaks) batch index → p ≡ batch.first + index → RunsTo (LineHit breaks) start m p × HasPosition start p
   run_ends_in breaks index p none is e =
       let g = gives_line start old batch new index here gone is.within in
       let place : old.position + suc index ≡ p = omega (arith, e, gone.first) in
@@ -140,7 +140,7 @@ module _ (start : State) (m : ℕ) (old : Reached) (batch : BatchValue) (new : R
   some_before_on time some has = subst (SomeBefore start time m) (sym gone.position) (before_all time (length batch.lines) (omega arith) has some)
 
   -- `until` ends before the first line that isn't before the time
-  pub until_ends_in : (time index p : ℕ) → SomeBefore start time m old.position → IsFirst (λ (line : TraceLine). time ≤ line.key.time) batch index → p ≡ old.position + index → UntilGoesTo start time m p × HasPosition start p
+  pub until_ends_in : (time index p : ℕ) → SomeBefore start time m old.position → IsFirstIndex (λ (line : TraceLine). time ≤ line.key.time) batch index → p ≡ old.position + index → UntilGoesTo start time m p × HasPosition start p
   until_ends_in time index p some is e =
       let g = gives_line start old batch new index here gone is.within in
       let before = before_all time index (omega (arith, is.within)) is.before some in

@@ -5,28 +5,28 @@ use Rattle.std.specs.List.{concat}
 use Rattle.std.specs.Option.{option_map, option_and_then}
 use lib.Seq.{take_at, drop_at, take-append_seam, drop-append_seam, take-append-le}
 use Rattle.node_core.specs.TraceLine.{TraceLine}
-use Rattle.table_run.specs.State.{State, one_more, run}
+use Rattle.table_run.specs.State.{State, one_step_more, run}
 use Rattle.table_run.proofs.Runs.{run_parts, run_length}
 use Rattle.net_machine.specs.Run.{Reached, Stepped}
 use Rattle.trace_text.specs.Line.{line_bytes}
 use Rattle.debugger.specs.declared.fault.MoveFault.{MoveFault}
-use Rattle.debugger.specs.declared.passed.Order.{Order}
-use Rattle.debugger.specs.declared.passed.Order.TheVariants.{Rising, Falling}
+use Rattle.debugger.specs.declared.passed.LineOrder.{LineOrder}
+use Rattle.debugger.specs.declared.passed.LineOrder.TheVariants.{Rising, Falling}
 use Rattle.debugger.specs.Moves.{Passes}
-use Rattle.debugger.specs.Passed.{lines_of, lines_between, texts_from, texts_between, in_order, beside, AreToldFrom, IsTold}
+use Rattle.debugger.specs.Passed.{lines_of_steps, lines_between, texts_from, texts_between, ordered_texts, beside, AreReportedFrom, AreLinesReported}
 
 -- the lines to a state of the run, and how many they are
-lines_to : (start : State) (at : Reached) (here : Passes start at) → lines_of (run start at.position) ≡ here.lines
-lines_to start at here = ap lines_of here.comes
+lines_to : (start : State) (at : Reached) (here : Passes start at) → lines_of_steps (run start at.position) ≡ here.lines
+lines_to start at here = ap lines_of_steps here.comes
 
 as_many : (start : State) (at : Reached) (here : Passes start at) → length here.lines ≡ at.position
 as_many start at here = run_length at.position start at.state here.lines here.comes
 
 -- the lines after one more step
-pub one_line : (start : State) (old new : Reached) (line : TraceLine) (at : Passes start old) → Stepped old (Some line) new → lines_of (run start new.position) ≡ at.lines ++ line ∷ []
+pub one_line : (start : State) (old new : Reached) (line : TraceLine) (at : Passes start old) → Stepped old (Some line) new → lines_of_steps (run start new.position) ≡ at.lines ++ line ∷ []
 one_line start old new line at next =
-    ap lines_of (subst (λ n. run start n ≡ Some (at.lines ++ line ∷ [], new.state)) {x = suc old.position} {y = new.position} (omega (arith, next.1))
-    (ap (option_and_then one_more) at.comes ∙ ap (option_map {U = List TraceLine × State} (λ (more : TraceLine × State). (at.lines ++ more.0 ∷ [], more.1))) next.0))
+    ap lines_of_steps (subst (λ n. run start n ≡ Some (at.lines ++ line ∷ [], new.state)) {x = suc old.position} {y = new.position} (omega (arith, next.1))
+    (ap (option_and_then one_step_more) at.comes ∙ ap (option_map {U = List TraceLine × State} (λ (more : TraceLine × State). (at.lines ++ more.0 ∷ [], more.1))) next.0))
 
 pub none_between : (start : State) (at : Reached) → Passes start at → texts_between start at.position at.position ≡ []
 none_between start at here =
@@ -69,42 +69,42 @@ pub concat_append : (xs ys : List (List ℕ)) → concat (xs ++ ys) ≡ concat x
 concat_append [] ys = refl
 concat_append (x ∷ xs) ys = ap (λ l. x ++ l) (concat_append xs ys) ∙ sym (append_assoc x (concat xs) (concat ys))
 
-told_beside : (order : Order) (texts : List (List ℕ)) (text : List ℕ) → concat (in_order order (texts ++ text ∷ [])) ≡ beside order (concat (in_order order texts)) text
-told_beside Rising texts text = concat_append texts (text ∷ []) ∙ ap (λ l. concat texts ++ l) (append-nil text)
-told_beside Falling texts text = ap concat (reverse-append texts (text ∷ []))
+reported_beside : (order : LineOrder) (texts : List (List ℕ)) (text : List ℕ) → concat (ordered_texts order (texts ++ text ∷ [])) ≡ beside order (concat (ordered_texts order texts)) text
+reported_beside Rising texts text = concat_append texts (text ∷ []) ∙ ap (λ l. concat texts ++ l) (append-nil text)
+reported_beside Falling texts text = ap concat (reverse-append texts (text ∷ []))
 
-pub told_none : (start : State) (order : Order) (at : Reached) (out : List ℕ) → Passes start at → AreToldFrom start order at.position at.position out out
-told_none start Rising at out here = sym (append-nil out) ∙ ap (λ ts. out ++ concat ts) (sym (none_between start at here))
-told_none start Falling at out here = sym (append-nil out) ∙ ap (λ ts. out ++ concat (reverse ts)) (sym (none_between start at here))
+pub reported_none : (start : State) (order : LineOrder) (at : Reached) (out : List ℕ) → Passes start at → AreReportedFrom start order at.position at.position out out
+reported_none start Rising at out here = sym (append-nil out) ∙ ap (λ ts. out ++ concat ts) (sym (none_between start at here))
+reported_none start Falling at out here = sym (append-nil out) ∙ ap (λ ts. out ++ concat (reverse ts)) (sym (none_between start at here))
 
 -- a line more
-pub told_more : (start : State) (order : Order) (m n size : ℕ) (old new : Reached) (line : TraceLine) (before out made : List ℕ) → m ≤ old.position → Passes start old → Stepped old (Some line) new → n ≡ new.position → size ≡ length before
-    → AreToldFrom start order m old.position before out → made ≡ take size out ++ beside order (drop size out) (line_bytes n line) → AreToldFrom start order m new.position before made
-told_more start order m n size old new line before out made from at next count whole told is =
+pub reported_more : (start : State) (order : LineOrder) (m n size : ℕ) (old new : Reached) (line : TraceLine) (before out made : List ℕ) → m ≤ old.position → Passes start old → Stepped old (Some line) new → n ≡ new.position → size ≡ length before
+    → AreReportedFrom start order m old.position before out → made ≡ take size out ++ beside order (drop size out) (line_bytes n line) → AreReportedFrom start order m new.position before made
+reported_more start order m n size old new line before out made from at next count whole reported is =
     let texts = texts_between start m old.position in
-    let so_far = concat (in_order order texts) in
+    let so_far = concat (ordered_texts order texts) in
     let text = line_bytes new.position line in
-    let front : take size out ≡ before = ap (λ k. take k out) whole ∙ ap (take (length before)) told ∙ take-append_seam before so_far in
-    let back : drop size out ≡ so_far = ap (λ k. drop k out) whole ∙ ap (drop (length before)) told ∙ drop-append_seam before so_far in
+    let front : take size out ≡ before = ap (λ k. take k out) whole ∙ ap (take (length before)) reported ∙ take-append_seam before so_far in
+    let back : drop size out ≡ so_far = ap (λ k. drop k out) whole ∙ ap (drop (length before)) reported ∙ drop-append_seam before so_far in
     is ∙ ap (λ l. l ++ beside order (drop size out) (line_bytes n line)) front
     ∙ ap (λ l. before ++ beside order l (line_bytes n line)) back
     ∙ ap (λ k. before ++ beside order so_far (line_bytes k line)) count
-    ∙ ap (λ l. before ++ l) (sym (told_beside order texts text))
-    ∙ ap (λ ts. before ++ concat (in_order order ts)) (sym (text_next start m old new line from at next))
+    ∙ ap (λ l. before ++ l) (sym (reported_beside order texts text))
+    ∙ ap (λ ts. before ++ concat (ordered_texts order ts)) (sym (text_next start m old new line from at next))
 
 -- what was there is there still
-pub told_begins : (start : State) (order : Order) (m p : ℕ) (before out : List ℕ) → AreToldFrom start order m p before out → take (length before) out ≡ before
-told_begins start order m p before out told = ap (take (length before)) told ∙ take-append_seam before (concat (in_order order (texts_between start m p)))
+pub reported_begins : (start : State) (order : LineOrder) (m p : ℕ) (before out : List ℕ) → AreReportedFrom start order m p before out → take (length before) out ≡ before
+reported_begins start order m p before out reported = ap (take (length before)) reported ∙ take-append_seam before (concat (ordered_texts order (texts_between start m p)))
 
 -- and so it is by what is told at a run's end
-pub told_front : (start : State) (order : Order) (m p : ℕ) (before out : List ℕ) (is on : Bool) → IsTold start order m p before out false is on → take (length before) out ≡ before
-told_front start order m p before out is true told = told_begins start order m p before out told.0
-told_front start order m p before out is false told = told.0
+pub reported_front : (start : State) (order : LineOrder) (m p : ℕ) (before out : List ℕ) (is on : Bool) → AreLinesReported start order m p before out false is on → take (length before) out ≡ before
+reported_front start order m p before out is true reported = reported_begins start order m p before out reported.0
+reported_front start order m p before out is false reported = reported.0
 
 -- all is told where memory was not refused
-pub told_whole : (start : State) (order : Order) (m p : ℕ) (before out : List ℕ) (is on : Bool) → IsTold start order m p before out false is on → is ≡ false → (on ≡ true) × AreToldFrom start order m p before out
-told_whole start order m p before out is true told none = (refl, told.0)
-told_whole start order m p before out is false told none = absurd (true≢false (sym told.1 ∙ none))
+pub reported_whole : (start : State) (order : LineOrder) (m p : ℕ) (before out : List ℕ) (is on : Bool) → AreLinesReported start order m p before out false is on → is ≡ false → (on ≡ true) × AreReportedFrom start order m p before out
+reported_whole start order m p before out is true reported none = (refl, reported.0)
+reported_whole start order m p before out is false reported none = absurd (true≢false (sym reported.1 ∙ none))
 
 -- a place that stays within what is put from it on
 pub still_within : (out made more : List ℕ) (n : ℕ) → n ≤ length out → made ≡ take n out ++ more → n ≤ length made
@@ -124,8 +124,8 @@ pub between_parts : (start : State) (a b : ℕ) (at : Reached) → a ≤ b → b
 between_parts start a b at low high here =
     let parted = run_parts start at.state b (at.position - b) here.lines (ap (run start) {x = b + (at.position - b)} {y = at.position} (omega (arith, high)) ∙ here.comes) in
     let many : length parted.first ≡ b = run_length b start parted.between parted.first parted.begins in
-    let all : lines_of (run start at.position) ≡ parted.first ++ parted.rest = lines_to start at here ∙ parted.together in
-    let front : lines_of (run start b) ≡ parted.first = ap lines_of parted.begins in
+    let all : lines_of_steps (run start at.position) ≡ parted.first ++ parted.rest = lines_to start at here ∙ parted.together in
+    let front : lines_of_steps (run start b) ≡ parted.first = ap lines_of_steps parted.begins in
     let rest : lines_between start b at.position ≡ parted.rest = ap (drop b) all ∙ drop_at parted.first parted.rest b many in
     let both : lines_between start a at.position ≡ lines_between start a b ++ lines_between start b at.position =
     ap (drop a) all ∙ drop-append-le a parted.first parted.rest (omega (arith, low, many)) ∙ ap (λ ls. drop a ls ++ parted.rest) (sym front) ∙ ap (λ ls. lines_between start a b ++ ls) (sym rest) in
@@ -134,7 +134,7 @@ between_parts start a b at low high here =
     ap (texts_from (a + 1)) both ∙ texts_append (a + 1) (lines_between start a b) (lines_between start b at.position) ∙ ap (λ k. texts_between start a b ++ texts_from k (lines_between start b at.position)) number
 
 -- a text that is put behind what stands from a place on, or before it
-pub put_in_place : (order : Order) (out made turned text : List ℕ) (n end : ℕ) → n ≤ length out → end ≡ length out → made ≡ out ++ text
+pub put_in_place : (order : LineOrder) (out made turned text : List ℕ) (n end : ℕ) → n ≤ length out → end ≡ length out → made ≡ out ++ text
     → turned ≡ take n made ++ beside order (take (end - n) (drop n made)) (drop (end - n) (drop n made)) → turned ≡ take n out ++ beside order (drop n out) text
 put_in_place order out made turned text n end within last is turn =
     let front : take n made ≡ take n out = ap (take n) is ∙ take-append-le n out text within in

@@ -11,11 +11,11 @@ use Rattle.sim_time.specs.declared.key.Key.{Key}
 use Rattle.sim_time.specs.Keys.{key_cmp}
 use Rattle.node_core.specs.declared.event.Event.{Event}
 use Rattle.node_core.specs.declared.event.Event.TheVariants.{Start, Rto, DelAck, Free, Arrive}
-use Rattle.ranking.specs.Keyed.{IsInOrder}
-use Rattle.ranking.proofs.Maps.{is_less, both_of, untied, tied}
+use Rattle.tournament.specs.Keyed.{IsInOrder}
+use Rattle.tournament.proofs.Maps.{is_less, both_of, untied, tied}
 use Rattle.table_run.specs.State.{State}
 use Rattle.table_run.proofs.Lists.{all_map}
-use Rattle.debugger.specs.UnderWay.{ArrivesUnder, AreApart, AreUnderWay, one_more, after_sending, arriving_flow, all_counted}
+use Rattle.debugger.specs.UnderWay.{ArrivesUnder, KeysAreApart, AreUnderWay, one_more_packet, after_sending, arriving_flow, all_counted}
 use Rattle.debugger.proofs.UnderWay.{set_here}
 
 abbrev pub Entry : Type 0
@@ -50,7 +50,7 @@ module _ (s : State) where
   record Seen (flow count : ℕ) (rest : List Entry) : Type 0 where
     keys : List Key
     enough : count ≤ length keys
-    apart : AreApart keys
+    apart : KeysAreApart keys
     each : AllByRecursion (λ q. ArrivesUnder flow s q × AllByRecursion (λ (e : Entry). q ≢ e.0) rest) keys
 
   AllSeen : List ℕ → List Entry → Type 0
@@ -88,8 +88,8 @@ module _ (s : State) where
         by (Arrive x) its flow =
             ⊎_elim
             (λ (same : flow ≡ x.flow).
-            taken flow (get_or (one_more counts x.flow) flow 0) (get_or counts flow 0)
-            (subst (λ n. get_or (one_more counts x.flow) n 0 ≤ get_or counts n 0 + 1) (sym same) (upto x.flow))
+            taken flow (get_or (one_more_packet counts x.flow) flow 0) (get_or counts flow 0)
+            (subst (λ n. get_or (one_more_packet counts x.flow) n 0 ≤ get_or counts n 0 + 1) (sym same) (upto x.flow))
             (x, is_there ∙ ap Some its, eq-eqb x.flow flow (sym same)) (all flow))
             (λ (other : flow ≢ x.flow).
             subst (λ n. Seen flow n rest) (sym (get_or-set_other counts x.flow flow (min (get_or counts x.flow 0 + 1) 18446744073709551615) 0 other)) (passed_by flow (get_or counts flow 0) (all flow)))
@@ -98,7 +98,7 @@ module _ (s : State) where
             least : (a b : ℕ) → min a b ≤ a
             least a b = omega arith
 
-            upto : (own : ℕ) → get_or (one_more counts own) own 0 ≤ get_or counts own 0 + 1
+            upto : (own : ℕ) → get_or (one_more_packet counts own) own 0 ≤ get_or counts own 0 + 1
             upto own = let here = set_here counts own (min (get_or counts own 0 + 1) 18446744073709551615) in let most = least (get_or counts own 0 + 1) 18446744073709551615 in omega (arith, here, most)
 
   all_seen : (es : List Entry) → IsInOrder es → AllByRecursion IsThere es → (counts : List ℕ) → AllSeen counts es → AreUnderWay (all_counted counts es) s

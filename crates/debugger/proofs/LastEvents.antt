@@ -5,8 +5,8 @@ use Rattle.std.proofs.Math.Seq.{get_or-append_seam}
 use Rattle.std.specs.Option.{option_map}
 use Rattle.std.proofs.lemmas.List.{drop_more, length-take-le, take-append-drop, get_or-take}
 use Rattle.sim_time.specs.declared.key.Key.{Key}
-use Rattle.ranking.specs.Keyed.{least, next_key}
-use Rattle.ranking.proofs.Maps.{not_some, same_some}
+use Rattle.tournament.specs.Keyed.{least, next_key}
+use Rattle.tournament.proofs.Maps.{not_some, same_some}
 use Rattle.node_core.specs.declared.event.Event.{Event}
 use Rattle.node_core.specs.TraceLine.{TraceLine}
 use Rattle.table_run.specs.State.{State, below, due}
@@ -16,7 +16,7 @@ use Rattle.debugger.specs.Breaks.{Matches, IsHit, HitsFirst, IsFirstHit}
 use Rattle.net_machine.specs.Run.{Reached, Stepped}
 use Rattle.debugger.specs.declared.fault.MoveFault.{MoveFault}
 use Rattle.debugger.specs.declared.passed.LastEvent.{LastEvent}
-use Rattle.debugger.specs.LastEvents.{IsLastEvent, IsToldOf}
+use Rattle.debugger.specs.LastEvents.{IsLastEvent, IsReportedOf}
 use Rattle.debugger.specs.Moves.{Passes}
 
 module _ (breaks : List Break) (old : State) (line : TraceLine) (new : State) where
@@ -89,7 +89,7 @@ last_event start breaks old new line p (Ok event) at next here time first = reco
 last_event start breaks old new line p (Err fault) at next here time first = tt
 
 -- what is told of the event that a position is behind
-pub told_last : (start : State) (breaks : List Break) (m p position : ℕ) (told : Result LastEvent MoveFault) (on : Bool) → IsToldOf start breaks m p told on → m + 1 ≡ position → IfOk told (IsLastEvent start breaks position)
-told_last start breaks m p position (Err fault) on h is = tt
-told_last start breaks m p position (Ok event) true h is = absurd h.1
-told_last start breaks m p position (Ok event) false h is = subst (λ q. IsLastEvent start breaks q event) (h.0 ∙ is) h.1
+pub reported_last : (start : State) (breaks : List Break) (m p position : ℕ) (reported : Result LastEvent MoveFault) (on : Bool) → IsReportedOf start breaks m p reported on → m + 1 ≡ position → IfOk reported (IsLastEvent start breaks position)
+reported_last start breaks m p position (Err fault) on h is = tt
+reported_last start breaks m p position (Ok event) true h is = absurd h.1
+reported_last start breaks m p position (Ok event) false h is = subst (λ q. IsLastEvent start breaks q event) (h.0 ∙ is) h.1

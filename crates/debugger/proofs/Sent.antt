@@ -13,17 +13,17 @@ use Rattle.port.proofs.StepLaws.{packets_in, taken_sends, one_sends, one_departs
 use Rattle.reno_sender.specs.declared.fields.SenderFields.{SenderFields}
 use Rattle.reno_sender.specs.Sending.{Planned}
 use Rattle.reno_sender.specs.Table.{started, acknowledged, timed_out}
-use Rattle.reno_receiver.specs.Received.{ReceiverState, Answered, data_came, alarm_came}
-use Rattle.node_core.specs.declared.alarm.Alarm.TheVariants.{Retransmission, DelayedAcknowledgement}
-use Rattle.node_core.specs.Alarms.{alarm_key}
+use Rattle.reno_receiver.specs.Received.{ReceiverState, Answered, data_came, timer_came}
+use Rattle.node_core.specs.declared.timer.Timer.TheVariants.{Retransmission, DelayedAcknowledgement}
+use Rattle.node_core.specs.Timers.{timer_key}
 use Rattle.node_core.specs.declared.event.Event.{Event}
 use Rattle.node_core.specs.declared.event.Event.TheVariants.{Start, Rto, DelAck, Free, Arrive}
 use Rattle.node_core.specs.declared.role.Role.{Role}
 use Rattle.node_core.specs.declared.role.Role.TheVariants.{Sends, Receives, Routes}
 use Rattle.node_core.specs.Part.{PartState, link_at}
-use Rattle.node_core.specs.Pending.{Change}
+use Rattle.node_core.specs.Pending.{EventChange}
 use Rattle.node_core.specs.RouteTable.{exit_for}
-use Rattle.node_core.specs.Row.{Effect, Leaving, leaving_over, with_step, quiet, timer_moved, data_packet, ack_of, sender_row, receiver_row, row, start_row, rto_row, delack_row, arrival_row, at_sender, at_receiver, passed_on}
+use Rattle.node_core.specs.Row.{Effect, Leaving, leaving_over, with_step, quiet, rto_timer_moved, data_packet, ack_of, sender_row, receiver_row, row, start_row, rto_row, delack_row, arrival_row, at_sender, at_receiver, passed_on}
 use Rattle.node_core.specs.TraceLine.{TraceLine}
 use Rattle.table_run.specs.State.{State, part_at, effect_of}
 use Rattle.table_run.proofs.Runs.{of_step}
@@ -62,8 +62,8 @@ abbrev LeavesWhereSent : ℕ → Effect → Type 0
 LeavesWhereSent flow effect = list_any (is_sent_of flow) effect.acts ≡ true → Leaves flow effect
 
 module _ (flow : ℕ) (part : PartState) (key : Key) where
-  at_step : (role : Role) (timers : List Change) (i : ℕ) (step : PortStep) → Telling step → LeavesWhereSent flow (with_step part role timers i step)
-  at_step role timers i step tells e = over step.departure (departs flow step tells e)
+  at_step : (role : Role) (rto_timers : List EventChange) (i : ℕ) (step : PortStep) → Telling step → LeavesWhereSent flow (with_step part role rto_timers i step)
+  at_step role rto_timers i step tells e = over step.departure (departs flow step tells e)
     where
       over : (o : Option Departure) → Departs flow o → (l : Leaving) × (leaving_over i o ≡ Some l) × ((l.departure.packet.flow == flow) ≡ true)
       over o (d, is, its) = (record { index = i; departure = d }, ap (leaving_over i) is, its)
@@ -71,16 +71,16 @@ module _ (flow : ℕ) (part : PartState) (key : Key) where
   none : LeavesWhereSent flow (quiet part)
   none e = absurd (true≢false (sym e))
 
-  offers : (role : Role) (timers : List Change) (packets : List Packet) → LeavesWhereSent flow (with_step part role timers 0 (offered_all key.time (link_at part.links 0).port packets))
-  offers role timers packets = at_step role timers 0 (offered_all key.time (link_at part.links 0).port packets) (one_departs_at_most key.time (link_at part.links 0).port packets)
+  offers : (role : Role) (rto_timers : List EventChange) (packets : List Packet) → LeavesWhereSent flow (with_step part role rto_timers 0 (offered_all key.time (link_at part.links 0).port packets))
+  offers role rto_timers packets = at_step role rto_timers 0 (offered_all key.time (link_at part.links 0).port packets) (one_departs_at_most key.time (link_at part.links 0).port packets)
 
   sender : (n : ℕ) (old : SenderFields) (planned : Planned) → LeavesWhereSent flow (sender_row part key n old planned)
   sender n old planned =
-      offers (Sends n planned.fields) (timer_moved (alarm_key key.node Retransmission) (Rto n) old.deadline planned.fields.deadline) (each (data_packet n planned.fields.mss) planned.sent)
+      offers (Sends n planned.fields) (rto_timer_moved (timer_key key.node Retransmission) (Rto n) old.deadline planned.fields.deadline) (each (data_packet n planned.fields.mss) planned.sent)
 
   receiver : (n : ℕ) (old : ReceiverState) (answered : Answered) → LeavesWhereSent flow (receiver_row part key n old answered)
   receiver n old answered =
-      offers (Receives n answered.state) (timer_moved (alarm_key key.node DelayedAcknowledgement) (DelAck n) old.alarm answered.state.alarm) (ack_of n answered.reply)
+      offers (Receives n answered.state) (rto_timer_moved (timer_key key.node DelayedAcknowledgement) (DelAck n) old.timer answered.state.timer) (ack_of n answered.reply)
 
   starts : (ρ : Role) → LeavesWhereSent flow (start_row part ρ key)
   starts (Sends n f) = sender n f (started f key.time)
@@ -94,7 +94,7 @@ module _ (flow : ℕ) (part : PartState) (key : Key) where
 
   answers : (ρ : Role) → LeavesWhereSent flow (delack_row part ρ key)
   answers (Sends n f) = none
-  answers (Receives n b) = receiver n b (alarm_came b)
+  answers (Receives n b) = receiver n b (timer_came b)
   answers (Routes table) = none
 
   to_sender : (x : Packet) (n : ℕ) (f : SenderFields) (c : Kind) → LeavesWhereSent flow (at_sender part key n f c x.number)

@@ -8,7 +8,7 @@ use Rattle.std.specs.List.{All, Contains, remove}
 use Rattle.table_run.specs.State.{State}
 use Rattle.net_machine.specs.Run.{Reached}
 use Rattle.debugger.specs.Moves.{Passes}
-use Rattle.debugger.specs.DebuggerOf.{IsSaved}
+use Rattle.debugger.specs.DebuggerOf.{AreCheckpoints}
 
 -- what holds of each holds of each but one
 pub all_but_one : {A : Type 0} (P : A → Type 0) (xs : List A) (i : ℕ) → i < length xs → All P xs → All P (remove xs i)
@@ -46,12 +46,12 @@ all_put P xs x true all one = All-append P xs (x ∷ []) all only
     only (suc k) d under = absurd (omega (arith, under))
 
 -- states are saved of a run from this start
-pub record Held (start : State) (opening : Reached) (later : List Reached) : Type 0 where
-  pub saved : IsSaved opening later
-  pub begins : opening.state ≡ start
+pub record Held (start : State) (initial : Reached) (later : List Reached) : Type 0 where
+  pub checkpoints : AreCheckpoints initial later
+  pub begins : initial.state ≡ start
 
 -- and still are with a copy of a state of the run put to them, or not
-pub with_copy : (start : State) (opening copy net : Reached) (later new : List Reached) (put : Bool) → Held start opening later → copy ≡ net → Passes start net → new ≡ cond put (later ++ copy ∷ []) later → IsSaved opening new
-with_copy start opening copy net later new put held same here is =
+pub with_copy : (start : State) (initial copy net : Reached) (later new : List Reached) (put : Bool) → Held start initial later → copy ≡ net → Passes start net → new ≡ cond put (later ++ copy ∷ []) later → AreCheckpoints initial new
+with_copy start initial copy net later new put held same here is =
     let one = subst (λ (s : State). Passes s copy) (sym held.begins) (subst (Passes start) (sym same) here) in
-    record { at_start = held.saved.at_start; on_run = subst (λ (xs : List Reached). All (Passes opening.state) xs) (sym is) (all_put (Passes opening.state) later copy put held.saved.on_run one) }
+    record { at_start = held.checkpoints.at_start; on_run = subst (λ (xs : List Reached). All (Passes initial.state) xs) (sym is) (all_put (Passes initial.state) later copy put held.checkpoints.on_run one) }

@@ -17,8 +17,8 @@ use Rattle.node_core.specs.declared.event.Event.TheVariants.{Start, Rto, DelAck,
 use Rattle.node_core.specs.Pending.{Events}
 use Rattle.node_core.specs.Row.{Effect, Leaving, home_changes, sent_away, arrives}
 use Rattle.node_core.specs.TraceLine.{TraceLine}
-use Rattle.ranking.specs.Keyed.{apply}
-use Rattle.ranking.proofs.Maps.{not_some, same_some, is_equal, tied, get_here}
+use Rattle.tournament.specs.Keyed.{apply}
+use Rattle.tournament.proofs.Maps.{not_some, same_some, is_equal, tied, get_here}
 use Rattle.table_run.specs.State.{State, part_at, effect_of, stepped}
 use Rattle.table_run.proofs.Changes.{apply-append}
 use Rattle.table_run.proofs.Due.{is_due}
@@ -29,7 +29,7 @@ use Rattle.net_machine.specs.Run.{Reached, IsRun, Stepped}
 use Rattle.flow_waits.specs.Stalled.{is_arrival_of, is_stalled}
 use Rattle.flow_waits.proofs.Found.{arrival_on, moving}
 use Rattle.debugger.specs.Breaks.{is_sent_of}
-use Rattle.debugger.specs.UnderWay.{ArrivesUnder, AreApart, HasUnderWay, AreUnderWay, one_less, one_more, after_event, sent_flow, after_sending, counted, is_known}
+use Rattle.debugger.specs.UnderWay.{ArrivesUnder, KeysAreApart, HasUnderWay, AreUnderWay, one_less, one_more_packet, after_event, sent_flow, after_sending, counts_after, is_known}
 use Rattle.debugger.proofs.Sent.{row_leaves}
 
 -- a key is another or the same
@@ -48,10 +48,10 @@ pair_up P Q (q ∷ qs) a b = ((a.0, b.0), pair_up P Q qs a.1 b.1)
 record Without (P : Key → Type 0) (k : Key) (qs : List Key) : Type 0 where
   keys : List Key
   enough : length qs ≤ length keys + 1
-  apart : AreApart keys
+  apart : KeysAreApart keys
   each : AllByRecursion (λ r. P r × (r ≢ k)) keys
 
-without : (P : Key → Type 0) (k : Key) (qs : List Key) → AreApart qs → AllByRecursion P qs → Without P k qs
+without : (P : Key → Type 0) (k : Key) (qs : List Key) → KeysAreApart qs → AllByRecursion P qs → Without P k qs
 without P k [] a e = record { keys = []; enough = omega arith; apart = tt; each = tt }
 without P k (q ∷ qs) a e =
     ⊎_elim
@@ -151,7 +151,7 @@ module _ (before after : Reached) (line : TraceLine) (is : IsRun before) (steppe
   record Remain (flow count : ℕ) : Type 0 where
     keys : List Key
     enough : count ≤ length keys
-    apart : AreApart keys
+    apart : KeysAreApart keys
     each : AllByRecursion (λ q. ArrivesUnder flow s q × (q ≢ line.key)) keys
 
   on : (flow : ℕ) (q : Key) → ArrivesUnder flow s q × (q ≢ line.key) → ArrivesUnder flow t q
@@ -221,23 +221,23 @@ module _ (before after : Reached) (line : TraceLine) (is : IsRun before) (steppe
   after_sent counts all (Some own) sent flow =
       ⊎_elim
       (λ (same : flow ≡ own).
-      fewer flow (get_or (one_more counts own) flow 0) (get_or counts flow 0 + 1) t
-      (subst (λ n. get_or (one_more counts own) n 0 ≤ get_or counts n 0 + 1) (sym same) (upto own))
+      fewer flow (get_or (one_more_packet counts own) flow 0) (get_or counts flow 0 + 1) t
+      (subst (λ n. get_or (one_more_packet counts own) n 0 ≤ get_or counts n 0 + 1) (sym same) (upto own))
       (one_begins flow (get_or counts flow 0) (all flow) (begins flow (sent ∙ ap Some (sym same)))))
       (λ (other : flow ≢ own).
       subst (λ n. HasUnderWay flow n t) (sym (get_or-set_other counts own flow (min (get_or counts own 0 + 1) 18446744073709551615) 0 other)) (remained flow (get_or counts flow 0) (all flow)))
       (cases_eq flow own)
     where
-      upto : (own : ℕ) → get_or (one_more counts own) own 0 ≤ get_or counts own 0 + 1
+      upto : (own : ℕ) → get_or (one_more_packet counts own) own 0 ≤ get_or counts own 0 + 1
       upto own = let here = set_here counts own (min (get_or counts own 0 + 1) 18446744073709551615) in let most = least (get_or counts own 0 + 1) 18446744073709551615 in omega (arith, here, most)
         where
           least : (a b : ℕ) → min a b ≤ a
           least a b = omega arith
 
   -- what is counted is under way after each line
-  pub counted_on : (counts : List ℕ) → AreUnderWay counts s → AreUnderWay (counted counts line) t
+  pub counted_on : (counts : List ℕ) → AreUnderWay counts s → AreUnderWay (counts_after counts line) t
   counted_on counts all = after_sent (after_event counts line.event) (after_arrival counts all) (sent_flow line.acts) refl
 
 -- the same of what the code has counted
-pub counted_next : (old new : Reached) (line : TraceLine) (counts more : List ℕ) → IsRun old → Stepped old (Some line) new → AreUnderWay counts old.state → more ≡ counted counts line → AreUnderWay more new.state
+pub counted_next : (old new : Reached) (line : TraceLine) (counts more : List ℕ) → IsRun old → Stepped old (Some line) new → AreUnderWay counts old.state → more ≡ counts_after counts line → AreUnderWay more new.state
 counted_next old new line counts more run next all is = subst (λ (xs : List ℕ). AreUnderWay xs new.state) (sym is) (counted_on old new line run next counts all)

@@ -5,16 +5,16 @@ use borrow.Author.Tests.{ltb-false}
 use Rattle.std.specs.Option.{option_map, option_and_then}
 use Rattle.std.proofs.lemmas.Bool.{cases_lt}
 use Rattle.sim_time.specs.declared.key.Key.{Key}
-use Rattle.ranking.specs.Keyed.{least}
-use Rattle.ranking.proofs.Maps.{not_some, same_some, none_least}
+use Rattle.tournament.specs.Keyed.{least}
+use Rattle.tournament.proofs.Maps.{not_some, same_some, none_least}
 use Rattle.node_core.specs.declared.event.Event.{Event}
 use Rattle.node_core.specs.TraceLine.{TraceLine}
-use Rattle.table_run.specs.State.{State, below, due, step_at, step, one_more, run}
+use Rattle.table_run.specs.State.{State, below, due, step_at, step, one_step_more, run}
 use Rattle.table_run.specs.Sound.{EachEvent}
 use Rattle.table_run.proofs.Runs.{of_step, of_run, run_parts}
 use Rattle.table_run.proofs.Due.{least_time, is_due}
 use Rattle.net_machine.specs.Run.{Reached, Stepped}
-use Rattle.debugger.specs.Moves.{Passes, HasPosition, EndsAt, GivesAt, StopsBy, NoneBefore, StepGoesTo, RunsTo, UntilGoesTo, IsTooLong}
+use Rattle.debugger.specs.Moves.{Passes, HasPosition, EndsAt, GivesAt, StopsBy, NonePendingBefore, StepGoesTo, RunsTo, UntilGoesTo, IsTooLong}
 
 -- a run begins at its first state
 pub passes_start : (start : State) → Passes start (record { state = start; position = 0 })
@@ -25,7 +25,7 @@ pub passes_next : (start : State) (old new : Reached) (line : TraceLine) → Pas
 passes_next start old new line at next = record {
   lines = at.lines ++ line ∷ [];
   comes = subst (λ n. run start n ≡ Some (at.lines ++ line ∷ [], new.state)) {x = suc old.position} {y = new.position} (omega (arith, next.1))
-      (ap (option_and_then one_more) at.comes ∙ ap (option_map {U = List TraceLine × State} (λ (next : TraceLine × State). (at.lines ++ next.0 ∷ [], next.1))) next.0);
+      (ap (option_and_then one_step_more) at.comes ∙ ap (option_map {U = List TraceLine × State} (λ (next : TraceLine × State). (at.lines ++ next.0 ∷ [], next.1))) next.0);
 }
 
 -- a run has one state at each position
@@ -136,7 +136,7 @@ NothingBefore time s = EachEvent (λ (k : Key) (v : Event). k.time < time → s.
 
 -- at each position from one on up to another, something before a time is pending below the end
 abbrev pub SomeBefore : State → ℕ → ℕ → ℕ → Type 0
-SomeBefore start time m p = (q : ℕ) → m ≤ q → q < p → NoneBefore start time q → ⊥
+SomeBefore start time m p = (q : ℕ) → m ≤ q → q < p → NonePendingBefore start time q → ⊥
 
 pub some_before_yet : (start : State) (time m : ℕ) → SomeBefore start time m m
 some_before_yet start time m q from under none = absurd (omega (arith, from, under))

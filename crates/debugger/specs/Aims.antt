@@ -7,8 +7,8 @@ use Rattle.debugger.specs.declared.aim.Aim.{Aim}
 use Rattle.debugger.specs.declared.aim.Aim.TheVariants.{Hit, Moment}
 use Rattle.debugger.specs.declared.breaks.Break.{Break}
 use Rattle.debugger.specs.Breaks.{IsLineHit}
-use Rattle.debugger.specs.declared.course.Course.{Course}
-use Rattle.debugger.specs.Courses.{IsOnWay, IsFirst, HasNone}
+use Rattle.debugger.specs.declared.course.WindowedNet.{WindowedNet}
+use Rattle.debugger.specs.Courses.{IsOnWindows, IsFirstIndex, HasNone}
 use Rattle.debugger.specs.Moves.{Passes, HasPosition, RunsTo, UntilGoesTo}
 
 -- the line meets the conditions of a breakpoint; or it is at a moment, or past it
@@ -24,7 +24,7 @@ end_at (Moment time) batch index = batch.first + index - 1
 -- the move ends at the first line of a window that is looked for, or goes on
 abbrev pub EndsIn : Aim → BatchValue → Option ℕ → Type 0
 EndsIn aim batch None = HasNone (IsMet aim) batch
-EndsIn aim batch (Some p) = (index : ℕ) × IsFirst (IsMet aim) batch index × (p ≡ end_at aim batch index)
+EndsIn aim batch (Some p) = (index : ℕ) × IsFirstIndex (IsMet aim) batch index × (p ≡ end_at aim batch index)
 
 -- the same, with the states before and after the line, which do not matter
 abbrev pub LineHit : List Break → State → TraceLine → State → Type 0
@@ -36,6 +36,6 @@ GoesTo start (Hit breaks) m = RunsTo (LineHit breaks.now) start m
 GoesTo start (Moment time) m = UntilGoesTo start time m
 
 -- a move from m ends in the last window of a course, at a position that its net behind is not past; or with the run, where the course stands
-abbrev pub IsSought : State → Aim → ℕ → Course → Option ℕ → Type 0
-IsSought start aim m c (Some p) = IsOnWay start p c × (HasPosition start p × GoesTo start aim m p)
+abbrev pub IsSought : State → Aim → ℕ → WindowedNet → Option ℕ → Type 0
+IsSought start aim m c (Some p) = IsOnWindows start p c × (HasPosition start p × GoesTo start aim m p)
 IsSought start aim m c None = (c.engine.failed ≡ false) × (Passes start c.engine.net × GoesTo start aim m c.engine.net.position)

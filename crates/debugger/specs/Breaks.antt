@@ -44,12 +44,12 @@ is_drop (Tx link packet) = false
 is_drop (Dropped link reason packet) = true
 
 -- the link of an act: that which sends the packet, or drops it
-abbrev pub link_of : Act → ℕ
-link_of (Tx link packet) = link
-link_of (Dropped link reason packet) = link
+abbrev pub link_of_act : Act → ℕ
+link_of_act (Tx link packet) = link
+link_of_act (Dropped link reason packet) = link
 
 abbrev pub is_at_link : ℕ → Act → Bool
-is_at_link link act = link_of act == link
+is_at_link link act = link_of_act act == link
 
 -- a packet of a flow begins to be sent
 abbrev pub is_sent_of : ℕ → Act → Bool
@@ -65,9 +65,9 @@ sends_own (Free link) acts = false
 sends_own (Arrive packet) acts = list_any (is_sent_of packet.flow) acts
 
 -- a packet that carries this is dropped: the first byte of a segment, or the number of an acknowledgement
-abbrev pub is_drop_of : ℕ → Act → Bool
-is_drop_of number (Tx link packet) = false
-is_drop_of number (Dropped link reason packet) = packet.number == number
+abbrev pub is_drop_of_byte : ℕ → Act → Bool
+is_drop_of_byte number (Tx link packet) = false
+is_drop_of_byte number (Dropped link reason packet) = packet.number == number
 
 -- what an arriving packet carries, in the same way
 abbrev pub byte_of : Event → Option ℕ
@@ -79,7 +79,7 @@ byte_of (Arrive packet) = Some packet.number
 
 -- a line is of a byte: a packet that carries it is dropped, at whatever link, where drops are asked for, and else such a packet arrives
 abbrev pub IsOfByte : Bool → ℕ → TraceLine → Type 0
-IsOfByte true byte line = IsTrue (list_any (is_drop_of byte) line.acts)
+IsOfByte true byte line = IsTrue (list_any (is_drop_of_byte byte) line.acts)
 IsOfByte false byte line = byte_of line.event ≡ Some byte
 
 -- the breakpoint that every line matches

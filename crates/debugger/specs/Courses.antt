@@ -6,11 +6,11 @@ use Rattle.net_machine.specs.Run.{Reached}
 use Rattle.window_core.specs.Batches.{BatchValue}
 use Rattle.window_core.specs.Merged.{line_in}
 use Rattle.window_engine.specs.Engines.{GoesOn}
-use Rattle.debugger.specs.declared.course.Course.{Course}
+use Rattle.debugger.specs.declared.course.WindowedNet.{WindowedNet}
 use Rattle.debugger.specs.Moves.{Passes}
 
 -- the windows had no fault; their net is one of the run, and so is the net behind, which isn't past a position
-pub record IsOnWay (start : State) (most : ℕ) (c : Course) : Type 0 where
+pub record IsOnWindows (start : State) (most : ℕ) (c : WindowedNet) : Type 0 where
   pub running : c.engine.failed ≡ false
   pub ahead : Passes start c.engine.net
   pub behind : Passes start c.behind
@@ -22,7 +22,7 @@ WentOn old None new = (due old.state ≡ None) × (new ≡ old)
 WentOn old (Some batch) new = GoesOn old batch new
 
 -- the index of the first line of which P holds
-pub record IsFirst (P : TraceLine → Type 0) (batch : BatchValue) (index : ℕ) : Type 0 where
+pub record IsFirstIndex (P : TraceLine → Type 0) (batch : BatchValue) (index : ℕ) : Type 0 where
   pub within : index < length batch.lines
   pub holds : P (line_in batch.lines index)
   pub before : (j : ℕ) → j < index → P (line_in batch.lines j) → ⊥
@@ -34,4 +34,4 @@ HasNone P batch = (j : ℕ) → j < length batch.lines → P (line_in batch.line
 -- the first line of which P holds, where there is one
 abbrev pub Finds : (TraceLine → Type 0) → BatchValue → Option ℕ → Type 0
 Finds P batch None = HasNone P batch
-Finds P batch (Some index) = IsFirst P batch index
+Finds P batch (Some index) = IsFirstIndex P batch index

@@ -16,8 +16,8 @@ pub record Debugging : Type 0 where
   pub breaks : List Break
 
 -- no move made yet, and no breakpoint set
-abbrev pub opened : State → Debugging
-opened start = record { start = start; shown = record { state = start; position = 0 }; left = None; breaks = [] }
+abbrev pub debugging_opened : State → Debugging
+debugging_opened start = record { start = start; shown = record { state = start; position = 0 }; left = None; breaks = [] }
 
 -- another state of the same run is shown; the one shown before can be gone back to, and the breakpoints stay
 pub record HasMoved (old new : Debugging) (p : ℕ) : Type 0 where

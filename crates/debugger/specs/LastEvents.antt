@@ -16,6 +16,6 @@ pub record IsLastEvent (start : State) (breaks : List Break) (p : ℕ) (event : 
   pub first : IsFirstHit breaks given.before.state line given.after event.hit
 
 -- no event was run, and nothing is told; or one was, and it is told of, where there was memory
-abbrev pub IsToldOf : State → List Break → ℕ → ℕ → Result LastEvent MoveFault → Bool → Type 0
-IsToldOf start breaks m p told true = (p ≡ m) × IfOk told (λ _. ⊥)
-IsToldOf start breaks m p told false = (p ≡ m + 1) × IfOk told (IsLastEvent start breaks p)
+abbrev pub IsReportedOf : State → List Break → ℕ → ℕ → Result LastEvent MoveFault → Bool → Type 0
+IsReportedOf start breaks m p reported true = (p ≡ m) × IfOk reported (λ _. ⊥)
+IsReportedOf start breaks m p reported false = (p ≡ m + 1) × IfOk reported (IsLastEvent start breaks p)

@@ -1,4 +1,4 @@
--- Where each move of the debugger goes, over the run from an opening state.
+-- Where each move of the debugger goes, over the run from an initial state.
 use Rattle.std.specs.Prelude.{◌≡◌, ◌≢◌, ◌<◌, ◌≤◌, ◌+◌, ◌⊎◌, ℕ, List, None, Some}
 use Rattle.sim_time.specs.declared.key.Key.{Key}
 use Rattle.node_core.specs.declared.event.Event.{Event}
@@ -43,7 +43,7 @@ abbrev pub StopsAt : State → List Break → ℕ → Type 0
 StopsAt start breaks = StopsBy (IsHit breaks) start
 
 -- at a position no event is pending below a time and below the end
-pub record NoneBefore (start : State) (time : ℕ) (p : ℕ) : Type 0 where
+pub record NonePendingBefore (start : State) (time : ℕ) (p : ℕ) : Type 0 where
   pub state : State
   pub passes : Passes start (record { state = state; position = p })
   pub none : EachEvent (λ (k : Key) (v : Event). k.time < time → state.end ≤ k.time) state.pending
@@ -67,7 +67,7 @@ RunGoesTo start breaks = RunsTo (IsHit breaks) start
 
 -- `until` a time from m: to the least position from m on at which no event before it is pending below the end
 abbrev pub UntilGoesTo : State → ℕ → ℕ → ℕ → Type 0
-UntilGoesTo start time m = IsLeast (λ p. (m ≤ p) × NoneBefore start time p)
+UntilGoesTo start time m = IsLeast (λ p. (m ≤ p) × NonePendingBefore start time p)
 
 -- the greatest number with a property
 pub record IsGreatest (P : ℕ → Type 0) (p : ℕ) : Type 0 where

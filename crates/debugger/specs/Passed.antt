@@ -4,18 +4,18 @@ use Rattle.std.specs.List.{concat}
 use Rattle.node_core.specs.TraceLine.{TraceLine}
 use Rattle.table_run.specs.State.{State, run}
 use Rattle.trace_text.specs.Line.{line_bytes}
-use Rattle.debugger.specs.declared.passed.Order.{Order}
-use Rattle.debugger.specs.declared.passed.Order.TheVariants.{Rising, Falling}
+use Rattle.debugger.specs.declared.passed.LineOrder.{LineOrder}
+use Rattle.debugger.specs.declared.passed.LineOrder.TheVariants.{Rising, Falling}
 use Rattle.debugger.specs.declared.passed.Stretch.{Stretch}
 
 -- the lines of so many steps, where there are so many
-abbrev pub lines_of : Option (List TraceLine × State) → List TraceLine
-lines_of None = []
-lines_of (Some ran) = ran.0
+abbrev pub lines_of_steps : Option (List TraceLine × State) → List TraceLine
+lines_of_steps None = []
+lines_of_steps (Some ran) = ran.0
 
 -- the lines of the steps from one position of the run to another
 abbrev pub lines_between : State → ℕ → ℕ → List TraceLine
-lines_between start m p = drop m (lines_of (run start p))
+lines_between start m p = drop m (lines_of_steps (run start p))
 
 -- the texts of lines that follow each other, from the number of the first on
 abbrev pub texts_from : ℕ → List TraceLine → List (List ℕ)
@@ -26,24 +26,24 @@ texts_from n (line ∷ lines) = line_bytes n line ∷ texts_from (n + 1) lines
 abbrev pub texts_between : State → ℕ → ℕ → List (List ℕ)
 texts_between start m p = texts_from (m + 1) (lines_between start m p)
 
-abbrev pub in_order : Order → List (List ℕ) → List (List ℕ)
-in_order Rising texts = texts
-in_order Falling texts = reverse texts
+abbrev pub ordered_texts : LineOrder → List (List ℕ) → List (List ℕ)
+ordered_texts Rising texts = texts
+ordered_texts Falling texts = reverse texts
 
 -- what is told of a stretch of the run
 abbrev pub stretch_texts : State → Stretch → List (List ℕ)
-stretch_texts start s = in_order s.order (texts_between start s.from (s.from + s.count))
+stretch_texts start s = ordered_texts s.order (texts_between start s.from (s.from + s.count))
 
 -- a text behind what was told so far, or before it
-abbrev pub beside : Order → List ℕ → List ℕ → List ℕ
+abbrev pub beside : LineOrder → List ℕ → List ℕ → List ℕ
 beside Rising so_far text = so_far ++ text
 beside Falling so_far text = text ++ so_far
 
 -- what was told so far of the lines from a position on
-abbrev pub AreToldFrom : State → Order → ℕ → ℕ → List ℕ → List ℕ → Type 0
-AreToldFrom start order m p before out = out ≡ before ++ concat (in_order order (texts_between start m p))
+abbrev pub AreReportedFrom : State → LineOrder → ℕ → ℕ → List ℕ → List ℕ → Type 0
+AreReportedFrom start order m p before out = out ≡ before ++ concat (ordered_texts order (texts_between start m p))
 
 -- all lines so far are told, or memory was refused, and what was there is there still
-abbrev pub IsTold : State → Order → ℕ → ℕ → List ℕ → List ℕ → Bool → Bool → Bool → Type 0
-IsTold start order m p before out was is true = AreToldFrom start order m p before out × (is ≡ was)
-IsTold start order m p before out was is false = (take (length before) out ≡ before) × (is ≡ true)
+abbrev pub AreLinesReported : State → LineOrder → ℕ → ℕ → List ℕ → List ℕ → Bool → Bool → Bool → Type 0
+AreLinesReported start order m p before out was is true = AreReportedFrom start order m p before out × (is ≡ was)
+AreLinesReported start order m p before out was is false = (take (length before) out ≡ before) × (is ≡ true)

@@ -19,15 +19,15 @@ abbrev pub ArrivesUnder : ℕ → State → Key → Type 0
 ArrivesUnder flow s q = (x : Packet) × (map.get s.pending q ≡ Some (Arrive x)) × ((x.flow == flow) ≡ true)
 
 -- no key is there twice
-abbrev pub AreApart : List Key → Type 0
-AreApart [] = ⊤
-AreApart (q ∷ qs) = AllByRecursion (λ r. q ≢ r) qs × AreApart qs
+abbrev pub KeysAreApart : List Key → Type 0
+KeysAreApart [] = ⊤
+KeysAreApart (q ∷ qs) = AllByRecursion (λ r. q ≢ r) qs × KeysAreApart qs
 
 -- so many packets of a flow at least are under way
 pub record HasUnderWay (flow count : ℕ) (s : State) : Type 0 where
   pub keys : List Key
   pub enough : count ≤ length keys
-  pub apart : AreApart keys
+  pub apart : KeysAreApart keys
   pub each : AllByRecursion (ArrivesUnder flow s) keys
 
 -- of each flow as many are under way as are counted, or more
@@ -39,8 +39,8 @@ abbrev pub one_less : List ℕ → ℕ → List ℕ
 one_less counts flow = slice_set counts flow (slice_index_or counts flow 0 - 1)
 
 -- one more, up to what a word holds
-abbrev pub one_more : List ℕ → ℕ → List ℕ
-one_more counts flow = slice_set counts flow (min (slice_index_or counts flow 0 + 1) 18446744073709551615)
+abbrev pub one_more_packet : List ℕ → ℕ → List ℕ
+one_more_packet counts flow = slice_set counts flow (min (slice_index_or counts flow 0 + 1) 18446744073709551615)
 
 -- a packet that arrives is no more under way
 abbrev pub after_event : List ℕ → Event → List ℕ
@@ -59,11 +59,11 @@ sent_flow (Dropped link reason packet ∷ acts) = sent_flow acts
 -- it is under way
 abbrev pub after_sending : List ℕ → Option ℕ → List ℕ
 after_sending counts None = counts
-after_sending counts (Some flow) = one_more counts flow
+after_sending counts (Some flow) = one_more_packet counts flow
 
 -- what is counted after a line
-abbrev pub counted : List ℕ → TraceLine → List ℕ
-counted counts line = after_sending (after_event counts line.event) (sent_flow line.acts)
+abbrev pub counts_after : List ℕ → TraceLine → List ℕ
+counts_after counts line = after_sending (after_event counts line.event) (sent_flow line.acts)
 
 -- a packet of a flow is known to be under way
 abbrev pub is_known : List ℕ → ℕ → Bool

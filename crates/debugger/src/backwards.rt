@@ -4,9 +4,9 @@ ghost use Rattle.debugger.specs.Backwards.{FindsLast, IsSearched};
 ghost use Rattle.debugger.specs.Moves.{Passes, HasPosition, ReverseGoesTo, IsTooLong};
 
 use crate::breaks::Breaks;
+use crate::checkpoints::Checkpoints;
 use crate::fault::MoveFault;
 use crate::reached::net_at;
-use crate::saved::Saved;
 use crate::to_stop::Stops;
 use crate::under_way::counts_of;
 use crate::walk::reach_watched;
@@ -28,16 +28,16 @@ fn last_stop(
     net: &mut Net,
     upto: u64,
     breaks: &Breaks,
-    saved: &mut Saved,
+    checkpoints: &mut Checkpoints,
     line: &mut Line,
 ) -> Result<Option<u64>, MoveFault>
-    requires on_run { Passes saved.old net.old }
+    requires on_run { Passes checkpoints.old net.old }
     requires below { net.old.position ≤ upto }
-    requires position { HasPosition saved.old upto }
-    ensures ok { IfOk result (λ found. FindsLast saved.old breaks.now net.old.position upto found) }
-    ensures full { IfErr result (λ fault. fault ≡ MoveFault.CountFull → IsTooLong saved.old) }
+    requires position { HasPosition checkpoints.old upto }
+    ensures ok { IfOk result (λ found. FindsLast checkpoints.old breaks.now net.old.position upto found) }
+    ensures full { IfErr result (λ fault. fault ≡ MoveFault.CountFull → IsTooLong checkpoints.old) }
     ensures no_worker { IfErr result (λ fault. fault ≢ MoveFault.NoWorker) }
-    ensures same { saved.new ≡ saved.old }
+    ensures same { checkpoints.new ≡ checkpoints.old }
 {
     let _count = net.position();
     let mut stops = Stops {
@@ -47,7 +47,7 @@ fn last_stop(
         found: None,
         refused: false,
     };
-    match reach_watched(net, upto, saved, &mut stops, line) {
+    match reach_watched(net, upto, checkpoints, &mut stops, line) {
         Ok(_) if stops.refused => Err(MoveFault::NoMemory),
         Ok(_) => Ok(stops.found),
         Err(fault) => Err(fault.into()),
@@ -60,22 +60,22 @@ fn search_before(
     present: &Net,
     upto: u64,
     breaks: &Breaks,
-    saved: &mut Saved,
+    checkpoints: &mut Checkpoints,
     line: &mut Line,
 ) -> Result<Searched, MoveFault>
-    requires on_run { Passes saved.old present.now }
+    requires on_run { Passes checkpoints.old present.now }
     requires some { 0 < upto }
-    requires position { HasPosition saved.old upto }
-    ensures ok { IfOk result (λ s. IsSearched saved.old breaks.now s.from upto s.found) }
-    ensures full { IfErr result (λ fault. fault ≡ MoveFault.CountFull → IsTooLong saved.old) }
+    requires position { HasPosition checkpoints.old upto }
+    ensures ok { IfOk result (λ s. IsSearched checkpoints.old breaks.now s.from upto s.found) }
+    ensures full { IfErr result (λ fault. fault ≡ MoveFault.CountFull → IsTooLong checkpoints.old) }
     ensures no_worker { IfErr result (λ fault. fault ≢ MoveFault.NoWorker) }
-    ensures same { saved.new ≡ saved.old }
+    ensures same { checkpoints.new ≡ checkpoints.old }
 {
-    match saved.nearest(upto - 1, present) {
+    match checkpoints.nearest(upto - 1, present) {
         Ok(net) => {
             let mut net = net;
             let from = net.position();
-            match last_stop(&mut net, upto, breaks, saved, line) {
+            match last_stop(&mut net, upto, breaks, checkpoints, line) {
                 Ok(found) => Ok(Searched { from, found }),
                 Err(fault) => Err(fault),
             }
@@ -91,19 +91,19 @@ fn stop_upto(
     present: &Net,
     upto: u64,
     breaks: &Breaks,
-    saved: &mut Saved,
+    checkpoints: &mut Checkpoints,
     line: &mut Line,
 ) -> Result<u64, MoveFault>
-    requires on_run { Passes saved.old present.now }
-    requires position { HasPosition saved.old upto }
-    ensures goes { IfOk result (ReverseGoesTo saved.old breaks.now (upto + 1)) }
-    ensures full { IfErr result (λ fault. fault ≡ MoveFault.CountFull → IsTooLong saved.old) }
+    requires on_run { Passes checkpoints.old present.now }
+    requires position { HasPosition checkpoints.old upto }
+    ensures goes { IfOk result (ReverseGoesTo checkpoints.old breaks.now (upto + 1)) }
+    ensures full { IfErr result (λ fault. fault ≡ MoveFault.CountFull → IsTooLong checkpoints.old) }
     ensures no_worker { IfErr result (λ fault. fault ≢ MoveFault.NoWorker) }
-    ensures same { saved.new ≡ saved.old }
+    ensures same { checkpoints.new ≡ checkpoints.old }
 {
     let mut last = upto;
     while last > 0 {
-        match search_before(present, last, breaks, saved, line) {
+        match search_before(present, last, breaks, checkpoints, line) {
             Ok(searched) => match searched.found {
                 Some(position) => return Ok(position),
                 None => last = searched.from,
@@ -119,19 +119,19 @@ fn stop_upto(
 pub(crate) fn net_before(
     present: &Net,
     breaks: &Breaks,
-    saved: &mut Saved,
+    checkpoints: &mut Checkpoints,
     line: &mut Line,
 ) -> Result<Net, MoveFault>
-    requires { Passes saved.old present.now }
-    ensures on_run { IfOk result (Passes saved.old) }
-    ensures goes { IfOk result (λ net. ReverseGoesTo saved.old breaks.now present.now.position net.position) }
-    ensures full { IfErr result (λ fault. fault ≡ MoveFault.CountFull → IsTooLong saved.old) }
+    requires { Passes checkpoints.old present.now }
+    ensures on_run { IfOk result (Passes checkpoints.old) }
+    ensures goes { IfOk result (λ net. ReverseGoesTo checkpoints.old breaks.now present.now.position net.position) }
+    ensures full { IfErr result (λ fault. fault ≡ MoveFault.CountFull → IsTooLong checkpoints.old) }
     ensures no_worker { IfErr result (λ fault. fault ≢ MoveFault.NoWorker) }
-    ensures same { saved.new ≡ saved.old }
+    ensures same { checkpoints.new ≡ checkpoints.old }
 {
     let before = present.position().saturating_sub(1);
-    match stop_upto(present, before, breaks, saved, line) {
-        Ok(target) => net_at(present, target, saved, line),
+    match stop_upto(present, before, breaks, checkpoints, line) {
+        Ok(target) => net_at(present, target, checkpoints, line),
         Err(fault) => Err(fault),
     }
 }

@@ -4,7 +4,7 @@ ghost use Rattle.std.specs.List.{list_any};
 ghost use Rattle.node_core.specs.TraceLine.{shown};
 ghost use Rattle.net_machine.specs.Run.{Reached, IsRun, Stepped};
 ghost use Rattle.flow_waits.specs.Stalled.{becomes_stalled as becomes_stalled_by};
-ghost use Rattle.debugger.specs.Breaks.{flow_of, kind_of, byte_of, is_drop, is_drop_of, link_of, is_at_link, is_sent_of, sends_own, asking, asks_nothing, IsOfByte, MeetsLine, Stalls, Matches, MayMatch, IsHit, IsFirstHit, AsksStall, IsLineHit, IsMayHit, IsTakenOut};
+ghost use Rattle.debugger.specs.Breaks.{flow_of, kind_of, byte_of, is_drop, is_drop_of_byte, link_of_act, is_at_link, is_sent_of, sends_own, asking, asks_nothing, IsOfByte, MeetsLine, Stalls, Matches, MayMatch, IsHit, IsFirstHit, AsksStall, IsLineHit, IsMayHit, IsTakenOut};
 
 use flow_waits::{becomes_stalled, some_becomes_stalled};
 use net_machine::Net;
@@ -150,7 +150,7 @@ pub(crate) fn has_drop(acts: &[Act]) -> bool
 
 /// Whether an act drops a packet of a number.
 fn is_drop_of(number: u64, act: &Act) -> bool
-    ensures { result ≡ is_drop_of number act.now }
+    ensures { result ≡ is_drop_of_byte number act.now }
 {
     match act {
         Act::Tx(_, _) => false,
@@ -160,14 +160,14 @@ fn is_drop_of(number: u64, act: &Act) -> bool
 
 /// Whether a packet of a number was dropped.
 fn has_drop_of(number: u64, acts: &[Act]) -> bool
-    ensures { result ≡ list_any (is_drop_of number) acts.now }
+    ensures { result ≡ list_any (is_drop_of_byte number) acts.now }
 {
     acts.iter().any(|act| is_drop_of(number, act))
 }
 
 /// The link of an act: that which sends the packet, or drops it.
 fn link_of(act: &Act) -> u16
-    ensures { result ≡ link_of act.now }
+    ensures { result ≡ link_of_act act.now }
 {
     match act {
         Act::Tx(link, _) => *link,

@@ -2,10 +2,10 @@
 ghost use Rattle.std.specs.Prelude.{◌≡◌, ◌≢◌, ◌<◌, ◌≤◌, false, length, IfOk, IfErr, IfSome, OnOk, OnErr};
 ghost use Rattle.window_core.specs.Full.{HasTooMany};
 ghost use Rattle.debugger.specs.Moves.{Passes, HasPosition, IsTooLong};
-ghost use Rattle.debugger.specs.Courses.{IsOnWay, WentOn};
+ghost use Rattle.debugger.specs.Courses.{IsOnWindows, WentOn};
 
+use crate::checkpoints::Checkpoints;
 use crate::fault::MoveFault;
-use crate::saved::Saved;
 use crate::walk::reach;
 use net_machine::Net;
 use node_core::Line;
@@ -19,7 +19,7 @@ const MOST_BEHIND: u64 = 8_192;
 
 /// A copy of a net, on its way by windows.
 #[derive(Drop)]
-pub(crate) struct Course {
+pub(crate) struct WindowedNet {
     /// The copy, run by windows.
     pub engine: Engine,
     /// A net of the same run that is not past it, from which a line of the last window is reached.
@@ -38,13 +38,13 @@ fn ahead(alloc: Global, present: &Net, partition: &Partition) -> Result<Engine, 
     Engine::at(alloc, present.copy()?, groups)
 }
 
-impl Course {
+impl WindowedNet {
     /// From where a net stands.
     pub(crate) fn new(
         alloc: Global,
         present: &Net,
         partition: &Partition,
-    ) -> Result<Course, AllocError>
+    ) -> Result<WindowedNet, AllocError>
         requires { length partition.now ≡ length present.now.state.parts }
         ensures net { IfOk result (λ c. c.engine.net ≡ present.now) }
         ensures running { IfOk result (λ c. c.engine.failed ≡ false) }
@@ -55,7 +55,7 @@ impl Course {
         let _reached = present.position();
         let engine = ahead(alloc, present, partition)?;
         match present.copy() {
-            Ok(behind) => Ok(Course {
+            Ok(behind) => Ok(WindowedNet {
                 engine,
                 behind,
                 slice: FIRST_SLICE,
@@ -100,18 +100,18 @@ impl Course {
 
     /// Brings the net behind to the last window's edge, and saves the state there, where enough
     /// events were passed. Where memory is refused, it stays.
-    pub(crate) fn follow(&mut self, saved: &mut Saved)
-        requires { IsOnWay saved.old self.old.engine.net.position self.old }
-        ensures on_way { IsOnWay saved.old self.new.engine.net.position self.new }
+    pub(crate) fn follow(&mut self, checkpoints: &mut Checkpoints)
+        requires { IsOnWindows checkpoints.old self.old.engine.net.position self.old }
+        ensures on_way { IsOnWindows checkpoints.old self.new.engine.net.position self.new }
         ensures engine { self.new.engine ≡ self.old.engine }
         ensures slice { self.new.slice ≡ self.old.slice }
-        ensures same { saved.new ≡ saved.old }
+        ensures same { checkpoints.new ≡ checkpoints.old }
     {
         if self.engine.position() - self.behind.position() < MOST_BEHIND {
             return;
         }
         if let Ok(edge) = self.engine.edge() {
-            saved.keep(&edge);
+            checkpoints.keep(&edge);
             self.behind = edge;
         }
     }
@@ -120,19 +120,19 @@ impl Course {
     pub(crate) fn into_net_at(
         self,
         target: u64,
-        saved: &mut Saved,
+        checkpoints: &mut Checkpoints,
         line: &mut Line,
     ) -> Result<Net, MoveFault>
-        requires on_way { IsOnWay saved.old target self }
-        requires position { HasPosition saved.old target }
-        ensures on_run { IfOk result (Passes saved.old) }
+        requires on_way { IsOnWindows checkpoints.old target self }
+        requires position { HasPosition checkpoints.old target }
+        ensures on_run { IfOk result (Passes checkpoints.old) }
         ensures goes { IfOk result (λ net. net.position ≡ target) }
-        ensures full { IfErr result (λ fault. fault ≡ MoveFault.CountFull → IsTooLong saved.old) }
-        ensures same { saved.new ≡ saved.old }
+        ensures full { IfErr result (λ fault. fault ≡ MoveFault.CountFull → IsTooLong checkpoints.old) }
+        ensures same { checkpoints.new ≡ checkpoints.old }
     {
         let mut net = self.behind;
         drop(self.engine);
-        match reach(&mut net, target, saved, line) {
+        match reach(&mut net, target, checkpoints, line) {
             Ok(()) => Ok(net),
             Err(fault) => {
                 drop(net);

@@ -4,18 +4,18 @@
 mod aim;
 mod backwards;
 pub mod breaks;
+pub mod checkpoints;
 mod course;
-mod crew;
 mod fault;
 pub mod moves;
 mod passed;
 pub mod reached;
-pub mod saved;
 mod to_stop;
 mod under_way;
 pub mod walk;
+mod window_settings;
 
 pub use breaks::{Break, BreakFault, Breaks, Condition, EventKind, Hit, StallOf, is_among};
 pub use fault::MoveFault;
 pub use moves::Debugger;
-pub use passed::{LastEvent, Order, Stretch};
+pub use passed::{LastEvent, LineOrder, Stretch};

@@ -1,11 +1,11 @@
 //! The debugger: it stands at a position of a scenario's run, and moves both ways.
 ghost use Rattle.std.specs.Prelude.{◌≡◌, ◌≢◌, ◌+◌, ◌-◌, ◌<◌, ◌≤◌, [], ◌∷◌, ◌++◌, true, false, take, Contains, IfOk, IfErr, OnOk, OnErr, MatchBool, MatchResult, Some, None, Ok, Err, is_none, length};
 ghost use Rattle.std.specs.List.{concat};
-ghost use Rattle.table_run.specs.State.{opening, due};
+ghost use Rattle.table_run.specs.State.{initial, due};
 ghost use Rattle.net_machine.specs.Run.{Reached};
 ghost use Rattle.debugger.specs.Moves.{Passes, HasPosition, StepGoesTo, RunGoesTo, ReverseGoesTo, UntilGoesTo, IsTooLong};
 ghost use Rattle.debugger.specs.Breaks.{IsTakenOut};
-ghost use Rattle.debugger.specs.Debugging.{opened, HasMoved};
+ghost use Rattle.debugger.specs.Debugging.{debugging_opened, HasMoved};
 ghost use Rattle.debugger.specs.LastEvents.{IsLastEvent};
 ghost use Rattle.debugger.specs.Passed.{stretch_texts};
 ghost use Rattle.trace_text.specs.Dump.{dump_bytes};
@@ -15,13 +15,13 @@ ghost use Rattle.flow_waits.specs.Waits.{waits_bytes};
 use crate::aim::Aim;
 use crate::backwards::net_before;
 use crate::breaks::{Break, BreakFault, Breaks};
-use crate::crew::Crew;
+use crate::checkpoints::Checkpoints;
 use crate::fault::MoveFault;
 use crate::passed::{LastEvent, Stretch, append_stretch, event_at, nearer};
 use crate::reached::{net_after, net_at};
-use crate::saved::Saved;
 use crate::to_stop::net_at_stop;
 use crate::walk::is_ended;
+use crate::window_settings::WindowSettings;
 use flow_waits::waits_text;
 use net_machine::Net;
 use node_core::{After, Event, Line};
@@ -43,13 +43,13 @@ pub struct Debugger {
     /// The net that the last move left, where that can be gone back to.
     left: Option<Net>,
     /// States from which going back begins.
-    saved: Saved,
+    checkpoints: Checkpoints,
     /// What `run` stops at.
     breaks: Breaks,
     /// What the last event was, lent to each step.
     line: Line,
     /// Who runs windows.
-    crew: Crew,
+    window_settings: WindowSettings,
 }
 
 #[tactic(none)]
@@ -94,21 +94,21 @@ impl Debugger {
     ) -> Result<Debugger, AllocError>
         requires partition { length partition ≡ length scenario.now.nodes }
         requires workers { (0 < workers) × (workers ≤ 64) }
-        ensures { IfOk result (λ debugger. debugger ≡ opened (opening scenario.now)) }
+        ensures { IfOk result (λ debugger. debugger ≡ debugging_opened (initial scenario.now)) }
     {
         let Ok(net) = Net::new(alloc, scenario) else {
             return Err(AllocError);
         };
-        let Ok(opening) = net.copy() else {
+        let Ok(initial) = net.copy() else {
             return Err(AllocError);
         };
         Ok(Debugger {
             net,
             left: None,
-            saved: Saved::new(alloc, opening),
+            checkpoints: Checkpoints::new(alloc, initial),
             breaks: Breaks::new(alloc),
             line: unwritten(alloc),
-            crew: Crew {
+            window_settings: WindowSettings {
                 partition,
                 workers,
                 alloc,
@@ -133,7 +133,7 @@ impl Debugger {
         ensures no_worker { IfErr result (λ fault. fault ≢ MoveFault.NoWorker) }
         ensures err { OnErr result (self.new ≡ self.old) }
     {
-        let found = net_after(&self.net, count, &mut self.saved, &mut self.line);
+        let found = net_after(&self.net, count, &mut self.checkpoints, &mut self.line);
         self.show(found)
     }
 
@@ -146,7 +146,7 @@ impl Debugger {
         ensures err { OnErr result (self.new ≡ self.old) }
     {
         let target = self.net.position().saturating_sub(count);
-        let found = net_at(&self.net, target, &mut self.saved, &mut self.line);
+        let found = net_at(&self.net, target, &mut self.checkpoints, &mut self.line);
         self.show(found)
     }
 
@@ -159,7 +159,12 @@ impl Debugger {
         ensures no_worker { IfErr result (λ fault. fault ≢ MoveFault.NoWorker) }
         ensures err { OnErr result (self.new ≡ self.old) }
     {
-        let found = net_before(&self.net, &self.breaks, &mut self.saved, &mut self.line);
+        let found = net_before(
+            &self.net,
+            &self.breaks,
+            &mut self.checkpoints,
+            &mut self.line,
+        );
         self.show(found)
     }
 
@@ -172,14 +177,21 @@ impl Debugger {
         ensures full { IfErr result (λ fault. fault ≡ MoveFault.CountFull → IsTooLong self.old.start) }
         ensures err { OnErr result (self.new ≡ self.old) }
     {
-        if self.crew.is_alone() {
+        if self.window_settings.is_alone() {
             return self.run_singly();
         }
         if self.breaks.asks_stall() {
             return self.run_singly();
         }
         let aim = &Aim::Hit(&self.breaks);
-        let found = self.crew.find(hands, gate, &self.net, aim, &mut self.saved, &mut self.line);
+        let found = self.window_settings.find(
+            hands,
+            gate,
+            &self.net,
+            aim,
+            &mut self.checkpoints,
+            &mut self.line,
+        );
         self.show(found)
     }
 
@@ -190,7 +202,12 @@ impl Debugger {
         ensures full { IfErr result (λ fault. fault ≡ MoveFault.CountFull → IsTooLong self.old.start) }
         ensures err { OnErr result (self.new ≡ self.old) }
     {
-        let found = net_at_stop(&self.net, &self.breaks, &mut self.saved, &mut self.line);
+        let found = net_at_stop(
+            &self.net,
+            &self.breaks,
+            &mut self.checkpoints,
+            &mut self.line,
+        );
         self.show(found)
     }
 
@@ -203,7 +220,14 @@ impl Debugger {
         ensures err { OnErr result (self.new ≡ self.old) }
     {
         let aim = &Aim::Moment(time);
-        let found = self.crew.find(hands, gate, &self.net, aim, &mut self.saved, &mut self.line);
+        let found = self.window_settings.find(
+            hands,
+            gate,
+            &self.net,
+            aim,
+            &mut self.checkpoints,
+            &mut self.line,
+        );
         self.show(found)
     }
 
@@ -262,7 +286,7 @@ impl Debugger {
         ensures same { self.new ≡ self.old }
     {
         let near = nearer(&self.net, &self.left, stretch.from);
-        append_stretch(near, stretch, &mut self.saved, &mut self.line, out)
+        append_stretch(near, stretch, &mut self.checkpoints, &mut self.line, out)
     }
 
     /// What the last event was, which is run again.
@@ -276,7 +300,7 @@ impl Debugger {
         event_at(
             near,
             position,
-            &mut self.saved,
+            &mut self.checkpoints,
             &mut self.line,
             &self.breaks,
         )

@@ -10,9 +10,9 @@ ghost use Rattle.debugger.specs.Moves.{Passes, HasPosition};
 ghost use Rattle.debugger.specs.Passed.{beside, stretch_texts};
 
 use crate::breaks::{Breaks, Hit};
+use crate::checkpoints::Checkpoints;
 use crate::fault::MoveFault;
 use crate::reached::net_at;
-use crate::saved::Saved;
 use crate::walk::reach_watched;
 use net_machine::{Due, Net};
 use net_watch::{Watch, run_by_two};
@@ -24,7 +24,7 @@ use trace_text::line_text;
 
 /// In which order lines are told.
 #[derive(Clone, Copy, Debug, PartialEq, Eq)]
-pub enum Order {
+pub enum LineOrder {
     /// As they came.
     Rising,
     /// The latest first.
@@ -39,7 +39,7 @@ pub struct Stretch {
     /// How many there are.
     pub count: u64,
     /// In which order they are told.
-    pub order: Order,
+    pub order: LineOrder,
 }
 
 /// What the last event was.
@@ -63,14 +63,14 @@ pub(crate) fn nearer<'a>(present: &'a Net, left: &'a Option<Net>, target: u64) -
 }
 
 // Puts the bytes from `end` on before those from `start` on, where the order is so.
-fn put_in_order(bytes: &mut [u8], start: usize, end: usize, order: Order)
+fn put_in_order(bytes: &mut [u8], start: usize, end: usize, order: LineOrder)
     requires start { start ≤ end }
     requires end { end ≤ length bytes.old }
     ensures { bytes.new ≡ take start bytes.old ++ beside order (take (end - start) (drop start bytes.old)) (drop (end - start) (drop start bytes.old)) }
 {
     match order {
-        Order::Rising => {}
-        Order::Falling => bytes[start..].rotate_left(end - start),
+        LineOrder::Rising => {}
+        LineOrder::Falling => bytes[start..].rotate_left(end - start),
     }
 }
 
@@ -78,7 +78,7 @@ fn put_in_order(bytes: &mut [u8], start: usize, end: usize, order: Order)
 fn put_line(
     out: &mut Vec<u8>,
     start: usize,
-    order: Order,
+    order: LineOrder,
     number: u64,
     line: &Line,
 ) -> Result<(), AllocError>
@@ -104,7 +104,7 @@ struct Texts<'a> {
     /// Where it is.
     start: usize,
     /// In which order they are put.
-    order: Order,
+    order: LineOrder,
     /// Whether memory was refused for a text.
     refused: bool,
 }
@@ -113,15 +113,15 @@ impl Watch for Texts<'_> {
     ghost use Rattle.std.specs.Prelude.{◌≡◌, ◌≤◌, ℕ, List, length, vec_len, refl};
     ghost use Rattle.table_run.specs.State.{State};
     ghost use Rattle.debugger.specs.Moves.{Passes};
-    ghost use Rattle.debugger.specs.Passed.{AreToldFrom, IsTold};
+    ghost use Rattle.debugger.specs.Passed.{AreReportedFrom, AreLinesReported};
 
     type Note = ();
 
     ghost fits = { λ w _. w.start ≤ vec_len w.out.now };
 
-    ghost has = { λ began from w at goes_on. (w.out.ghost_name ≡ began.out.ghost_name) × (w.start ≡ began.start) × (w.order ≡ began.order) × ((start : State) (m : ℕ) (before : List ℕ) → m ≤ from.position → Passes start from → began.start ≡ length before → AreToldFrom start began.order m from.position before began.out.now.items → IsTold start began.order m at.position before w.out.now.items began.refused w.refused goes_on) };
+    ghost has = { λ began from w at goes_on. (w.out.ghost_name ≡ began.out.ghost_name) × (w.start ≡ began.start) × (w.order ≡ began.order) × ((start : State) (m : ℕ) (before : List ℕ) → m ≤ from.position → Passes start from → began.start ≡ length before → AreReportedFrom start began.order m from.position before began.out.now.items → AreLinesReported start began.order m at.position before w.out.now.items began.refused w.refused goes_on) };
 
-    ghost begins = { λ _ _. (refl, refl, refl, λ _ _ _ _ _ _ told. (told, refl)) };
+    ghost begins = { λ _ _. (refl, refl, refl, λ _ _ _ _ _ _ reported. (reported, refl)) };
 
     fn ahead(&self, _at: &Net, _next: Option<Due>) -> Option<()> {
         Some(())
@@ -143,16 +143,16 @@ impl Watch for Texts<'_> {
 fn run_stretch(
     net: &mut Net,
     stretch: &Stretch,
-    saved: &mut Saved,
+    checkpoints: &mut Checkpoints,
     line: &mut Line,
     out: &mut Vec<u8>,
 ) -> Result<(), MoveFault>
-    requires on_run { Passes saved.old net.old }
+    requires on_run { Passes checkpoints.old net.old }
     requires from { net.old.position ≡ stretch.now.from }
-    requires upto { HasPosition saved.old (stretch.now.from + stretch.now.count) }
-    ensures ok { OnOk result (out.new.items ≡ out.old.items ++ concat (stretch_texts saved.old stretch.now)) }
+    requires upto { HasPosition checkpoints.old (stretch.now.from + stretch.now.count) }
+    ensures ok { OnOk result (out.new.items ≡ out.old.items ++ concat (stretch_texts checkpoints.old stretch.now)) }
     ensures err { OnErr result (take (length out.old.items) out.new.items ≡ out.old.items) }
-    ensures same { saved.new ≡ saved.old }
+    ensures same { checkpoints.new ≡ checkpoints.old }
 {
     let upto = net.position().saturating_add(stretch.count);
     let start = out.len();
@@ -162,7 +162,7 @@ fn run_stretch(
         order: stretch.order,
         refused: false,
     };
-    let ended = reach_watched(net, upto, saved, &mut texts, line);
+    let ended = reach_watched(net, upto, checkpoints, &mut texts, line);
     let _count = net.position();
     match ended {
         Ok(_) if texts.refused => Err(MoveFault::NoMemory),
@@ -176,20 +176,20 @@ fn run_stretch(
 pub(crate) fn append_stretch(
     present: &Net,
     stretch: &Stretch,
-    saved: &mut Saved,
+    checkpoints: &mut Checkpoints,
     line: &mut Line,
     out: &mut Vec<u8>,
 ) -> Result<(), MoveFault>
-    requires on_run { Passes saved.old present.now }
-    requires upto { HasPosition saved.old (stretch.now.from + stretch.now.count) }
-    ensures ok { OnOk result (out.new.items ≡ out.old.items ++ concat (stretch_texts saved.old stretch.now)) }
+    requires on_run { Passes checkpoints.old present.now }
+    requires upto { HasPosition checkpoints.old (stretch.now.from + stretch.now.count) }
+    ensures ok { OnOk result (out.new.items ≡ out.old.items ++ concat (stretch_texts checkpoints.old stretch.now)) }
     ensures err { OnErr result (take (length out.old.items) out.new.items ≡ out.old.items) }
-    ensures same { saved.new ≡ saved.old }
+    ensures same { checkpoints.new ≡ checkpoints.old }
 {
-    match net_at(present, stretch.from, saved, line) {
+    match net_at(present, stretch.from, checkpoints, line) {
         Ok(net) => {
             let mut net = net;
-            run_stretch(&mut net, stretch, saved, line, out)
+            run_stretch(&mut net, stretch, checkpoints, line, out)
         }
         Err(fault) => Err(fault),
     }
@@ -198,7 +198,7 @@ pub(crate) fn append_stretch(
 /// What an event was, of which `line` tells and after which a net stands, and which of the breakpoints
 /// stops at it.
 #[tactic(none)]
-fn event_told(net: &Net, line: &Line, breaks: &Breaks) -> Result<LastEvent, MoveFault>
+fn event_reported(net: &Net, line: &Line, breaks: &Breaks) -> Result<LastEvent, MoveFault>
     ensures time { IfOk result (λ event. event.time ≡ line.now.key.time) }
     ensures first { (before : Reached) → IsRun before → Stepped before (Some (shown line.now)) net.now → IfOk result (λ event. IsFirstHit breaks.now before.state (shown line.now) net.now.state event.hit) }
 {
@@ -217,7 +217,7 @@ struct OneEvent<'a> {
     /// The breakpoints.
     breaks: &'a Breaks,
     /// What is told; no memory, before the event.
-    told: Result<LastEvent, MoveFault>,
+    reported: Result<LastEvent, MoveFault>,
 }
 
 impl Watch for OneEvent<'_> {
@@ -225,13 +225,13 @@ impl Watch for OneEvent<'_> {
     ghost use Rattle.table_run.specs.State.{State};
     ghost use Rattle.net_machine.specs.Run.{IsRun};
     ghost use Rattle.debugger.specs.Moves.{Passes};
-    ghost use Rattle.debugger.specs.LastEvents.{IsToldOf};
+    ghost use Rattle.debugger.specs.LastEvents.{IsReportedOf};
 
     type Note = ();
 
     ghost fits = { λ _ at. IsRun at };
 
-    ghost has = { λ began from w at goes_on. (w.breaks.now ≡ began.breaks.now) × ((start : State) → Passes start from → IfOk began.told (λ _. ⊥) → IsToldOf start began.breaks.now from.position at.position w.told goes_on) };
+    ghost has = { λ began from w at goes_on. (w.breaks.now ≡ began.breaks.now) × ((start : State) → Passes start from → IfOk began.reported (λ _. ⊥) → IsReportedOf start began.breaks.now from.position at.position w.reported goes_on) };
 
     ghost begins = { λ _ _. (refl, λ _ _ none. (refl, none)) };
 
@@ -241,7 +241,7 @@ impl Watch for OneEvent<'_> {
 
     fn see(&mut self, _note: (), _before: &Snapshot<Net>, after: &Net, line: &Line) -> bool {
         let _count = after.position();
-        self.told = event_told(after, line, self.breaks);
+        self.reported = event_reported(after, line, self.breaks);
         false
     }
 }
@@ -250,24 +250,24 @@ impl Watch for OneEvent<'_> {
 pub(crate) fn event_at(
     present: &Net,
     position: u64,
-    saved: &mut Saved,
+    checkpoints: &mut Checkpoints,
     line: &mut Line,
     breaks: &Breaks,
 ) -> Result<LastEvent, MoveFault>
-    requires on_run { Passes saved.old present.now }
+    requires on_run { Passes checkpoints.old present.now }
     requires some { 0 < position }
-    requires position { HasPosition saved.old position }
-    ensures ok { IfOk result (IsLastEvent saved.old breaks.now position) }
-    ensures same { saved.new ≡ saved.old }
+    requires position { HasPosition checkpoints.old position }
+    ensures ok { IfOk result (IsLastEvent checkpoints.old breaks.now position) }
+    ensures same { checkpoints.new ≡ checkpoints.old }
 {
-    let mut net = net_at(present, position - 1, saved, line)?;
+    let mut net = net_at(present, position - 1, checkpoints, line)?;
     let _before = net.position();
     let mut event = OneEvent {
         breaks,
-        told: Err(MoveFault::NoMemory),
+        reported: Err(MoveFault::NoMemory),
     };
-    match run_by_two(&mut net, saved, &mut event, line) {
-        Ok(_) => event.told,
+    match run_by_two(&mut net, checkpoints, &mut event, line) {
+        Ok(_) => event.reported,
         Err(fault) => Err(fault.into()),
     }
 }

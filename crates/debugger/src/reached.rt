@@ -2,8 +2,8 @@
 ghost use Rattle.std.specs.Prelude.{◌≡◌, ◌≢◌, IfOk, IfErr};
 ghost use Rattle.debugger.specs.Moves.{Passes, HasPosition, StepGoesTo, IsTooLong};
 
+use crate::checkpoints::Checkpoints;
 use crate::fault::MoveFault;
-use crate::saved::Saved;
 use crate::walk::{forward, reach};
 use net_machine::Net;
 use node_core::Line;
@@ -12,18 +12,18 @@ use node_core::Line;
 pub fn net_after(
     present: &Net,
     count: u64,
-    saved: &mut Saved,
+    checkpoints: &mut Checkpoints,
     line: &mut Line,
 ) -> Result<Net, MoveFault>
-    requires { Passes saved.old present.now }
-    ensures on_run { IfOk result (Passes saved.old) }
-    ensures goes { IfOk result (λ net. StepGoesTo saved.old present.now.position count net.position) }
-    ensures full { IfErr result (λ fault. fault ≡ MoveFault.CountFull → IsTooLong saved.old) }
+    requires { Passes checkpoints.old present.now }
+    ensures on_run { IfOk result (Passes checkpoints.old) }
+    ensures goes { IfOk result (λ net. StepGoesTo checkpoints.old present.now.position count net.position) }
+    ensures full { IfErr result (λ fault. fault ≡ MoveFault.CountFull → IsTooLong checkpoints.old) }
     ensures no_worker { IfErr result (λ fault. fault ≢ MoveFault.NoWorker) }
-    ensures same { saved.new ≡ saved.old }
+    ensures same { checkpoints.new ≡ checkpoints.old }
 {
     let mut net = present.copy()?;
-    forward(&mut net, count, saved, line)?;
+    forward(&mut net, count, checkpoints, line)?;
     Ok(net)
 }
 
@@ -31,18 +31,18 @@ pub fn net_after(
 pub fn net_at(
     present: &Net,
     target: u64,
-    saved: &mut Saved,
+    checkpoints: &mut Checkpoints,
     line: &mut Line,
 ) -> Result<Net, MoveFault>
-    requires on_run { Passes saved.old present.now }
-    requires position { HasPosition saved.old target }
-    ensures on_run { IfOk result (Passes saved.old) }
+    requires on_run { Passes checkpoints.old present.now }
+    requires position { HasPosition checkpoints.old target }
+    ensures on_run { IfOk result (Passes checkpoints.old) }
     ensures goes { IfOk result (λ net. net.position ≡ target) }
-    ensures full { IfErr result (λ fault. fault ≡ MoveFault.CountFull → IsTooLong saved.old) }
+    ensures full { IfErr result (λ fault. fault ≡ MoveFault.CountFull → IsTooLong checkpoints.old) }
     ensures no_worker { IfErr result (λ fault. fault ≢ MoveFault.NoWorker) }
-    ensures same { saved.new ≡ saved.old }
+    ensures same { checkpoints.new ≡ checkpoints.old }
 {
-    let mut net = saved.nearest(target, present)?;
-    reach(&mut net, target, saved, line)?;
+    let mut net = checkpoints.nearest(target, present)?;
+    reach(&mut net, target, checkpoints, line)?;
     Ok(net)
 }

@@ -7,8 +7,8 @@ ghost use Rattle.debugger.specs.UnderWay.{AreUnderWay};
 ghost use Rattle.debugger.specs.Moves.{Passes, RunGoesTo, IsTooLong};
 
 use crate::breaks::Breaks;
+use crate::checkpoints::Checkpoints;
 use crate::fault::MoveFault;
-use crate::saved::Saved;
 use crate::under_way::{count_on, counts_of, leaves_moving};
 use net_machine::{Due, Net};
 use net_watch::{Watch, run_by_two};
@@ -91,14 +91,14 @@ impl Watch for Stops<'_> {
 fn run_to_stop(
     net: &mut Net,
     breaks: &Breaks,
-    saved: &mut Saved,
+    checkpoints: &mut Checkpoints,
     line: &mut Line,
 ) -> Result<(), MoveFault>
-    requires { Passes saved.old net.old }
-    ensures on_run { OnOk result (Passes saved.old net.new) }
-    ensures goes { OnOk result (RunGoesTo saved.old breaks.now net.old.position net.new.position) }
-    ensures full { IfErr result (λ fault. fault ≡ MoveFault.CountFull → IsTooLong saved.old) }
-    ensures same { saved.new ≡ saved.old }
+    requires { Passes checkpoints.old net.old }
+    ensures on_run { OnOk result (Passes checkpoints.old net.new) }
+    ensures goes { OnOk result (RunGoesTo checkpoints.old breaks.now net.old.position net.new.position) }
+    ensures full { IfErr result (λ fault. fault ≡ MoveFault.CountFull → IsTooLong checkpoints.old) }
+    ensures same { checkpoints.new ≡ checkpoints.old }
 {
     let _count = net.position();
     let mut stops = Stops {
@@ -108,7 +108,7 @@ fn run_to_stop(
         found: None,
         refused: false,
     };
-    match run_by_two(net, saved, &mut stops, line) {
+    match run_by_two(net, checkpoints, &mut stops, line) {
         Ok(_) if stops.refused => Err(MoveFault::NoMemory),
         Ok(_) => Ok(()),
         Err(fault) => Err(fault.into()),
@@ -120,16 +120,16 @@ fn run_to_stop(
 pub(crate) fn net_at_stop(
     present: &Net,
     breaks: &Breaks,
-    saved: &mut Saved,
+    checkpoints: &mut Checkpoints,
     line: &mut Line,
 ) -> Result<Net, MoveFault>
-    requires { Passes saved.old present.now }
-    ensures on_run { IfOk result (Passes saved.old) }
-    ensures goes { IfOk result (λ net. RunGoesTo saved.old breaks.now present.now.position net.position) }
-    ensures full { IfErr result (λ fault. fault ≡ MoveFault.CountFull → IsTooLong saved.old) }
-    ensures same { saved.new ≡ saved.old }
+    requires { Passes checkpoints.old present.now }
+    ensures on_run { IfOk result (Passes checkpoints.old) }
+    ensures goes { IfOk result (λ net. RunGoesTo checkpoints.old breaks.now present.now.position net.position) }
+    ensures full { IfErr result (λ fault. fault ≡ MoveFault.CountFull → IsTooLong checkpoints.old) }
+    ensures same { checkpoints.new ≡ checkpoints.old }
 {
     let mut net = present.copy()?;
-    run_to_stop(&mut net, breaks, saved, line)?;
+    run_to_stop(&mut net, breaks, checkpoints, line)?;
     Ok(net)
 }

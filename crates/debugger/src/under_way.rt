@@ -4,7 +4,7 @@ ghost use Rattle.std.specs.Prelude.{◌≡◌, ℕ, slice_index_or, slice_set};
 ghost use Rattle.std.specs.List.{list_any};
 ghost use Rattle.node_core.specs.TraceLine.{shown};
 ghost use Rattle.debugger.specs.Breaks.{is_drop};
-ghost use Rattle.debugger.specs.UnderWay.{one_less, one_more, after_event, sent_flow, after_sending, arriving_flow, all_counted, counted, AreUnderWay, is_known, is_at_router, is_passed_on, leaves_moving};
+ghost use Rattle.debugger.specs.UnderWay.{one_less, one_more_packet, after_event, sent_flow, after_sending, arriving_flow, all_counted, counts_after, AreUnderWay, is_known, is_at_router, is_passed_on, leaves_moving};
 
 use crate::breaks::has_drop;
 use net_machine::Net;
@@ -119,7 +119,7 @@ fn sent_flow(acts: &[Act]) -> Option<u16>
 
 /// Counts on over a line of the run.
 pub(crate) fn count_on(counts: &mut Vec<u64>, line: &Line)
-    ensures { counts.new.items ≡ counted counts.old.items (shown line.now) }
+    ensures { counts.new.items ≡ counts_after counts.old.items (shown line.now) }
 {
     count_event(counts, &line.event);
     count_sending(counts, sent_flow(line.acts.as_slice()));

@@ -1,2 +1,2 @@
-pub mod Witness
+pub mod Counterexample
 pub use Rattle.scenario_image.specs.Fault

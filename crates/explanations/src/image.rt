@@ -188,7 +188,7 @@ fn read_routes(
     Ok(Some(Records::new(routes)))
 }
 
-/// The parts of an image, as far as a witness needs them: without how queues drop, which packets are
+/// The parts of an image, as far as a counterexample needs them: without how queues drop, which packets are
 /// lost, and the flows' variants. `None` where there are too few bytes, or a node is of no kind.
 pub fn image_parts(alloc: Global, image: &[u8]) -> Result<Option<ScenarioParts>, AllocError> {
     let mut left = Left { bytes: image };

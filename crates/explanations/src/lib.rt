@@ -3,12 +3,12 @@
 #![tactic(auto)]
 
 mod codes;
+pub mod counterexample;
 mod image;
 mod telling;
 mod texts;
-pub mod witness;
 
 pub use codes::{list_codes, text_of};
+pub use counterexample::{Counterexample, first_counterexample};
 pub use image::image_parts;
-pub use telling::{Names, tell_witness};
-pub use witness::{Witness, first_witness};
+pub use telling::{Names, tell_counterexample};

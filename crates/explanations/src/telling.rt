@@ -1,7 +1,7 @@
-//! A witness as it is told: a line that says what is wrong where, and a line with a statement that
+//! A counterexample as it is told: a line that says what is wrong where, and a line with a statement that
 //! would mend it.
 
-use crate::witness::{Packets, Sort, Stop, Witness, first_witness};
+use crate::counterexample::{Counterexample, Packets, PartSort, PathEnd, first_counterexample};
 use scenario_image::{LoadFault, NodeKind, ScenarioParts};
 use std::alloc::{AllocError, Global};
 use std::fmt;
@@ -57,14 +57,14 @@ fn kind_word(kind: NodeKind) -> &'static str {
 
 /// A node by what it does and by its name, or by its name alone.
 #[derive(Clone, Copy)]
-struct Node<'a> {
+struct NamedNode<'a> {
     kind: Option<NodeKind>,
     called: Called<'a>,
     /// Whether what it does is left out where it has a name.
     is_short: bool,
 }
 
-impl<'a> fmt::Display for Node<'a> {
+impl<'a> fmt::Display for NamedNode<'a> {
     fn fmt<W: fmt::Write>(&self, f: &mut fmt::Formatter<W>) -> fmt::Result {
         if self.is_short && self.called.number < self.called.names.len() {
             return write!(f, "{}", self.called);
@@ -77,14 +77,14 @@ impl<'a> fmt::Display for Node<'a> {
     }
 }
 
-/// One of a flow's two ways.
+/// One of a flow's two paths.
 #[derive(Clone, Copy)]
-struct FlowWay {
+struct FlowPath {
     flow: usize,
     packets: Packets,
 }
 
-/// What goes a way, in a word.
+/// What goes a path, in a word.
 fn packets_word(packets: Packets) -> &'static str {
     match packets {
         Packets::Data => "data",
@@ -94,13 +94,13 @@ fn packets_word(packets: Packets) -> &'static str {
 
 /// What shows that parts are no scenario, with the names of what is in them.
 #[derive(Clone, Copy)]
-struct Told<'a> {
-    witness: Witness,
+struct NamedCounterexample<'a> {
+    counterexample: Counterexample,
     parts: &'a ScenarioParts,
     names: &'a Names<'a>,
 }
 
-impl<'a> Told<'a> {
+impl<'a> NamedCounterexample<'a> {
     /// A node by its name.
     fn node(&self, number: usize) -> Called<'a> {
         Called {
@@ -126,8 +126,8 @@ impl<'a> Told<'a> {
     }
 
     /// A node by what it does and by its name.
-    fn whole_node(&self, number: usize) -> Node<'a> {
-        Node {
+    fn whole_node(&self, number: usize) -> NamedNode<'a> {
+        NamedNode {
             kind: self.parts.nodes.as_slice().get(number).copied(),
             called: self.node(number),
             is_short: false,
@@ -135,8 +135,8 @@ impl<'a> Told<'a> {
     }
 
     /// A node by its name alone, where it has one.
-    fn short_node(&self, number: usize) -> Node<'a> {
-        Node {
+    fn short_node(&self, number: usize) -> NamedNode<'a> {
+        NamedNode {
             is_short: true,
             ..self.whole_node(number)
         }
@@ -168,13 +168,13 @@ impl<'a> Told<'a> {
     fn tell_few<W: fmt::Write>(
         &self,
         f: &mut fmt::Formatter<W>,
-        sort: Sort,
+        sort: PartSort,
         count: usize,
     ) -> fmt::Result {
         let (things, least, statement) = match sort {
-            Sort::Nodes => ("nodes", 2, "node NAME KIND"),
-            Sort::Links => ("links", 1, "link NAME FROM TO RATE DELAY droptail CAP"),
-            Sort::Flows => (
+            PartSort::Nodes => ("nodes", 2, "node NAME KIND"),
+            PartSort::Links => ("links", 1, "link NAME FROM TO RATE DELAY droptail CAP"),
+            PartSort::Flows => (
                 "flows",
                 1,
                 "flow NAME SENDER RECEIVER MSS SEGMENTS START RWND DELACK",
@@ -322,55 +322,55 @@ impl<'a> Told<'a> {
         }
     }
 
-    /// A way that returns: the route of the last node is to be another.
+    /// A path that returns: the route of the last node is to be another.
     fn tell_return<W: fmt::Write>(
         &self,
         f: &mut fmt::Formatter<W>,
-        way: FlowWay,
-        stop: Stop,
+        path: FlowPath,
+        stop: PathEnd,
     ) -> fmt::Result {
         let at = self.whole_node(usize::from(stop.node));
         let last = self.whole_node(usize::from(stop.from));
-        let goal = self.node(self.goal(way.flow, way.packets));
+        let goal = self.node(self.goal(path.flow, path.packets));
         write!(
             f,
             "L8: {} of flow {}",
-            packets_word(way.packets),
-            self.flow(way.flow)
+            packets_word(path.packets),
+            self.flow(path.flow)
         )?;
         write!(f, " come to {at} again, from {last}\n")?;
         write!(f, "route {} {goal} LINK\n", last.called)
     }
 
-    /// A way that comes to a router without a route.
+    /// A path that comes to a router without a route.
     fn tell_no_route<W: fmt::Write>(
         &self,
         f: &mut fmt::Formatter<W>,
-        way: FlowWay,
-        stop: Stop,
+        path: FlowPath,
+        stop: PathEnd,
     ) -> fmt::Result {
         let at = self.whole_node(usize::from(stop.node));
-        let goal = self.short_node(self.goal(way.flow, way.packets));
+        let goal = self.short_node(self.goal(path.flow, path.packets));
         write!(
             f,
             "L7: {} of flow {}",
-            packets_word(way.packets),
-            self.flow(way.flow)
+            packets_word(path.packets),
+            self.flow(path.flow)
         )?;
         write!(f, " stop at {at}: no route for {goal}\n")?;
         write!(f, "route {} {} LINK\n", at.called, goal.called)
     }
 
-    /// A way that comes to another end than its own: over a router's route, or over the link of its
+    /// A path that comes to another end than its own: over a router's route, or over the link of its
     /// start.
     fn tell_other_end<W: fmt::Write>(
         &self,
         f: &mut fmt::Formatter<W>,
-        way: FlowWay,
-        stop: Stop,
+        path: FlowPath,
+        stop: PathEnd,
     ) -> fmt::Result {
         let at = self.whole_node(usize::from(stop.node));
-        let goal = self.short_node(self.goal(way.flow, way.packets));
+        let goal = self.short_node(self.goal(path.flow, path.packets));
         let (from, link) = (
             self.whole_node(usize::from(stop.from)),
             self.link(stop.link),
@@ -378,8 +378,8 @@ impl<'a> Told<'a> {
         write!(
             f,
             "L7: {} of flow {}",
-            packets_word(way.packets),
-            self.flow(way.flow)
+            packets_word(path.packets),
+            self.flow(path.flow)
         )?;
         write!(f, " come to {at} over link {link}, and not to {goal}\n")?;
         if from.kind == Some(NodeKind::Router) {
@@ -394,12 +394,12 @@ impl<'a> Told<'a> {
     }
 }
 
-impl<'a> fmt::Display for Told<'a> {
+impl<'a> fmt::Display for NamedCounterexample<'a> {
     fn fmt<W: fmt::Write>(&self, f: &mut fmt::Formatter<W>) -> fmt::Result {
-        match self.witness {
-            Witness::Few { sort, count } => self.tell_few(f, sort, count),
-            Witness::Late { flow } => self.tell_late(f, flow),
-            Witness::Ends {
+        match self.counterexample {
+            Counterexample::Few { sort, count } => self.tell_few(f, sort, count),
+            Counterexample::Late { flow } => self.tell_late(f, flow),
+            Counterexample::Ends {
                 node,
                 kind,
                 flows,
@@ -411,21 +411,21 @@ impl<'a> fmt::Display for Told<'a> {
                     self.tell_links(f, node, links)
                 }
             }
-            Witness::FlowKinds { flow } => self.tell_flow_kinds(f, flow),
-            Witness::LinkKinds { link } => self.tell_link_kinds(f, link),
-            Witness::RouteKinds { route } => self.tell_route_kinds(f, route),
-            Witness::Way {
+            Counterexample::FlowKinds { flow } => self.tell_flow_kinds(f, flow),
+            Counterexample::LinkKinds { link } => self.tell_link_kinds(f, link),
+            Counterexample::RouteKinds { route } => self.tell_route_kinds(f, route),
+            Counterexample::Path {
                 flow,
                 packets,
                 stop,
             } => {
-                let way = FlowWay { flow, packets };
+                let path = FlowPath { flow, packets };
                 if stop.again {
-                    self.tell_return(f, way, stop)
+                    self.tell_return(f, path, stop)
                 } else if self.is_router(stop.node) {
-                    self.tell_no_route(f, way, stop)
+                    self.tell_no_route(f, path, stop)
                 } else {
-                    self.tell_other_end(f, way, stop)
+                    self.tell_other_end(f, path, stop)
                 }
             }
         }
@@ -446,7 +446,7 @@ fn fault_with(code: &str) -> Option<LoadFault> {
 
 /// What shows first that parts have the fault of this code, as it is told: a line that says it, and a line
 /// with a statement that would mend it, or with a number sign before one that is too many.
-pub fn tell_witness(
+pub fn tell_counterexample(
     alloc: Global,
     code: &str,
     parts: &ScenarioParts,
@@ -455,14 +455,14 @@ pub fn tell_witness(
     let Some(fault) = fault_with(code) else {
         return Ok(None);
     };
-    match first_witness(alloc, fault, parts)? {
-        Some(witness) => {
-            let told = Told {
-                witness,
+    match first_counterexample(alloc, fault, parts)? {
+        Some(counterexample) => {
+            let reported = NamedCounterexample {
+                counterexample,
                 parts,
                 names,
             };
-            Ok(Some(told.to_string(alloc)?))
+            Ok(Some(reported.to_string(alloc)?))
         }
         None => Ok(None),
     }

@@ -4,7 +4,7 @@ use Rattle.std.specs.Prelude.{IfSome, option_to_list}
 use Rattle.std.specs.Option.{option_map}
 use Rattle.std.proofs.lemmas.Bool.{cases_eq, cases_lt}
 use Rattle.std.proofs.lemmas.List.{append-nil, get_or-set_same, get_or-set_other, length-set}
-use Rattle.ranking.proofs.Maps.{not_some, same_some}
+use Rattle.tournament.proofs.Maps.{not_some, same_some}
 use Rattle.node_core.specs.Part.{sender_in}
 use Rattle.node_core.specs.declared.event.Event.{Event}
 use Rattle.node_core.specs.declared.event.Event.TheVariants.{Start, Rto, DelAck, Free, Arrive}
@@ -71,9 +71,9 @@ none_where_free (Free link) free = refl
 none_where_free (Arrive packet) free = absurd (true≢false (sym free))
 
 -- what is told of a node's sender is told of the state's
-pub told : (nodes : List NodeState) (t : State) (place node : ℕ) (o : Option SenderFields) → parts_of nodes ≡ t.parts → place ≡ node →
+pub reported : (nodes : List NodeState) (t : State) (place node : ℕ) (o : Option SenderFields) → parts_of nodes ≡ t.parts → place ≡ node →
     o ≡ option_map (λ (found : ℕ × SenderFields). found.1) (sender_in (node_at nodes place).part.role) → o ≡ option_map (λ (found : ℕ × SenderFields). found.1) (sender_in (part_at t node).role)
-told nodes t place node o parts same is =
+reported nodes t place node o parts same is =
     is ∙ ap (λ (p : PartState). option_map (λ (found : ℕ × SenderFields). found.1) (sender_in p.role)) (ap (λ i. (node_at nodes i).part) same ∙ part_is nodes t node parts)
 
 -- a sender's node is one of them

@@ -48,13 +48,13 @@ module _ (base : Base) (ms : List Moment) (s : State) (line : TraceLine) (t : St
         each = λ i link inside. link_elsewhere base ms s line t node i order apart same (get_or fs i link) (is.each i link inside);
       }
 
-  told_here : (node : ℕ) → line.key.node ≡ node → (i entered : ℕ) → i < length (part_at s node).links → IsNextEntry (port_at s node i) entered → frees (port_at t node i).link line.event ≡ true →
+  reported_here : (node : ℕ) → line.key.node ≡ node → (i entered : ℕ) → i < length (part_at s node).links → IsNextEntry (port_at s node i) entered → frees (port_at t node i).link line.event ≡ true →
       wait_by (port_at s node i).offered (port_at t node i) line entered ≡ wait_of_given line.key.time (port_at s node i)
-  told_here node here = subst (λ n. (i entered : ℕ) → i < length (part_at s n).links → IsNextEntry (port_at s n i) entered → frees (port_at t n i).link line.event ≡ true → wait_by (port_at s n i).offered (port_at t n i) line entered ≡ wait_of_given line.key.time (port_at s n i)) here tells
+  reported_here node here = subst (λ n. (i entered : ℕ) → i < length (part_at s n).links → IsNextEntry (port_at s n i) entered → frees (port_at t n i).link line.event ≡ true → wait_by (port_at s n i).offered (port_at t n i) line entered ≡ wait_of_given line.key.time (port_at s n i)) here tells
 
   -- what a link that is freed is given has waited as long as was counted before
-  told : (node : ℕ) → line.key.node ≡ node → (i : ℕ) → i < length (part_at s node).links → (f : LinkFigures) → AreOfLink base ms s node i f → frees (port_at t node i).link line.event ≡ true → wait_by f.offered (port_at t node i) line f.next_entry ≡ wait_of_given line.key.time (port_at s node i)
-  told node here i inside f is freed = ap (λ n. wait_by n (port_at t node i) line f.next_entry) is.offered ∙ told_here node here i f.next_entry inside is.next_entry_is freed
+  reported : (node : ℕ) → line.key.node ≡ node → (i : ℕ) → i < length (part_at s node).links → (f : LinkFigures) → AreOfLink base ms s node i f → frees (port_at t node i).link line.event ≡ true → wait_by f.offered (port_at t node i) line f.next_entry ≡ wait_of_given line.key.time (port_at s node i)
+  reported node here i inside f is freed = ap (λ n. wait_by n (port_at t node i) line f.next_entry) is.offered ∙ reported_here node here i f.next_entry inside is.next_entry_is freed
 
   kept : (node : ℕ) → line.key.node ≡ node → (i : ℕ) → i < length (part_at s node).links → counts_link i (port_at s node i).offered (port_at t node i) line ≡ false →
       (port_at t node i ≡ port_at s node i) × (frees (port_at t node i).link line.event ≡ false)
@@ -64,7 +64,7 @@ module _ (base : Base) (ms : List Moment) (s : State) (line : TraceLine) (t : St
   -- a link of the event's node, of which the event is counted or not
   link_now : (node i : ℕ) → line.key.node ≡ node → i < length (part_at s node).links → (f g : LinkFigures) → AreOfLink base ms s node i f →
       IsLinkAfterIf (counts_link i f.offered (port_at t node i) line) f (port_at t node i) line g → (b : Bool) → counts_link i f.offered (port_at t node i) line ≡ b → AreOfLink base (ms ++ m ∷ []) t node i g
-  link_now node i here inside f g is after true test = link_here base ms s line t node i order here f g (told node here i inside f is) is (after.counted test)
+  link_now node i here inside f g is after true test = link_here base ms s line t node i order here f g (reported node here i inside f is) is (after.counted test)
   link_now node i here inside f g is after false test =
       let still = kept node here i inside (ap (λ n. counts_link i n (port_at t node i) line) (sym is.offered) ∙ test) in
       subst (AreOfLink base (ms ++ m ∷ []) t node i) (sym (after.kept test)) (link_untouched base ms s line t node i order here still.0 still.1 f is)

@@ -12,8 +12,8 @@ use Rattle.scenario_image.specs.declared.parts.ScenarioParts.{ScenarioParts}
 use Rattle.scenario_image.specs.Scenario.{IsScenario}
 use Rattle.node_core.specs.declared.event.Event.{Event}
 use Rattle.node_core.specs.TraceLine.{TraceLine}
-use Rattle.ranking.proofs.Maps.{not_some, same_some}
-use Rattle.table_run.specs.State.{State, due, step_at, step, one_more, run, opening}
+use Rattle.tournament.proofs.Maps.{not_some, same_some}
+use Rattle.table_run.specs.State.{State, due, step_at, step, one_step_more, run, initial}
 use Rattle.table_run.specs.Laws.{ComesTo, IsSoundRun}
 use Rattle.table_run.proofs.RunLaws.{sound_run}
 use Rattle.table_run.proofs.Runs.{run_add}
@@ -50,7 +50,7 @@ together b ms s line t f g is senders links received count last = record {
 pub moments_add : (s t u : State) (n m : ℕ) (first rest : List TraceLine) → run s n ≡ Some (first, t) → run t m ≡ Some (rest, u) → moments s (n + m) ≡ moments s n ++ moments t m
 moments_add s t u n zero first rest is on = ap (moments s) {x = n + zero} {y = n} (omega arith) ∙ sym (append-nil (moments s n))
 moments_add s t u n (suc m) first rest is on =
-    option_and_then_some one_more (run t m) (rest, u) on
+    option_and_then_some one_step_more (run t m) (rest, u) on
     (λ so_far here later.
     ap (moments s) {x = n + suc m} {y = suc (n + m)} (omega arith)
     ∙ ap (λ o. moments s (n + m) ++ following o) (run_add s t so_far.1 n m first so_far.0 is here)
@@ -73,11 +73,11 @@ begun_run p since r lines f comes in_time is = record {
   last = is.last;
 }
 
--- and so it is from a run's opening on
-pub opened_run : (p : ScenarioParts) (r : Reached) (f : Figures) → r ≡ record { state = opening p; position = 0 } → AreFigures (record { since = 0; state = r.state; before = r.position; earlier = [] }) [] r.state f → AreOfRun p (whole p) f r
+-- and so it is from a run's initial state on
+pub opened_run : (p : ScenarioParts) (r : Reached) (f : Figures) → r ≡ record { state = initial p; position = 0 } → AreFigures (record { since = 0; state = r.state; before = r.position; earlier = [] }) [] r.state f → AreOfRun p (whole p) f r
 opened_run p r f at is =
     let comes : ComesTo p r.position [] r.state = subst (λ (x : Reached). ComesTo p x.position [] x.state) (sym at) refl in
-    let none : moments (opening p) r.position ≡ [] = ap (λ (x : Reached). moments (opening p) x.position) at in
+    let none : moments (initial p) r.position ≡ [] = ap (λ (x : Reached). moments (initial p) x.position) at in
     let base : base_at p 0 r ≡ whole p = ap (base_at p 0) at in
     let figures : AreFigures (base_at p 0 r) [] r.state f = subst (λ (ms : List Moment). AreFigures (record { since = 0; state = r.state; before = r.position; earlier = ms }) [] r.state f) (sym none) is in
     subst (λ b. AreOfRun p b f r) base (begun_run p 0 r [] f comes (omega arith) figures)
@@ -88,7 +88,7 @@ with_one [] i inside use_it = absurd (omega (arith, inside))
 with_one (x ∷ xs) i inside use_it = use_it x
 
 -- when all bytes of a node's sender were acknowledged, by all events up to here
-pub completed_now : (p : ScenarioParts) (b : Base) (f : Figures) (r : Reached) → AreOfRun p b f r → (node : ℕ) → node < length r.state.parts → completed_in f.senders.items node ≡ completed_of (turns_at node (moments (opening p) r.position))
+pub completed_now : (p : ScenarioParts) (b : Base) (f : Figures) (r : Reached) → AreOfRun p b f r → (node : ℕ) → node < length r.state.parts → completed_in f.senders.items node ≡ completed_of (turns_at node (moments (initial p) r.position))
 completed_now p b f r of node within =
     let inside : node < length f.senders.items = omega (arith, within, of.figures.senders.size) in
     let at : b.before + of.count ≡ r.position = (let is = of.position in omega (arith, is)) in
@@ -98,15 +98,15 @@ completed_now p b f r of node within =
     ∙ (of.figures.senders.each node other within).counted.completed
     ∙ ap completed_of (sym (filter_map-append (turn_at node) b.earlier (moments b.state of.count)))
     ∙ ap (λ ms. completed_of (turns_at node (ms ++ moments b.state of.count))) of.base.earlier
-    ∙ ap (λ ms. completed_of (turns_at node ms)) (sym (moments_add (opening p) b.state r.state b.before of.count of.base.lines of.counted of.base.comes of.goes_on))
-    ∙ ap (λ n. completed_of (turns_at node (moments (opening p) n))) at)
+    ∙ ap (λ ms. completed_of (turns_at node ms)) (sym (moments_add (initial p) b.state r.state b.before of.count of.base.lines of.counted of.base.comes of.goes_on))
+    ∙ ap (λ n. completed_of (turns_at node (moments (initial p) n))) at)
 
 -- a run that has come one event further
 comes_on : (p : ScenarioParts) (old new : Reached) (line : TraceLine) (lines : List TraceLine) → ComesTo p old.position lines old.state → Stepped old (Some line) new → ComesTo p new.position (lines ++ line ∷ []) new.state
 comes_on p old new line lines comes stepped =
     let next : suc old.position ≡ new.position = omega (arith, stepped.1) in
-    subst (λ n. run (opening p) n ≡ Some (lines ++ line ∷ [], new.state)) next
-    (ap (option_and_then one_more) comes ∙ ap (option_map {U = List TraceLine × State} (λ (x : TraceLine × State). (lines ++ x.0 ∷ [], x.1))) stepped.0)
+    subst (λ n. run (initial p) n ≡ Some (lines ++ line ∷ [], new.state)) next
+    (ap (option_and_then one_step_more) comes ∙ ap (option_map {U = List TraceLine × State} (λ (x : TraceLine × State). (lines ++ x.0 ∷ [], x.1))) stepped.0)
 
 pub step_run : (p : ScenarioParts) (b : Base) (old new : Reached) (line : TraceLine) (f g : Figures) → AreOfRun p b f old → Stepped old (Some line) new → g.events ≡ f.events + 1 → g.last ≡ line.key.time →
     ((ms : List Moment) → AreFigures b ms old.state f → step old.state ≡ Some (line, new.state) → AreFigures b (ms ++ record { before = old.state; line = line; after = new.state } ∷ []) new.state g) → AreOfRun p b g new
@@ -117,7 +117,7 @@ step_run p b old new line f g of stepped count last more = record {
   count = suc of.count;
   position = (let at = of.position in omega (arith, at, stepped.1));
   counted = of.counted ++ line ∷ [];
-  goes_on = ap (option_and_then one_more) of.goes_on ∙ ap (option_map {U = List TraceLine × State} (λ (x : TraceLine × State). (of.counted ++ x.0 ∷ [], x.1))) stepped.0;
+  goes_on = ap (option_and_then one_step_more) of.goes_on ∙ ap (option_map {U = List TraceLine × State} (λ (x : TraceLine × State). (of.counted ++ x.0 ∷ [], x.1))) stepped.0;
   figures = subst (λ ms. AreFigures b ms new.state g)
       (sym (ap (λ o. moments b.state of.count ++ following o) of.goes_on
       ∙ ap (λ o. moments b.state of.count ++ option_to_list (option_map {U = Moment} (λ (x : TraceLine × State). record { before = old.state; line = x.0; after = x.1 }) o)) stepped.0))

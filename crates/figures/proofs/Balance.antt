@@ -26,8 +26,8 @@ use Rattle.port.proofs.StepLaws.{taken_counts, one_departs_at_most}
 use Rattle.figures.specs.Links.{waiting_at, is_for, dropped_in, is_tx, tx_in}
 
 -- each act is a drop for one reason, or a sending
-abbrev pub told_in : List Act → ℕ
-told_in acts = dropped_in Lost acts + dropped_in Full acts + dropped_in (Take ByCodel) acts + tx_in acts
+abbrev pub reported_in : List Act → ℕ
+reported_in acts = dropped_in Lost acts + dropped_in Full acts + dropped_in (Take ByCodel) acts + tx_in acts
 
 more_dropped : (reason : DropReason) (act : Act) (acts : List Act) → dropped_in reason (act ∷ acts) ≡ cond (is_for reason act) 1 0 + dropped_in reason acts
 more_dropped reason act acts = sum_by-cons (λ (a : Act). cond {A = ℕ} (is_for reason a) 1 0) act acts
@@ -35,20 +35,20 @@ more_dropped reason act acts = sum_by-cons (λ (a : Act). cond {A = ℕ} (is_for
 more_sent : (act : Act) (acts : List Act) → tx_in (act ∷ acts) ≡ cond (is_tx act) 1 0 + tx_in acts
 more_sent act acts = sum_by-cons (λ (a : Act). cond {A = ℕ} (is_tx a) 1 0) act acts
 
-more_told : (act : Act) (acts : List Act) → cond (is_for Lost act) 1 0 + cond (is_for Full act) 1 0 + cond (is_for (Take ByCodel) act) 1 0 + cond (is_tx act) 1 0 ≡ 1 → told_in acts ≡ length acts → told_in (act ∷ acts) ≡ length (act ∷ acts)
-more_told act acts one rest =
+more_reported : (act : Act) (acts : List Act) → cond (is_for Lost act) 1 0 + cond (is_for Full act) 1 0 + cond (is_for (Take ByCodel) act) 1 0 + cond (is_tx act) 1 0 ≡ 1 → reported_in acts ≡ length acts → reported_in (act ∷ acts) ≡ length (act ∷ acts)
+more_reported act acts one rest =
     let a = more_dropped Lost act acts in
     let b = more_dropped Full act acts in
     let c = more_dropped (Take ByCodel) act acts in
     let d = more_sent act acts in
     omega (arith, one, rest, a, b, c, d)
 
-pub told_once : (acts : List Act) → told_in acts ≡ length acts
-told_once [] = refl
-told_once (Tx link packet ∷ acts) = more_told (Tx link packet) acts refl (told_once acts)
-told_once (Dropped link Lost packet ∷ acts) = more_told (Dropped link Lost packet) acts refl (told_once acts)
-told_once (Dropped link Full packet ∷ acts) = more_told (Dropped link Full packet) acts refl (told_once acts)
-told_once (Dropped link (Take ByCodel) packet ∷ acts) = more_told (Dropped link (Take ByCodel) packet) acts refl (told_once acts)
+pub reported_once : (acts : List Act) → reported_in acts ≡ length acts
+reported_once [] = refl
+reported_once (Tx link packet ∷ acts) = more_reported (Tx link packet) acts refl (reported_once acts)
+reported_once (Dropped link Lost packet ∷ acts) = more_reported (Dropped link Lost packet) acts refl (reported_once acts)
+reported_once (Dropped link Full packet ∷ acts) = more_reported (Dropped link Full packet) acts refl (reported_once acts)
+reported_once (Dropped link (Take ByCodel) packet ∷ acts) = more_reported (Dropped link (Take ByCodel) packet) acts refl (reported_once acts)
 
 -- what was offered and waited is what was offered before, what the acts tell of, and what waits
 abbrev pub Balanced : PortState → PortState → List Act → Type 0

@@ -15,7 +15,7 @@ use Rattle.scenario_image.specs.Scenario.{IsScenario}
 use Rattle.node_core.specs.declared.event.Event.{Event}
 use Rattle.node_core.specs.Part.{sender_in}
 use Rattle.node_core.specs.TraceLine.{TraceLine}
-use Rattle.table_run.specs.State.{State, part_at, due, step, one_more, run, opening}
+use Rattle.table_run.specs.State.{State, part_at, due, step, one_step_more, run, initial}
 use Rattle.table_run.specs.Laws.{ComesTo}
 use Rattle.table_run.proofs.Due.{is_due}
 use Rattle.table_run.proofs.RunLaws.{sound_run}
@@ -100,18 +100,18 @@ its_moment p is_scenario n lines s comes line t next =
     let end_is = sound.sound.end_is in
     omega (arith, less, end_is, most)
 
-all_in_time : (p : ScenarioParts) (n : ℕ) (lines : List TraceLine) (s : State) → IsScenario p → ComesTo p n lines s → All InTime (moments (opening p) n)
+all_in_time : (p : ScenarioParts) (n : ℕ) (lines : List TraceLine) (s : State) → IsScenario p → ComesTo p n lines s → All InTime (moments (initial p) n)
 all_in_time p zero lines s is_scenario comes = All-nil InTime
 all_in_time p (suc n) lines s is_scenario comes =
-    option_and_then_some one_more (run (opening p) n) (lines, s) comes (λ so_far was now.
+    option_and_then_some one_step_more (run (initial p) n) (lines, s) comes (λ so_far was now.
     of_one_more so_far lines s now (λ line next lines_are.
     subst (All InTime) (sym (moments_more p is_scenario n so_far.0 so_far.1 was line s next))
-    (All-push InTime (moments (opening p) n) (record { before = so_far.1; line = line; after = s }) (all_in_time p n so_far.0 so_far.1 is_scenario was)
+    (All-push InTime (moments (initial p) n) (record { before = so_far.1; line = line; after = s }) (all_in_time p n so_far.0 so_far.1 is_scenario was)
     (its_moment p is_scenario n so_far.0 so_far.1 was line s next))))
 
 pub counted_lie_below : CountedLieBelow
 counted_lie_below p n lines s is_scenario comes =
-    let ms = moments (opening p) n in
+    let ms = moments (initial p) n in
     let all = all_in_time p n lines s is_scenario comes in (
       λ node index. all_given (wait_at node index) InTime Small (wait_small node index) ms all,
       λ node. all_given sample_in TurnsInTime Small (λ t moment. sample_small t.old.timing t.cause t.now moment) (turns_at node ms)

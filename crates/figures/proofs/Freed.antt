@@ -1,4 +1,4 @@
--- An event that frees a link of its node is the alarm of that link.
+-- An event that frees a link of its node is the timer of that link.
 use Rattle.std.proofs.Common.{◌≡◌, ℕ, suc, ◌+◌, ◌<◌, true, List, ◌∷◌, [], ◌++◌, length, map, get_or, sym, ap, ◌∙◌, Some, arith, eqb-true, true≢false}
 use Rattle.std.proofs.Math.ListN.{get_or-map}
 use Rattle.std.specs.Option.{option_map, option_and_then}
@@ -9,7 +9,7 @@ use Rattle.node_core.specs.declared.event.Event.{Event}
 use Rattle.node_core.specs.declared.event.Event.TheVariants.{Start, Rto, DelAck, Free, Arrive}
 use Rattle.node_core.specs.Part.{LinkState, no_link, link_at}
 use Rattle.node_core.specs.TraceLine.{TraceLine}
-use Rattle.table_run.specs.State.{State, part_at, due, step, one_more}
+use Rattle.table_run.specs.State.{State, part_at, due, step, one_step_more}
 use Rattle.table_run.specs.Laws.{ComesTo, IsSoundRun}
 use Rattle.table_run.specs.Sound.{afresh, Belongs}
 use Rattle.table_run.proofs.Due.{IsDue, is_due}
@@ -21,7 +21,7 @@ use Rattle.figures.proofs.Along.{of_due}
 
 -- the run goes on
 pub goes_on : (p : ScenarioParts) (n : ℕ) (lines : List TraceLine) (s : State) (line : TraceLine) (t : State) → ComesTo p n lines s → step s ≡ Some (line, t) → ComesTo p (suc n) (lines ++ line ∷ []) t
-goes_on p n lines s line t comes next = ap (option_and_then one_more) comes ∙ ap (option_map {U = List TraceLine × State} (λ (x : TraceLine × State). (lines ++ x.0 ∷ [], x.1))) next
+goes_on p n lines s line t comes next = ap (option_and_then one_step_more) comes ∙ ap (option_map {U = List TraceLine × State} (λ (x : TraceLine × State). (lines ++ x.0 ∷ [], x.1))) next
 
 -- two nodes whose links are the same before anything was offered have links of the same numbers
 same_number : (ls ms : List LinkState) (i : ℕ) → map afresh ls ≡ map afresh ms → (link_at ls i).port.link ≡ (link_at ms i).port.link
@@ -47,7 +47,7 @@ module _ (p : ScenarioParts) (is_scenario : IsScenario p) (n : ℕ) (lines : Lis
       let nodes : node < length p.nodes = omega (arith, within, before.sound.nodes_are) in
       same_number (part_at t node).links (part_at s node).links i ((after.sound.each_node node nodes).its_links ∙ sym (before.sound.each_node node nodes).its_links)
 
-  -- the link that the event frees is that of its alarm, and is free when it comes
+  -- the link that the event frees is that of its timer, and is free when it comes
   record IsFreed (i : ℕ) : Type 0 where
     source : line.key.source ≡ 0
     number : line.key.number ≡ 3 + i
@@ -65,9 +65,9 @@ module _ (p : ScenarioParts) (is_scenario : IsScenario p) (n : ℕ) (lines : Lis
       sym (number_stays line.key.node i within) ∙ sym (eqb-true number (port_at t line.key.node i).link is) ∙ sym of.link.its_number in
       let one : i ≡ of.index = one_index p line.key.node (part_at s line.key.node).links (before.sound.each_node line.key.node nodes).its_links i of.index inside of.link.within same in
       record {
-        source = ap (λ (k : Key). k.source) of.alarm.is_key;
-        number = ap (λ (k : Key). k.number) of.alarm.is_key ∙ ap (λ j. 3 + j) (sym one);
-        in_time = ap (λ j. (port_at s line.key.node j).next_free) one ∙ of.alarm.is_set;
+        source = ap (λ (k : Key). k.source) of.timer.is_key;
+        number = ap (λ (k : Key). k.number) of.timer.is_key ∙ ap (λ j. 3 + j) (sym one);
+        in_time = ap (λ j. (port_at s line.key.node j).next_free) one ∙ of.timer.is_set;
       }
 
   pub freed : (i : ℕ) → i < length (part_at s line.key.node).links → frees (port_at t line.key.node i).link line.event ≡ true → (line.key.source ≡ 0) × (line.key.number ≡ 3 + i)

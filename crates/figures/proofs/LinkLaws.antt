@@ -15,15 +15,15 @@ use Rattle.scenario_image.specs.declared.parts.LinkPart.{LinkPart}
 use Rattle.scenario_image.specs.declared.parts.NodeKind.TheVariants.{Router}
 use Rattle.scenario_image.specs.declared.parts.ScenarioParts.{ScenarioParts}
 use Rattle.scenario_image.specs.Scenario.{IsScenario}
-use Rattle.node_core.specs.Opening.{opening_link, leaving_links}
+use Rattle.node_core.specs.Initial.{initial_link, leaving_links}
 use Rattle.node_core.specs.Part.{LinkState, PartState, no_link, link_at}
 use Rattle.node_core.specs.TraceLine.{TraceLine}
-use Rattle.ranking.proofs.Maps.{same_some}
-use Rattle.table_run.specs.State.{State, part_at, step, one_more, run, opening}
+use Rattle.tournament.proofs.Maps.{same_some}
+use Rattle.table_run.specs.State.{State, part_at, step, one_step_more, run, initial}
 use Rattle.table_run.specs.Laws.{ComesTo}
 use Rattle.table_run.proofs.Lists.{all_here}
 use Rattle.table_run.proofs.Moved.{node_there}
-use Rattle.table_run.proofs.Opening.{opened_part}
+use Rattle.table_run.proofs.Initial.{opened_part}
 use Rattle.table_run.proofs.RunLaws.{sound_run}
 use Rattle.table_run.proofs.Runs.{of_one_more}
 use Rattle.figures.specs.Moments.{Moment, moments, following}
@@ -33,7 +33,7 @@ use Rattle.figures.proofs.Counts.{test_no}
 use Rattle.figures.proofs.Turns.{sum_more, given_more}
 use Rattle.figures.proofs.Steps.{IsStep, is_step, size_stays, part_elsewhere, links_stay}
 use Rattle.figures.proofs.Passages.{Passage, passage}
-use Rattle.figures.proofs.Balance.{told_once, Balanced, taken_balances, all_balance, offerings_send_one, taken_sends_given}
+use Rattle.figures.proofs.Balance.{reported_once, Balanced, taken_balances, all_balance, offerings_send_one, taken_sends_given}
 
 -- what an event counts of a link
 record IsCounted (old new : PortState) (acts : List Act) (wait : Option ℕ) : Type 0 where
@@ -71,7 +71,7 @@ counted_more ms m node index upto is = record {
       let full = sum_more (λ (n : Moment). dropped_in Full (acts_at node index n)) ms m in
       let codel = sum_more (λ (n : Moment). dropped_in (Take Codel) (acts_at node index n)) ms m in
       let sent = sum_more (λ (n : Moment). tx_in (acts_at node index n)) ms m in
-      let once = told_once (acts_at node index m) in
+      let once = reported_once (acts_at node index m) in
       omega (arith, lost, full, codel, sent, once, upto.placed, is.balance);
   waits =
       let sent = sum_more (λ (n : Moment). tx_in (acts_at node index n)) ms m in
@@ -113,10 +113,10 @@ module _ (p : ScenarioParts) (is_scenario : IsScenario p) (n : ℕ) (lines : Lis
       counted_more ms m node index upto
       (⊎_elim (λ (at : line.key.node ≡ node). here node index at inside) (λ (apart : line.key.node ≢ node). there node index apart) (cases_eq line.key.node node))
 
-  pub moments_more : moments (opening p) (suc n) ≡ moments (opening p) n ++ m ∷ []
+  pub moments_more : moments (initial p) (suc n) ≡ moments (initial p) n ++ m ∷ []
   moments_more =
-      ap (λ o. moments (opening p) n ++ following o) comes
-      ∙ ap (λ o. moments (opening p) n ++ option_to_list (option_map {U = Moment} (λ (x : TraceLine × State). record { before = s; line = x.0; after = x.1 }) o)) next
+      ap (λ o. moments (initial p) n ++ following o) comes
+      ∙ ap (λ o. moments (initial p) n ++ option_to_list (option_map {U = Moment} (λ (x : TraceLine × State). record { before = s; line = x.0; after = x.1 }) o)) next
 
   -- a link of the state after a step was one of the state before
   was_inside : (node index : ℕ) → index < length (part_at t node).links → index < length (part_at s node).links
@@ -129,30 +129,30 @@ module _ (p : ScenarioParts) (is_scenario : IsScenario p) (n : ℕ) (lines : Lis
 abbrev IsFresh : LinkState → Type 0
 IsFresh link = (link.port.offered ≡ 0) × (waiting_at link.port ≡ 0)
 
-all_fresh : (xs : List (ℕ × LinkPart)) → AllByRecursion IsFresh (map opening_link xs)
+all_fresh : (xs : List (ℕ × LinkPart)) → AllByRecursion IsFresh (map initial_link xs)
 all_fresh [] = tt
 all_fresh (x ∷ xs) = ((refl, ap length (queues_open_empty x.1.queue x.1.capacity).empty), all_fresh xs)
 
-opened : (p : ScenarioParts) → IsScenario p → (node index : ℕ) → index < length (part_at (opening p) node).links → IsCountedUpto [] (opening p) node index
+opened : (p : ScenarioParts) → IsScenario p → (node index : ℕ) → index < length (part_at (initial p) node).links → IsCountedUpto [] (initial p) node index
 opened p is_scenario node index inside =
-    let sound = (sound_run p 0 [] (opening p) is_scenario refl).sound in
-    let within : node < length p.nodes = (let there = node_there (opening p) node index inside in omega (arith, there, sound.nodes_are)) in
+    let sound = (sound_run p 0 [] (initial p) is_scenario refl).sound in
+    let within : node < length p.nodes = (let there = node_there (initial p) node index inside in omega (arith, there, sound.nodes_are)) in
     let part = opened_part p node _ (slice_get-get_or p.nodes node Router within) in
-    let links : (part_at (opening p) node).links ≡ map opening_link (leaving_links p.links node) = ap (λ (x : PartState). x.links) part in
-    let fresh : IsFresh (link_at (part_at (opening p) node).links index) =
-    all_here IsFresh (part_at (opening p) node).links index no_link inside (subst (AllByRecursion IsFresh) (sym links) (all_fresh (leaving_links p.links node))) in
+    let links : (part_at (initial p) node).links ≡ map initial_link (leaving_links p.links node) = ap (λ (x : PartState). x.links) part in
+    let fresh : IsFresh (link_at (part_at (initial p) node).links index) =
+    all_here IsFresh (part_at (initial p) node).links index no_link inside (subst (AllByRecursion IsFresh) (sym links) (all_fresh (leaving_links p.links node))) in
     record { placed = omega (arith, fresh.0, fresh.1); waits = refl }
 
-all_counted : (p : ScenarioParts) (n : ℕ) (lines : List TraceLine) (s : State) → IsScenario p → ComesTo p n lines s → (node index : ℕ) → index < length (part_at s node).links → IsCountedUpto (moments (opening p) n) s node index
+all_counted : (p : ScenarioParts) (n : ℕ) (lines : List TraceLine) (s : State) → IsScenario p → ComesTo p n lines s → (node index : ℕ) → index < length (part_at s node).links → IsCountedUpto (moments (initial p) n) s node index
 all_counted p zero lines s is_scenario comes node index inside =
-    let same : s ≡ opening p = ap (λ (x : List TraceLine × State). x.1) (sym (same_some ([], opening p) (lines, s) comes)) in
+    let same : s ≡ initial p = ap (λ (x : List TraceLine × State). x.1) (sym (same_some ([], initial p) (lines, s) comes)) in
     subst (λ u. index < length (part_at u node).links → IsCountedUpto [] u node index) (sym same) (opened p is_scenario node index) inside
 all_counted p (suc n) lines s is_scenario comes node index inside =
-    option_and_then_some one_more (run (opening p) n) (lines, s) comes (λ so_far was now.
+    option_and_then_some one_step_more (run (initial p) n) (lines, s) comes (λ so_far was now.
     of_one_more so_far lines s now (λ line next lines_are.
     let before : index < length (part_at so_far.1 node).links = was_inside p is_scenario n so_far.0 so_far.1 was line s next node index inside in
     subst (λ ms. IsCountedUpto ms s node index) (sym (moments_more p is_scenario n so_far.0 so_far.1 was line s next))
-    (counted p is_scenario n so_far.0 so_far.1 was line s next (moments (opening p) n) node index before (all_counted p n so_far.0 so_far.1 is_scenario was node index before))))
+    (counted p is_scenario n so_far.0 so_far.1 was line s next (moments (initial p) n) node index before (all_counted p n so_far.0 so_far.1 is_scenario was node index before))))
 
 pub offered_are_placed : OfferedArePlaced
 offered_are_placed p n lines s is_scenario comes node index inside = (all_counted p n lines s is_scenario comes node index inside).placed

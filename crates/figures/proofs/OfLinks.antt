@@ -14,7 +14,7 @@ use Rattle.figures.specs.declared.link.LinkFigures.{LinkFigures}
 use Rattle.figures.specs.Classes.{greatest}
 use Rattle.figures.specs.Moments.{Moment, Base}
 use Rattle.figures.specs.Tallied.{IsTallyOf}
-use Rattle.figures.specs.Links.{port_at, waiting_at, busy_at, frees, acts_between, wait_of_given, wait_in, wait_by, IsNextEntry, wait_at, waits_of, acts_at, dropped_in, tx_in, bytes_in, dropped_of, tx_of, bytes_of, last_from, summed_over, waited_of, busy_of, IsLinkBegun, AreOfLink, IsLinkAfter}
+use Rattle.figures.specs.Links.{port_at, waiting_at, busy_at, frees, acts_between, wait_of_given, wait_in, wait_by, IsNextEntry, wait_at, waits_of, acts_at, dropped_in, tx_in, bytes_in, dropped_of, tx_of, bytes_of_moments, last_from, summed_over, waited_of, busy_of, IsLinkBegun, AreOfLink, IsLinkAfter}
 use Rattle.figures.proofs.Counts.{greatest_more, test_no}
 use Rattle.figures.proofs.Turns.{sum_more, given_more}
 
@@ -38,9 +38,9 @@ passed_on : (x w a b c : ℕ) → a ≤ b → b ≤ c → x + w * (c - a) ≡ x 
 passed_on x w a b c first second = let both = passed w a b c first second in omega (arith, both)
 
 -- a wait is known by the packets that are sent, where the link is freed and where it is not
-told_where : (sends freed : Bool) (given : Option ℕ) (wait : ℕ) → (freed ≡ true → cond sends (Some (cond freed wait 0)) None ≡ given) → cond freed given (cond sends (Some 0) None) ≡ cond sends (Some (cond freed wait 0)) None
-told_where sends true given wait is = sym (is refl)
-told_where sends false given wait is = refl
+reported_where : (sends freed : Bool) (given : Option ℕ) (wait : ℕ) → (freed ≡ true → cond sends (Some (cond freed wait 0)) None ≡ given) → cond freed given (cond sends (Some 0) None) ≡ cond sends (Some (cond freed wait 0)) None
+reported_where sends true given wait is = sym (is refl)
+reported_where sends false given wait is = refl
 
 chosen : (b : Bool) (n : ℕ) → cond b n 0 ≡ cond {A = ℕ} b 1 0 * n
 chosen true n = sym (one-mul n)
@@ -118,7 +118,7 @@ module _ (base : Base) (ms : List Moment) (s : State) (line : TraceLine) (t : St
     wait =
         ap (λ b. cond b (wait_in (port_at s node index).offered (port_at t node index) line (wait_of_given line.key.time (port_at s node index))) None) (eq-eqb line.key.node node here)
         ∙ ap (λ n. wait_in n (port_at t node index) line (wait_of_given line.key.time (port_at s node index))) (sym is.offered)
-        ∙ told_where (nat_lt 0 (tx_in (acts_between f.offered (port_at t node index) line))) (frees (port_at t node index).link line.event) (wait_of_given line.key.time (port_at s node index)) (line.key.time - f.next_entry) tells
+        ∙ reported_where (nat_lt 0 (tx_in (acts_between f.offered (port_at t node index) line))) (frees (port_at t node index).link line.event) (wait_of_given line.key.time (port_at s node index)) (line.key.time - f.next_entry) tells
 
     nothing_since : g.since ≡ last_from base.since (ms ++ m ∷ [])
     nothing_since = after.since ∙ sym (last_more base.since ms m)
@@ -136,7 +136,7 @@ module _ (base : Base) (ms : List Moment) (s : State) (line : TraceLine) (t : St
       sent = after.sent ∙ ap (λ n. n + tx_in (acts_between f.offered (port_at t node index) line)) is.sent
           ∙ ap (λ list. tx_of node index ms + tx_in list) (sym acts) ∙ sym (sum_more (λ (n : Moment). tx_in (acts_at node index n)) ms m);
       bytes = after.bytes ∙ ap (λ n. n + bytes_in (acts_between f.offered (port_at t node index) line)) is.bytes
-          ∙ ap (λ list. bytes_of node index ms + bytes_in list) (sym acts) ∙ sym (sum_more (λ (n : Moment). bytes_in (acts_at node index n)) ms m);
+          ∙ ap (λ list. bytes_of_moments node index ms + bytes_in list) (sym acts) ∙ sym (sum_more (λ (n : Moment). bytes_in (acts_at node index n)) ms m);
       waited = ap (λ n. g.waited + g.waiting * n) {x = last_from base.since (ms ++ m ∷ []) - g.since} {y = 0} (let at = nothing_since in omega (arith, at)) ∙ ap (λ n. g.waited + n) (mul-zero g.waiting) ∙ plus_none g.waited ∙ after.waited ∙ waited_more f is;
       busy_for = ap (λ n. g.busy_for + cond g.busy n 0) {x = last_from base.since (ms ++ m ∷ []) - g.since} {y = 0} (let at = nothing_since in omega (arith, at)) ∙ ap (λ n. g.busy_for + n) (either g.busy) ∙ plus_none g.busy_for ∙ after.busy_for ∙ busy_more f is;
       longest = after.longest ∙ ap (λ n. max n (waiting_at (port_at t node index))) (is.longest ∙ sym (greatest_before node index ms m));

@@ -7,7 +7,7 @@ use Rattle.packet_chain.specs.declared.packet.Kind.TheVariants.{Data, Ack}
 use Rattle.reno_sender.specs.declared.fields.SenderFields.{SenderFields}
 use Rattle.reno_sender.specs.Sending.{Planned}
 use Rattle.reno_sender.specs.Table.{started, acknowledged, timed_out}
-use Rattle.reno_receiver.specs.Received.{ReceiverState, Answered, data_came, alarm_came}
+use Rattle.reno_receiver.specs.Received.{ReceiverState, Answered, data_came, timer_came}
 use Rattle.port.specs.Port.{offered_one, offered_all}
 use Rattle.node_core.specs.declared.role.Role.{Role}
 use Rattle.node_core.specs.declared.role.Role.TheVariants.{Sends, Receives, Routes}
@@ -48,7 +48,7 @@ rto_offers part (Routes table) k = inr (record { links_are = refl; acts_are = re
 
 pub delack_offers : (part : PartState) (role : Role) (k : Key) → Offering part k.time (delack_row part role k)
 delack_offers part (Sends flow fields) k = inr (record { links_are = refl; acts_are = refl })
-delack_offers part (Receives flow state) k = answers part k flow state (alarm_came state)
+delack_offers part (Receives flow state) k = answers part k flow state (timer_came state)
 delack_offers part (Routes table) k = inr (record { links_are = refl; acts_are = refl })
 
 at_sender_offers : (part : PartState) (k : Key) (flow : ℕ) (fields : SenderFields) (kind : Kind) (number : ℕ) → Offering part k.time (at_sender part k flow fields kind number)

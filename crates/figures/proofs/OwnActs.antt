@@ -12,7 +12,7 @@ use Rattle.scenario_image.specs.declared.parts.ScenarioParts.{ScenarioParts}
 use Rattle.scenario_image.specs.Scenario.{IsScenario}
 use Rattle.node_core.specs.Part.{PartState, link_at}
 use Rattle.node_core.specs.TraceLine.{TraceLine}
-use Rattle.ranking.proofs.Maps.{same_some, not_some}
+use Rattle.tournament.proofs.Maps.{same_some, not_some}
 use Rattle.table_run.specs.State.{State, part_at, due, step_at, step}
 use Rattle.table_run.specs.Laws.{ComesTo}
 use Rattle.table_run.proofs.Moved.{node_there}

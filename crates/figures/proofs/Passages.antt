@@ -53,9 +53,9 @@ none_either false xs is = refl
 abbrev between : ℕ → ℕ → List Act → List Act
 between was is acts = cond (not (is == was)) acts []
 
-told : (now : ℕ) (old : PortState) (packets : List Packet) (acts : List Act) → acts ≡ (offered_all now old packets).acts → between old.offered (offered_all now old packets).port.offered acts ≡ (offered_all now old packets).acts
-told now old [] acts are = none_either _ acts are
-told now old (packet ∷ packets) acts are =
+reported : (now : ℕ) (old : PortState) (packets : List Packet) (acts : List Act) → acts ≡ (offered_all now old packets).acts → between old.offered (offered_all now old packets).port.offered acts ≡ (offered_all now old packets).acts
+reported now old [] acts are = none_either _ acts are
+reported now old (packet ∷ packets) acts are =
     let more = grows now old (packet ∷ packets) in
     ap (λ b. cond (not b) acts []) (test_no (offered_all now old (packet ∷ packets)).port.offered old.offered (λ same. omega (arith, more, same))) ∙ are
 
@@ -92,7 +92,7 @@ module _ (now : ℕ) (links links' : List LinkState) (acts : List Act) (i : ℕ)
         packets = packets;
         port_is = port_is;
         acts_are = ap (λ (q : PortState). between old.offered q.offered acts) port_is
-            ∙ told now old packets acts (are ∙ ap (λ j. (offered_all now (link_at links j).port packets).acts) (sym at));
+            ∙ reported now old packets acts (are ∙ ap (λ j. (offered_all now (link_at links j).port packets).acts) (sym at));
       }
 
   offers : (part : PartState) (e : Effect) → links ≡ part.links → links' ≡ e.part.links → acts ≡ e.acts → Offering part now e → IsOffered now old new false (between old.offered new.offered acts)
@@ -135,10 +135,10 @@ module _ (p : ScenarioParts) (is_scenario : IsScenario p) (n : ℕ) (lines : Lis
   free_links number event =
       ap (λ (x : PartState). x.links) (part_here s line t is (node_there s line.key.node i inside)) ∙ ap (λ (w : Event). (row part line.key w).part.links) event
 
-  -- the alarm's link is the one that has the number of the event
-  alarm_index : (number : ℕ) → Belongs p s (before p is_scenario n lines s comes line t next).moment line.key (Free number) → i ≡ line.key.number - 3 → frees now_is.link (Free number) ≡ true
-  alarm_index number h at =
-      let its : line.key.number ≡ 3 + h.index = ap (λ (k : Key). k.number) h.alarm.is_key in
+  -- the timer's link is the one that has the number of the event
+  timer_index : (number : ℕ) → Belongs p s (before p is_scenario n lines s comes line t next).moment line.key (Free number) → i ≡ line.key.number - 3 → frees now_is.link (Free number) ≡ true
+  timer_index number h at =
+      let its : line.key.number ≡ 3 + h.index = ap (λ (k : Key). k.number) h.timer.is_key in
       let same : i ≡ h.index = omega (arith, its, at) in
       eq-eqb number now_is.link
       (sym h.link.its_number ∙ ap (λ j. (link_at part.links j).port.link) (sym same) ∙ sym (number_stays p is_scenario n lines s comes line t next line.key.node i (node_there s line.key.node i inside)))
@@ -155,7 +155,7 @@ module _ (p : ScenarioParts) (is_scenario : IsScenario p) (n : ℕ) (lines : Lis
       })
   freeing number event false test =
       let here : Belongs p s (before p is_scenario n lines s comes line t next).moment line.key (Free number) = subst (Belongs p s (before p is_scenario n lines s comes line t next).moment line.key) event (belongs p is_scenario n lines s comes line t next) in
-      let apart : i ≢ line.key.number - 3 = λ at. true≢false (sym (alarm_index number here at) ∙ ap (frees now_is.link) (sym event) ∙ test) in
+      let apart : i ≢ line.key.number - 3 = λ at. true≢false (sym (timer_index number here at) ∙ ap (frees now_is.link) (sym event) ∙ test) in
       inr (still line.key.time was now_is line.acts (changed_elsewhere line.key.time part.links (part_at t line.key.node).links line.acts i inside (line.key.number - 3) _ apart (free_links number event)))
 
   by_event : (v : Event) → line.event ≡ v → Passes (frees now_is.link v)

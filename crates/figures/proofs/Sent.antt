@@ -10,7 +10,7 @@ use Rattle.reno_sender.specs.Sending.{Planned, spaced, sending, fill_count}
 use Rattle.reno_sender.specs.Table.{started, acknowledged, timed_out, enters, new_acknowledgement, nothing_sent, further_duplicate, fast_retransmit, repeated_duplicate, early_duplicate, is_partial, is_below, partly, partial_acknowledgement, measured_by, with_estimate, advanced, inflated, one_more}
 use Rattle.reno_sender.proofs.RowLaws.{by_rows}
 use Rattle.figures.specs.Turns.{HasActedFrom, IsOfSegments, kept_of, resends, sent_between, sent_as, planned_by}
-use Rattle.figures.specs.declared.turn.Kept.{Kept}
+use Rattle.figures.specs.declared.turn.KeptSender.{KeptSender}
 use Rattle.figures.specs.declared.turn.Cause.{Cause}
 use Rattle.figures.specs.declared.turn.Cause.TheVariants.{Starts, Acknowledged, TimesOut}
 
@@ -167,10 +167,10 @@ planned_is f (Acknowledged ack) now s = list_is f (acknowledged f ack now) s.mss
 planned_is f TimesOut now s = timed_out_una f now
 
 -- what was kept of a sender that has acted
-pub of_segments : (k : Kept) (cause : Cause) (now : ℕ) (g : SenderFields) → HasActedFrom k cause now g → IsOfSegments k g.mss
+pub of_segments : (k : KeptSender) (cause : Cause) (now : ℕ) (g : SenderFields) → HasActedFrom k cause now g → IsOfSegments k g.mss
 of_segments k cause now g is =
     let mss : g.mss ≡ is.old.mss = ap (λ (f : SenderFields). f.mss) is.planned ∙ mss_is is.old cause now is.kept.sound in
     record {
-      nxt = subst (λ m. IsMultiple m k.nxt) (sym mss) (subst (IsMultiple is.old.mss) (sym (ap (λ (x : Kept). x.nxt) is.kept.is)) is.kept.sound.nxt_multiple);
-      high = subst (λ m. IsMultiple m k.high) (sym mss) (subst (IsMultiple is.old.mss) (sym (ap (λ (x : Kept). x.high) is.kept.is)) is.kept.sound.high_multiple);
+      nxt = subst (λ m. IsMultiple m k.nxt) (sym mss) (subst (IsMultiple is.old.mss) (sym (ap (λ (x : KeptSender). x.nxt) is.kept.is)) is.kept.sound.nxt_multiple);
+      high = subst (λ m. IsMultiple m k.high) (sym mss) (subst (IsMultiple is.old.mss) (sym (ap (λ (x : KeptSender). x.high) is.kept.is)) is.kept.sound.high_multiple);
     }

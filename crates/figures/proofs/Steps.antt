@@ -9,7 +9,7 @@ use Rattle.node_core.specs.declared.event.Event.{Event}
 use Rattle.node_core.specs.Part.{PartState, sender_in}
 use Rattle.node_core.specs.Row.{row}
 use Rattle.node_core.specs.TraceLine.{TraceLine}
-use Rattle.ranking.proofs.Maps.{not_some, same_some}
+use Rattle.tournament.proofs.Maps.{not_some, same_some}
 use Rattle.table_run.specs.State.{State, no_part, part_at, due, step_at, step}
 use Rattle.figures.specs.Moments.{cause_of}
 use Rattle.figures.proofs.Rows.{after_event, row_keeps, row_links}

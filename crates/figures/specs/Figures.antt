@@ -6,7 +6,7 @@ use Rattle.scenario_image.specs.Scenario.{IsScenario}
 use Rattle.node_core.specs.declared.event.Event.{Event}
 use Rattle.node_core.specs.Part.{sender_in}
 use Rattle.node_core.specs.TraceLine.{TraceLine}
-use Rattle.table_run.specs.State.{State, part_at, due, run, step, opening}
+use Rattle.table_run.specs.State.{State, part_at, due, run, step, initial}
 use Rattle.table_run.specs.Flow.{next_at}
 use Rattle.table_run.specs.Laws.{ComesTo}
 use Rattle.net_machine.specs.Run.{Reached}
@@ -56,17 +56,17 @@ pub record Follows (f : Figures) (line : TraceLine) (after : State) : Type 0 whe
 
 -- where a run is counted from a moment on that has come here
 abbrev pub base_at : ScenarioParts → ℕ → Reached → Base
-base_at p since r = record { since = since; state = r.state; before = r.position; earlier = moments (opening p) r.position }
+base_at p since r = record { since = since; state = r.state; before = r.position; earlier = moments (initial p) r.position }
 
--- where it is counted from its opening on
+-- where it is counted from its initial state on
 abbrev pub whole : ScenarioParts → Base
-whole p = record { since = 0; state = opening p; before = 0; earlier = [] }
+whole p = record { since = 0; state = initial p; before = 0; earlier = [] }
 
 -- the scenario's run comes to a base, which is not past the end
 pub record IsBase (p : ScenarioParts) (b : Base) : Type 0 where
   pub lines : List TraceLine
   pub comes : ComesTo p b.before lines b.state
-  pub earlier : b.earlier ≡ moments (opening p) b.before
+  pub earlier : b.earlier ≡ moments (initial p) b.before
   pub in_time : b.since ≤ p.end
 
 -- the figures are those of the scenario's run from a base on, up to here

@@ -12,14 +12,14 @@ use Rattle.scenario_image.specs.declared.parts.FlowPart.{FlowPart}
 use Rattle.scenario_image.specs.declared.parts.ScenarioParts.{ScenarioParts}
 use Rattle.scenario_image.specs.Scenario.{IsScenario}
 use Rattle.node_core.specs.TraceLine.{TraceLine}
-use Rattle.table_run.specs.State.{State, part_at, opening, step}
+use Rattle.table_run.specs.State.{State, part_at, initial, step}
 use Rattle.table_run.specs.Flow.{received_next}
 use Rattle.table_run.specs.Laws.{ComesTo}
 use Rattle.figures.specs.Moments.{moments, turns_at}
 use Rattle.run_laws.specs.Links.{link_of}
 use Rattle.figures.specs.Links.{port_at, acts_at, waiting_at, dropped_of, tx_of, wait_of_given, waits_of}
 use Rattle.figures.specs.Turns.{Turn}
-use Rattle.figures.specs.Senders.{sent_of, again_in_recovery_of, again_otherwise_of, trips_of}
+use Rattle.figures.specs.Senders.{sent_of_turns, again_in_recovery_of, again_otherwise_of, trips_of}
 use Rattle.figures.specs.Classes.{class_of, rank_of, percentile, least_of, greatest_of}
 
 -- the value is one of these, and the nearest rank of a percentile is its: fewer than the rank are below it, and at least as many are at most it
@@ -47,7 +47,7 @@ EachDoublingHas32Classes =
 
 -- no more is sent again than is sent
 abbrev pub SentAgainIsSent : Type 0
-SentAgainIsSent = (ts : List Turn) → again_in_recovery_of ts + again_otherwise_of ts ≤ sent_of ts
+SentAgainIsSent = (ts : List Turn) → again_in_recovery_of ts + again_otherwise_of ts ≤ sent_of_turns ts
 
 -- P holds of each link of each state that a run of a scenario comes to, by the node that it leaves and its place among that node's links
 abbrev pub AtEachLink : (ScenarioParts → ℕ → State → ℕ → ℕ → Type 0) → Type 0
@@ -56,12 +56,12 @@ AtEachLink P = (p : ScenarioParts) (n : ℕ) (lines : List TraceLine) (s : State
 -- the packets that were offered to a link are those that were lost, dropped as the queue was full, dropped by CoDel and sent, and those that wait
 abbrev pub OfferedArePlaced : Type 0
 OfferedArePlaced =
-    AtEachLink (λ p n s node index. let ms = moments (opening p) n in
+    AtEachLink (λ p n s node index. let ms = moments (initial p) n in
     (port_at s node index).offered ≡ dropped_of Lost node index ms + dropped_of Full node index ms + dropped_of (Take Codel) node index ms + tx_of node index ms + waiting_at (port_at s node index))
 
 -- there are as many waits as packets that were sent
 abbrev pub EachSentHasItsWait : Type 0
-EachSentHasItsWait = AtEachLink (λ p n s node index. length (waits_of node index (moments (opening p) n)) ≡ tx_of node index (moments (opening p) n))
+EachSentHasItsWait = AtEachLink (λ p n s node index. length (waits_of node index (moments (initial p) n)) ≡ tx_of node index (moments (initial p) n))
 
 -- where a link is idle nothing waits at it, and a packet that its queue takes in is given at once: it has waited for 0
 abbrev pub SentAsOffered : Type 0
@@ -77,7 +77,7 @@ DeliveredIsOfTheFlow =
 abbrev pub CountedLieBelow : Type 0
 CountedLieBelow =
     (p : ScenarioParts) (n : ℕ) (lines : List TraceLine) (s : State) → IsScenario p → ComesTo p n lines s →
-    ((node index : ℕ) → All (λ x. x < 2 ^ 50) (waits_of node index (moments (opening p) n))) × ((node : ℕ) → All (λ x. x < 2 ^ 50) (trips_of (turns_at node (moments (opening p) n))))
+    ((node index : ℕ) → All (λ x. x < 2 ^ 50) (waits_of node index (moments (initial p) n))) × ((node : ℕ) → All (λ x. x < 2 ^ 50) (trips_of (turns_at node (moments (initial p) n))))
 
 -- the acts that are counted of a link at an event of a run are those of the event's acts whose own link it is
 abbrev pub ActsAreOfTheirLink : Type 0

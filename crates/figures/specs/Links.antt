@@ -87,8 +87,8 @@ dropped_of reason node index ms = sum_by (λ m. dropped_in reason (acts_at node 
 abbrev pub tx_of : ℕ → ℕ → List Moment → ℕ
 tx_of node index ms = sum_by (λ m. tx_in (acts_at node index m)) ms
 
-abbrev pub bytes_of : ℕ → ℕ → List Moment → ℕ
-bytes_of node index ms = sum_by (λ m. bytes_in (acts_at node index m)) ms
+abbrev pub bytes_of_moments : ℕ → ℕ → List Moment → ℕ
+bytes_of_moments node index ms = sum_by (λ m. bytes_in (acts_at node index m)) ms
 
 -- for how long the packet has waited that is given where a link takes from its queue at a moment, if one is: since it was offered
 abbrev pub wait_of_given : ℕ → PortState → Option ℕ
@@ -189,7 +189,7 @@ pub record AreOfLink (b : Base) (ms : List Moment) (s : State) (node index : ℕ
   pub full : f.full ≡ dropped_of Full node index ms
   pub codel : f.codel ≡ dropped_of (Take Codel) node index ms
   pub sent : f.sent ≡ tx_of node index ms
-  pub bytes : f.bytes ≡ bytes_of node index ms
+  pub bytes : f.bytes ≡ bytes_of_moments node index ms
   pub waited : f.waited + f.waiting * (last_from b.since ms - f.since) ≡ waited_of node index b.since ms
   pub busy_for : f.busy_for + (if f.busy then last_from b.since ms - f.since else 0) ≡ busy_of node index b.since ms
   pub longest : f.longest ≡ longest_of node index ms s

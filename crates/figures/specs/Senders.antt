@@ -9,8 +9,8 @@ use Rattle.figures.specs.Tallied.{IsTallyOf}
 use Rattle.figures.specs.declared.sender.SenderFigures.{SenderFigures}
 
 -- the segments that were sent, new or again
-abbrev pub sent_of : List Turn → ℕ
-sent_of ts = sum_by (λ t. length (planned_in t).sent) ts
+abbrev pub sent_of_turns : List Turn → ℕ
+sent_of_turns ts = sum_by (λ t. length (planned_in t).sent) ts
 
 -- those that were sent again in recovery, and the others that were sent again
 abbrev pub again_in_recovery_of : List Turn → ℕ
@@ -36,7 +36,7 @@ completed_in counted node = option_and_then (λ (f : SenderFigures). f.completed
 
 -- the figures are those of these turns, which follow others; the moment at which all bytes are acknowledged is that of all turns
 pub record AreOfTurns (before ts : List Turn) (f : SenderFigures) : Type 0 where
-  pub sent : f.sent ≡ sent_of ts
+  pub sent : f.sent ≡ sent_of_turns ts
   pub again_in_recovery : f.again_in_recovery ≡ again_in_recovery_of ts
   pub again_otherwise : f.again_otherwise ≡ again_otherwise_of ts
   pub timeouts : f.timeouts ≡ timeouts_of ts

@@ -5,7 +5,7 @@ use Rattle.reno_sender.specs.declared.fields.Timing.{Timing}
 use Rattle.reno_sender.specs.Fields.{total, IsMultiple, IsSound}
 use Rattle.reno_sender.specs.Sending.{Planned, spaced}
 use Rattle.reno_sender.specs.Table.{started, acknowledged, timed_out}
-use Rattle.figures.specs.declared.turn.Kept.{Kept}
+use Rattle.figures.specs.declared.turn.KeptSender.{KeptSender}
 use Rattle.figures.specs.declared.turn.Cause.{Cause}
 use Rattle.figures.specs.declared.turn.Cause.TheVariants.{Starts, Acknowledged, TimesOut}
 
@@ -25,35 +25,35 @@ abbrev pub planned_in : Turn → Planned
 planned_in t = planned_by t.old t.cause t.now
 
 -- what is kept of a sender from before it acts
-abbrev pub kept_of : SenderFields → Kept
+abbrev pub kept_of : SenderFields → KeptSender
 kept_of f = record { una = f.una; nxt = f.nxt; high = f.high; timing = f.timing; recovery = f.recovery }
 
 -- this is kept of these fields
-pub record Keeps (k : Kept) (f : SenderFields) : Type 0 where
+pub record Keeps (k : KeptSender) (f : SenderFields) : Type 0 where
   pub is : k ≡ kept_of f
   pub sound : IsSound f
 
 -- a sender of which this was kept has acted, and keeps g
-pub record HasActedFrom (k : Kept) (cause : Cause) (now : ℕ) (g : SenderFields) : Type 0 where
+pub record HasActedFrom (k : KeptSender) (cause : Cause) (now : ℕ) (g : SenderFields) : Type 0 where
   pub old : SenderFields
   pub kept : Keeps k old
   pub planned : g ≡ (planned_by old cause now).fields
 
 -- its places are whole numbers of segments
-pub record IsOfSegments (k : Kept) (mss : ℕ) : Type 0 where
+pub record IsOfSegments (k : KeptSender) (mss : ℕ) : Type 0 where
   pub nxt : IsMultiple mss k.nxt
   pub high : IsMultiple mss k.high
 
 -- una is sent again: recovery begins, or goes on and una rises
-abbrev pub resends : Kept → SenderFields → Bool
+abbrev pub resends : KeptSender → SenderFields → Bool
 resends k g = g.recovery && (not k.recovery || nat_lt k.una g.una)
 
 -- what is sent where a sender has acted on an acknowledgement: una, where that is sent again, and then a run up to nxt
-abbrev pub sent_between : Kept → SenderFields → List ℕ
+abbrev pub sent_between : KeptSender → SenderFields → List ℕ
 sent_between k g = (if resends k g then g.una ∷ [] else []) ++ spaced (max k.nxt g.una) g.mss ((g.nxt - max k.nxt g.una) / g.mss)
 
 -- the same for each cause: a start sends a run from nxt on, and a timeout sends una
-abbrev pub sent_as : Kept → SenderFields → Cause → List ℕ
+abbrev pub sent_as : KeptSender → SenderFields → Cause → List ℕ
 sent_as k g Starts = spaced k.nxt g.mss ((g.nxt - k.nxt) / g.mss)
 sent_as k g (Acknowledged ack) = sent_between k g
 sent_as k g TimesOut = k.una ∷ []

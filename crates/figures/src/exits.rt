@@ -10,7 +10,7 @@ const EXITS: usize = 256;
 /// To which link of a node the last packet was offered of each kind and flow. No clause speaks of it, as
 /// nothing but speed rests on it.
 #[derive(Drop)]
-pub struct Exits {
+pub struct LastLinks {
     /// The link's index among the node's.
     places: Vec<usize>,
 }
@@ -30,15 +30,15 @@ fn exit_place(event: &Event) -> usize {
     }
 }
 
-impl Exits {
+impl LastLinks {
     /// Nothing was seen yet at a node with so many links. Where there is one, nothing is kept.
-    pub(crate) fn new(alloc: Global, links: usize) -> Result<Exits, AllocError> {
+    pub(crate) fn new(alloc: Global, links: usize) -> Result<LastLinks, AllocError> {
         let places = if links > 1 {
             vec![in alloc; 0; EXITS]?
         } else {
             Vec::new(alloc)
         };
-        Ok(Exits { places })
+        Ok(LastLinks { places })
     }
 
     /// The index of the link to which the last packet was offered like that of an event.

@@ -164,7 +164,7 @@ fn all_received(alloc: Global, nodes: &[Node]) -> Result<Vec<u64>, AllocError>
 impl Figures {
     ghost use Rattle.sim_time.specs.Moment.{IsMoment};
     ghost use Rattle.node_core.specs.TraceLine.{shown};
-    ghost use Rattle.table_run.specs.State.{State, opening, step};
+    ghost use Rattle.table_run.specs.State.{State, initial, step};
     ghost use Rattle.figures.specs.Moments.{Moment, Base, turns_at};
     ghost use Rattle.figures.specs.Senders.{completed_of};
     ghost use Rattle.figures.specs.Links.{TellsWait, KeepsLinks};
@@ -192,8 +192,8 @@ impl Figures {
 
     /// Nothing is counted yet of a net.
     pub fn new(alloc: Global, net: &Net) -> Result<Figures, AllocError>
-        ensures run { IfOk result (λ f. (p : ScenarioParts) → net.now ≡ record { state = opening p; position = 0 } → AreOfRun p (whole p) f net.now) }
-        ensures some { IfOk result (λ f. (p : ScenarioParts) → IsScenario p → net.now ≡ record { state = opening p; position = 0 } → AreOfSomeRun f net.now) }
+        ensures run { IfOk result (λ f. (p : ScenarioParts) → net.now ≡ record { state = initial p; position = 0 } → AreOfRun p (whole p) f net.now) }
+        ensures some { IfOk result (λ f. (p : ScenarioParts) → IsScenario p → net.now ≡ record { state = initial p; position = 0 } → AreOfSomeRun f net.now) }
     {
         let figures = Figures::begun(alloc, net, 0, &[])?;
         Ok(figures)

@@ -1,8 +1,8 @@
 //! What is counted of a link.
 ghost use Rattle.std.specs.Prelude.{◌≡◌, ◌≢◌, ◌+◌, ◌-◌, ◌*◌, ◌<◌, ◌≤◌, ◌^◌, [], List, false, max, IfOk, Some, None, if◌then◌else◌};
 
+use crate::reported::{frees, is_at, reported_by, sent_alone, wait_by};
 use crate::tally::Tally;
-use crate::told::{frees, is_at, sent_alone, told_by, wait_by};
 use crate::waits::next_entry;
 use node_core::{Act, Line};
 use port::Port;
@@ -142,14 +142,14 @@ impl LinkFigures {
         ensures sent { result ≡ tx_in acts.now }
         ensures counted { IsCountedOf self.old acts.now self.new }
     {
-        let told = told_by(acts);
+        let reported = reported_by(acts);
         self.turns += 1;
-        self.lost += u128::from(told.lost);
-        self.full += u128::from(told.full);
-        self.codel += u128::from(told.codel);
-        self.sent += u128::from(told.sent);
-        self.bytes += told.bytes;
-        told.sent
+        self.lost += u128::from(reported.lost);
+        self.full += u128::from(reported.full);
+        self.codel += u128::from(reported.codel);
+        self.sent += u128::from(reported.sent);
+        self.bytes += reported.bytes;
+        reported.sent
     }
 
     // One more event was run at its node, of which the line tells.

@@ -8,10 +8,10 @@ ghost use Rattle.figures.specs.declared.link.LinkFigures.{LinkFigures};
 ghost use Rattle.figures.specs.declared.links.NodeLinks.{NodeLinks};
 ghost use Rattle.figures.specs.Links.{is_free as free_is, IsLinkAfterIf, AreLinksBegun, AreLinksAfter, OffersToOne, AreOffersCounted, IsOffered, IsUnoffered, IsFound};
 
-use crate::exits::Exits;
+use crate::exits::LastLinks;
 use crate::link::LinkFigures;
 use node_core::link::Link;
-use node_core::{Alarm, Event, Line, Node};
+use node_core::{Event, Line, Node, Timer};
 use sim_time::Time;
 use std::alloc::{AllocError, Global};
 
@@ -21,7 +21,7 @@ pub struct NodeLinks {
     /// Of each link, in rising number.
     pub figures: Vec<LinkFigures>,
     /// At which of them is looked first.
-    pub exits: Exits,
+    pub exits: LastLinks,
 }
 
 // Nothing is counted yet of some links, which are from a moment on.
@@ -55,7 +55,7 @@ fn freed_after(figures: &mut [LinkFigures], links: &[Link], line: &Line)
     ensures size_stays { length figures.new ≡ length figures.old }
     ensures figures { (i : ℕ) (other : LinkFigures) → i < length figures.old → IsLinkAfterIf (i == line.now.key.number - 3) (slice_index_or figures.old i other) (link_at links.now i).port (shown line.now) (slice_index_or figures.new i other) }
 {
-    let freed = line.key.number.saturating_sub(Alarm::Free(0).number()) as usize;
+    let freed = line.key.number.saturating_sub(Timer::Free(0).number()) as usize;
     if freed < figures.len() {
         let figures = &mut figures[freed];
         figures.after_free(links[freed].port(), line);
@@ -95,7 +95,7 @@ impl NodeLinks {
     {
         Ok(NodeLinks {
             figures: links_begun(alloc, links, since)?,
-            exits: Exits::new(alloc, links.len())?,
+            exits: LastLinks::new(alloc, links.len())?,
         })
     }
 

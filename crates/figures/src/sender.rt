@@ -5,7 +5,7 @@ ghost use Rattle.figures.specs.Turns.{trip_of as trip_is, sample_by as sample_is
 ghost use Rattle.reno_sender.specs.Fields.{IsSound};
 
 use crate::tally::Tally;
-use crate::turn::{Cause, Kept, kept_of, sent_by};
+use crate::turn::{Cause, KeptSender, kept_of, sent_by};
 use reno_sender::{Sender, SenderFields, Timing};
 use sim_time::Time;
 use std::alloc::{AllocError, Global};
@@ -14,7 +14,7 @@ use std::alloc::{AllocError, Global};
 #[derive(Drop)]
 pub struct SenderFigures {
     /// What is kept of it from before it acts next.
-    pub kept: Kept,
+    pub kept: KeptSender,
     /// When all bytes of its flow were acknowledged; none before.
     pub completed: Option<Time>,
     /// The segments that it has sent, new or again.

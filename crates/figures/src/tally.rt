@@ -143,7 +143,7 @@ mod tests {
 
     #[test]
     fn percentiles_of_few_values(rt: HostRuntime) -> Result<(), Fail> {
-        for (values, percent, told) in ROWS {
+        for (values, percent, reported) in ROWS {
             let mut tally = Tally::new(rt.alloc())?;
             for value in values {
                 assert!(rt; *value < 1 << 50);
@@ -152,7 +152,7 @@ mod tests {
             }
             assert!(rt; percent <= 100);
             assert!(rt; tally.count < 1 << 40);
-            assert_eq!(rt; tally.percentile(percent), told);
+            assert_eq!(rt; tally.percentile(percent), reported);
             assert_eq!(rt; tally.least(), values.iter().min().copied());
             assert_eq!(rt; tally.greatest(), values.iter().max().copied());
         }

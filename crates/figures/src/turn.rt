@@ -20,7 +20,7 @@ pub enum Cause {
 
 /// What is kept of a sender from before it acts: what tells afterwards what it has sent and timed.
 #[derive(Clone, Copy, Debug, PartialEq, Eq)]
-pub struct Kept {
+pub struct KeptSender {
     /// The first byte that is not acknowledged yet.
     pub una: u64,
     /// The next byte to send.
@@ -35,10 +35,10 @@ pub struct Kept {
 
 /// What is kept of a sender's fields.
 #[inline(always)]
-pub fn kept_of(fields: &SenderFields) -> Kept
+pub fn kept_of(fields: &SenderFields) -> KeptSender
     ensures { result ≡ kept_is fields.now }
 {
-    Kept {
+    KeptSender {
         una: fields.una,
         nxt: fields.nxt,
         high: fields.high,
@@ -106,7 +106,7 @@ fn sent_in_run(first: u64, end: u64, high: u64, mss: u64) -> Sent
 
 // What was sent where a sender of which `old` was kept has acted on an acknowledgement, and keeps `new`.
 #[inline(always)]
-fn sent_on_ack(old: &Kept, new: &SenderFields) -> Sent
+fn sent_on_ack(old: &KeptSender, new: &SenderFields) -> Sent
     requires old { IsOfSegments old.now new.now.mss }
     requires new { IsSound new.now }
     ensures segments { result.segments ≡ length (sent_between old.now new.now) }
@@ -127,7 +127,7 @@ fn sent_on_ack(old: &Kept, new: &SenderFields) -> Sent
 
 /// What was sent where a sender of which `old` was kept has acted, and keeps `new`.
 #[inline(always)]
-pub fn sent_by(old: &Kept, new: &SenderFields, cause: Cause) -> Sent
+pub fn sent_by(old: &KeptSender, new: &SenderFields, cause: Cause) -> Sent
     requires old { IsOfSegments old.now new.now.mss }
     requires new { IsSound new.now }
     ensures segments { result.segments ≡ length (sent_as old.now new.now cause) }

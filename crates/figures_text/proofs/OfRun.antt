@@ -11,13 +11,13 @@ use Rattle.scenario_image.specs.declared.parts.ScenarioParts.{ScenarioParts}
 use Rattle.scenario_image.specs.Scenario.{IsScenario}
 use Rattle.sim_time.specs.declared.variant.Iw.TheVariants.{Iw3}
 use Rattle.node_core.specs.declared.role.Role.TheVariants.{Sends}
-use Rattle.node_core.specs.Opening.{leaving_links, opening_link}
+use Rattle.node_core.specs.Initial.{leaving_links, initial_link}
 use Rattle.node_core.specs.Part.{PartState, LinkState}
 use Rattle.node_core.specs.TraceLine.{TraceLine}
-use Rattle.ranking.proofs.Maps.{same_some}
+use Rattle.tournament.proofs.Maps.{same_some}
 use Rattle.table_run.specs.Laws.{IsSoundRun}
 use Rattle.table_run.specs.Sound.{afresh}
-use Rattle.table_run.specs.State.{State, part_at, no_part, opening, run, step}
+use Rattle.table_run.specs.State.{State, part_at, no_part, initial, run, step}
 use Rattle.table_run.proofs.Due.{is_due}
 use Rattle.table_run.proofs.RunLaws.{sound_run}
 use Rattle.table_run.proofs.Runs.{of_run, of_step, run_end, step_end}
@@ -106,7 +106,7 @@ module _ (p : ScenarioParts) (b : Base) (f : Figures) (r : Reached) (is_scenario
   pub last_most : f.last ≤ p.end
   last_most =
       subst (λ n. n ≤ p.end) (sym of.last)
-      (last_by b.since p.end of.counted of.base.in_time (lines_by of.count b.state r.state of.counted p.end (run_end b.before (opening p) b.state of.base.lines of.base.comes) of.goes_on))
+      (last_by b.since p.end of.counted of.base.in_time (lines_by of.count b.state r.state of.counted p.end (run_end b.before (initial p) b.state of.base.lines of.base.comes) of.goes_on))
 
   pub end_most : p.end ≤ 1000000000000000
   end_most = let most = is_scenario.in_limits.end_range.1 in omega (arith, most)
@@ -120,7 +120,7 @@ module _ (p : ScenarioParts) (b : Base) (f : Figures) (r : Reached) (is_scenario
 
   links_of : (node : ℕ) → node < length p.nodes → length (part_at r.state node).links ≡ length (leaving_links p.links node)
   links_of node inside =
-      sym (length-map (part_at r.state node).links afresh) ∙ ap (λ (links : List LinkState). length links) (sound.sound.each_node node inside).its_links ∙ length-map (leaving_links p.links node) opening_link
+      sym (length-map (part_at r.state node).links afresh) ∙ ap (λ (links : List LinkState). length links) (sound.sound.each_node node inside).its_links ∙ length-map (leaving_links p.links node) initial_link
 
   pub link_counted : (number : ℕ) → number < length p.links → IsExitCounted p b events r.state f number
   link_counted number under =

@@ -9,7 +9,7 @@ use Rattle.figures_text.specs.declared.step.SenderWindow.{SenderWindow}
 use Rattle.figures_text.specs.declared.subject.Subject.{Subject}
 use Rattle.figures_text.specs.declared.subject.Subject.TheVariants.{Flow, Link}
 use Rattle.figures_text.specs.declared.summary.LinkSummary.{LinkSummary}
-use Rattle.figures_text.specs.Table.{TextNames, heading, counted, or_none, row_line}
+use Rattle.figures_text.specs.Table.{TextNames, heading, always_counted, or_none, row_line}
 
 -- the first line
 abbrev pub series_heading : Option TextNames → List ℕ
@@ -25,11 +25,11 @@ timed_rows begin column subject rows = flat_map (λ (row : Row). timed_line begi
 -- what is said of a flow; its window is there once it has started
 abbrev pub flow_step_rows : FlowStep → List Row
 flow_step_rows step =
-    counted Delivered step.counts.delivered
-    ∷ counted SentSegments step.counts.sent
-    ∷ counted AgainInRecovery step.counts.again_in_recovery
-    ∷ counted AgainOtherwise step.counts.again_otherwise
-    ∷ counted Timeouts step.counts.timeouts
+    always_counted Delivered step.counts.delivered
+    ∷ always_counted SentSegments step.counts.sent
+    ∷ always_counted AgainInRecovery step.counts.again_in_recovery
+    ∷ always_counted AgainOtherwise step.counts.again_otherwise
+    ∷ always_counted Timeouts step.counts.timeouts
     ∷ or_none Cwnd (option_map (λ (window : SenderWindow). window.cwnd) step.window)
     ∷ or_none InFlight (option_map (λ (window : SenderWindow). window.in_flight) step.window)
     ∷ []
@@ -37,14 +37,14 @@ flow_step_rows step =
 -- what is said of a link
 abbrev pub link_step_rows : LinkSummary → List Row
 link_step_rows link =
-    counted Busy link.busy
-    ∷ counted SentPackets link.sent
-    ∷ counted SentBytes link.bytes
-    ∷ counted Lost link.lost
-    ∷ counted Full link.full
-    ∷ counted Codel link.codel
-    ∷ counted Waited link.waited
-    ∷ counted GreatestQueue link.longest
+    always_counted Busy link.busy
+    ∷ always_counted SentPackets link.sent
+    ∷ always_counted SentBytes link.bytes
+    ∷ always_counted Lost link.lost
+    ∷ always_counted Full link.full
+    ∷ always_counted Codel link.codel
+    ∷ always_counted Waited link.waited
+    ∷ always_counted GreatestQueue link.longest
     ∷ or_none MedianDelay link.median
     ∷ []
 

@@ -78,12 +78,12 @@ pub record HasComeTo (p : ScenarioParts) (moment : ℕ) (s : State) : Type 0 whe
 abbrev pub IsGoingOn : ScenarioParts → ℕ → State → Type 0
 IsGoingOn p moment s = (due s ≢ None) ⊎ ((moment < p.end) × (sends_any s ≡ true))
 
-pub record GoesOn (p : ScenarioParts) (moment : ℕ) : Type 0 where
+pub record RunGoesOn (p : ScenarioParts) (moment : ℕ) : Type 0 where
   pub state : State
   pub come : HasComeTo p moment state
   pub going : IsGoingOn p moment state
 
-pub record IsOver (p : ScenarioParts) (moment : ℕ) : Type 0 where
+pub record RunIsOver (p : ScenarioParts) (moment : ℕ) : Type 0 where
   pub state : State
   pub come : HasComeTo p moment state
   pub over : ¬ IsGoingOn p moment state
@@ -99,7 +99,7 @@ span_of from every k = record { begin = begin_of from every k; until = begin_of 
 -- the rows of the first steps of a run from a moment on
 pub record AreSteps (column : Option TextNames) (p : ScenarioParts) (from every : ℕ) (steps : List (List ℕ)) : Type 0 where
   pub each : (k : ℕ) → k < length steps → AreRowsOf column p (span_of from every k) (slice_index_or steps k [])
-  pub on : (k : ℕ) → 0 < k → k < length steps → GoesOn p (begin_of from every k)
+  pub on : (k : ℕ) → 0 < k → k < length steps → RunGoesOn p (begin_of from every k)
 
 -- the heading, and the rows of the first steps; or nothing yet
 pub record IsSeriesBegun (column : Option TextNames) (p : ScenarioParts) (from every : ℕ) (bytes : List ℕ) : Type 0 where
@@ -114,4 +114,4 @@ IsSeriesStart column p from every bytes = (bytes ≡ []) ⊎ IsSeriesBegun colum
 pub record IsSeries (column : Option TextNames) (p : ScenarioParts) (from every : ℕ) (bytes : List ℕ) : Type 0 where
   pub begun : IsSeriesBegun column p from every bytes
   pub some : 0 < length begun.steps
-  pub over : IsOver p (begin_of from every (length begun.steps))
+  pub over : RunIsOver p (begin_of from every (length begun.steps))

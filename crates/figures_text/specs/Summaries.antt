@@ -12,10 +12,10 @@ use Rattle.table_run.specs.Flow.{received_next}
 use Rattle.net_machine.specs.Wiring.{from_of, exit_of}
 use Rattle.figures.specs.Classes.{least_of, greatest_of, percentile}
 use Rattle.figures.specs.Turns.{Turn}
-use Rattle.figures.specs.Senders.{sent_of, again_in_recovery_of, again_otherwise_of, timeouts_of, trips_of, completed_of}
+use Rattle.figures.specs.Senders.{sent_of_turns, again_in_recovery_of, again_otherwise_of, timeouts_of, trips_of, completed_of}
 use Rattle.figures.specs.Moments.{Moment, Base, moments, turns_at}
 use Rattle.figures.specs.Figures.{IsBase, NoneBefore}
-use Rattle.figures.specs.Links.{port_at, waiting_at, busy_at, dropped_of, tx_of, bytes_of, waited_of, busy_of, longest_of, waits_of, last_from}
+use Rattle.figures.specs.Links.{port_at, waiting_at, busy_at, dropped_of, tx_of, bytes_of_moments, waited_of, busy_of, longest_of, waits_of, last_from}
 use Rattle.figures_text.specs.declared.summary.FlowSummary.{FlowSummary}
 use Rattle.figures_text.specs.declared.summary.LinkSummary.{LinkSummary}
 use Rattle.figures_text.specs.declared.summary.RunSummary.{RunSummary}
@@ -27,7 +27,7 @@ summary_of_turns start delivered before ts = record {
   start = start;
   delivered = delivered;
   completed = completed_of (before ++ ts);
-  sent = sent_of ts;
+  sent = sent_of_turns ts;
   again_in_recovery = again_in_recovery_of ts;
   again_otherwise = again_otherwise_of ts;
   timeouts = timeouts_of ts;
@@ -50,7 +50,7 @@ summary_of_exit node index end b ms s = record {
   full = dropped_of Full node index ms;
   codel = dropped_of (Take Codel) node index ms;
   sent = tx_of node index ms;
-  bytes = bytes_of node index ms;
+  bytes = bytes_of_moments node index ms;
   busy = busy_of node index b.since ms + busy_at (port_at s node index) * (end - last_from b.since ms);
   longest = longest_of node index ms s;
   waited = waited_of node index b.since ms + waiting_at (port_at s node index) * (end - last_from b.since ms);

@@ -103,20 +103,20 @@ abbrev pub or_none : Figure → Option ℕ → Row
 or_none figure value = record { figure = figure; value = value }
 
 -- a figure that there always is
-abbrev pub counted : Figure → ℕ → Row
-counted figure n = or_none figure (Some n)
+abbrev pub always_counted : Figure → ℕ → Row
+always_counted figure n = or_none figure (Some n)
 
 -- what is said of a flow
 abbrev pub flow_rows : FlowSummary → List Row
 flow_rows flow =
-    counted Start flow.start
-    ∷ counted Delivered flow.delivered
+    always_counted Start flow.start
+    ∷ always_counted Delivered flow.delivered
     ∷ or_none Completed flow.completed
-    ∷ counted SentSegments flow.sent
-    ∷ counted AgainInRecovery flow.again_in_recovery
-    ∷ counted AgainOtherwise flow.again_otherwise
-    ∷ counted Timeouts flow.timeouts
-    ∷ counted RoundTrips flow.round_trips
+    ∷ always_counted SentSegments flow.sent
+    ∷ always_counted AgainInRecovery flow.again_in_recovery
+    ∷ always_counted AgainOtherwise flow.again_otherwise
+    ∷ always_counted Timeouts flow.timeouts
+    ∷ always_counted RoundTrips flow.round_trips
     ∷ or_none LeastTrip flow.least
     ∷ or_none MedianTrip flow.median
     ∷ or_none HighTrip flow.high
@@ -127,15 +127,15 @@ flow_rows flow =
 -- what is said of a link
 abbrev pub link_rows : LinkSummary → List Row
 link_rows link =
-    counted Offered link.offered
-    ∷ counted Lost link.lost
-    ∷ counted Full link.full
-    ∷ counted Codel link.codel
-    ∷ counted SentPackets link.sent
-    ∷ counted SentBytes link.bytes
-    ∷ counted Busy link.busy
-    ∷ counted GreatestQueue link.longest
-    ∷ counted Waited link.waited
+    always_counted Offered link.offered
+    ∷ always_counted Lost link.lost
+    ∷ always_counted Full link.full
+    ∷ always_counted Codel link.codel
+    ∷ always_counted SentPackets link.sent
+    ∷ always_counted SentBytes link.bytes
+    ∷ always_counted Busy link.busy
+    ∷ always_counted GreatestQueue link.longest
+    ∷ always_counted Waited link.waited
     ∷ or_none MedianDelay link.median
     ∷ or_none HighDelay link.high
     ∷ or_none HighestDelay link.highest
@@ -144,7 +144,7 @@ link_rows link =
 
 -- what is said of the run as a whole: its events, and when the last of them was
 abbrev pub run_rows : RunSummary → List Row
-run_rows run = counted Events run.events ∷ or_none End run.end ∷ []
+run_rows run = always_counted Events run.events ∷ or_none End run.end ∷ []
 
 -- the lines of a flow, with its number
 abbrev pub flow_lines : Option TextNames → ℕ × FlowSummary → List ℕ

@@ -1,7 +1,7 @@
 //! The table as a whole.
 ghost use Rattle.std.specs.Prelude.{◌≡◌, ◌++◌, OnOk, OnErr};
 ghost use Rattle.std.specs.List.{flat_map, enumerate_from};
-ghost use Rattle.figures_text.specs.Table.{counted, or_none, flow_rows, link_rows, run_rows, flow_lines, link_lines, rows_text, heading, heading_end, ending_of, table_of};
+ghost use Rattle.figures_text.specs.Table.{always_counted, or_none, flow_rows, link_rows, run_rows, flow_lines, link_lines, rows_text, heading, heading_end, ending_of, table_of};
 
 use crate::column::NameColumn;
 use crate::figure::Figure;
@@ -117,7 +117,7 @@ fn append_links(
 
 /// A figure that there always is.
 pub(crate) fn counted(figure: Figure, value: u128) -> Row
-    ensures { result ≡ counted figure value }
+    ensures { result ≡ always_counted figure value }
 {
     Row {
         figure,

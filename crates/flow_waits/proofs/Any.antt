@@ -9,8 +9,8 @@ use Rattle.std.specs.Ordering.{eq_by_cmp, is_eq}
 use Rattle.sim_time.specs.declared.key.Key.{Key}
 use Rattle.sim_time.specs.Keys.{key_cmp}
 use Rattle.sim_time.proofs.Order.{exact_keys}
-use Rattle.ranking.specs.Keyed.{IsInOrder}
-use Rattle.ranking.proofs.Maps.{not_some, same_some, is_equal, is_less, both_of, untied, tied}
+use Rattle.tournament.specs.Keyed.{IsInOrder}
+use Rattle.tournament.proofs.Maps.{not_some, same_some, is_equal, is_less, both_of, untied, tied}
 use Rattle.node_core.specs.declared.event.Event.{Event}
 use Rattle.node_core.specs.Pending.{Events}
 

@@ -20,7 +20,7 @@ use Rattle.node_core.specs.declared.event.Event.TheVariants.{Start, Rto, DelAck,
 use Rattle.node_core.specs.Part.{LinkState, PartState, link_at, no_link}
 use Rattle.node_core.specs.Row.{Effect}
 use Rattle.node_core.specs.TraceLine.{TraceLine}
-use Rattle.ranking.proofs.Maps.{same_some}
+use Rattle.tournament.proofs.Maps.{same_some}
 use Rattle.table_run.specs.State.{State, part_at, no_part, effect_of, stepped}
 use Rattle.table_run.specs.Sound.{IsSoundAt}
 use Rattle.table_run.proofs.Due.{IsDue, is_due}
@@ -32,7 +32,7 @@ use Rattle.table_run.proofs.Dispatch.{HasRow, has_row}
 use Rattle.table_run.proofs.Steps.{Kept, event_keeps}
 use Rattle.table_run.proofs.RunLaws.{sound_run}
 use Rattle.net_machine.specs.Run.{Reached, IsRun, Stepped}
-use Rattle.flow_waits.specs.Stalled.{sender_of, is_some_unfinished, waits_at, is_waiting, is_start_of, start_of, is_arrival_of, is_under_way, is_stalled, becomes_stalled, is_drop_of, may_stall, is_stalled_by_drop, some_stalls}
+use Rattle.flow_waits.specs.Stalled.{sender_of, is_some_unfinished, waits_at, is_waiting, is_start_of, start_due, is_arrival_of, is_under_way, is_stalled, becomes_stalled, is_drop_of, may_stall, is_stalled_by_drop, some_stalls}
 use Rattle.flow_waits.specs.Laws.{StallsAreFound}
 use Rattle.trace_text.specs.DumpParts.{has_waiting}
 use Rattle.flow_waits.proofs.Any.{any_place, any_at, any_pends, pends_any}
@@ -41,10 +41,10 @@ use Rattle.flow_waits.proofs.Waiting.{is_of, Holds, WaitsAt, IdleEmpty, AfterRow
 use Rattle.flow_waits.proofs.Pending.{arrival_stays, start_stays, leaving_pends}
 
 -- the start of a flow is pending where it is among what is pending
-any_start : (flow : ℕ) (es : List (Key × Event)) → is_none (start_of flow es) ≡ not (list_any (λ (entry : Key × Event). is_start_of flow entry.1) es)
+any_start : (flow : ℕ) (es : List (Key × Event)) → is_none (start_due flow es) ≡ not (list_any (λ (entry : Key × Event). is_start_of flow entry.1) es)
 any_start flow [] = refl
 any_start flow (e ∷ es) =
-    elim (is_start_of flow e.1) as (λ b. is_none (if b then Some e.0.time else start_of flow es) ≡ not (b || list_any (λ (entry : Key × Event). is_start_of flow entry.1) es)) [ true ↦ refl | false ↦ any_start flow es ]
+    elim (is_start_of flow e.1) as (λ b. is_none (if b then Some e.0.time else start_due flow es) ≡ not (b || list_any (λ (entry : Key × Event). is_start_of flow entry.1) es)) [ true ↦ refl | false ↦ any_start flow es ]
 
 started_not : (b : Bool) → not b ≡ false → b ≡ true
 started_not true e = refl
@@ -150,7 +150,7 @@ module _ (p : ScenarioParts) (is_scenario : IsScenario p) (lines : List TraceLin
       of_arrival (Free link) e = absurd (true≢false (sym e))
       of_arrival (Arrive x) e = (x, refl, e)
 
-  starts_on : may_stall flow v effect.acts ≡ false → is_none (start_of flow (map.entries s.pending)) ≡ false → is_none (start_of flow (map.entries t.pending)) ≡ false
+  starts_on : may_stall flow v effect.acts ≡ false → is_none (start_due flow (map.entries s.pending)) ≡ false → is_none (start_due flow (map.entries t.pending)) ≡ false
   starts_on not_own e =
       let at = any_pends (is_start_of flow) s.pending (started_not _ (sym (any_start flow (map.entries s.pending)) ∙ e)) in
       let here : map.get s.pending at.key ≡ Some (Start flow) = at.there ∙ ap (λ (w : Event). Some w) (of_start at.event at.passes) in
@@ -206,8 +206,8 @@ module _ (p : ScenarioParts) (is_scenario : IsScenario p) (lines : List TraceLin
   -- by another event no flow becomes stalled
   not_stalled_on : may_stall flow v effect.acts ≡ false → is_stalled flow s ≡ false → is_stalled flow t ≡ false
   not_stalled_on not_own =
-      by_facts (is_some_unfinished (sender_of flow s.parts)) (is_waiting flow s.parts) (is_none (start_of flow (map.entries s.pending))) (is_under_way flow (map.entries s.pending))
-      (is_some_unfinished (sender_of flow t.parts)) (is_waiting flow t.parts) (is_none (start_of flow (map.entries t.pending))) (is_under_way flow (map.entries t.pending))
+      by_facts (is_some_unfinished (sender_of flow s.parts)) (is_waiting flow s.parts) (is_none (start_due flow (map.entries s.pending))) (is_under_way flow (map.entries s.pending))
+      (is_some_unfinished (sender_of flow t.parts)) (is_waiting flow t.parts) (is_none (start_due flow (map.entries t.pending))) (is_under_way flow (map.entries t.pending))
       finished_on (waits_or_comes not_own) (starts_on not_own) (comes_on not_own)
 
   -- a link that drops a packet of the flow had it waiting
@@ -225,15 +225,15 @@ module _ (p : ScenarioParts) (is_scenario : IsScenario p) (lines : List TraceLin
     where
       by : (w : Event) → v ≡ w → may_stall flow w (effect_of s (k, v)).acts ≡ true → is_stalled flow s ≡ false
       by (Start own) is e =
-          one_starts (is_some_unfinished (sender_of flow s.parts)) (is_waiting flow s.parts) (is_none (start_of flow (map.entries s.pending))) (is_under_way flow (map.entries s.pending))
+          one_starts (is_some_unfinished (sender_of flow s.parts)) (is_waiting flow s.parts) (is_none (start_due flow (map.entries s.pending))) (is_under_way flow (map.entries s.pending))
           (any_start flow (map.entries s.pending) ∙ ap not (pends_any (is_start_of flow) s.pending k (Start own) (due.pending ∙ ap (λ (w : Event). Some w) is) e))
       by (Rto own) is e = absurd (true≢false (sym e))
       by (DelAck own) is e = absurd (true≢false (sym e))
       by (Free link) is e =
-          one_waits (is_some_unfinished (sender_of flow s.parts)) (is_waiting flow s.parts) (is_none (start_of flow (map.entries s.pending))) (is_under_way flow (map.entries s.pending))
+          one_waits (is_some_unfinished (sender_of flow s.parts)) (is_waiting flow s.parts) (is_none (start_due flow (map.entries s.pending))) (is_under_way flow (map.entries s.pending))
           (drop_waits (k.number - 3) (sym (ap (λ (w : Event). list_any (is_drop_of flow) (effect_of s (k, w)).acts) is) ∙ e))
       by (Arrive x) is e =
-          one_comes (is_some_unfinished (sender_of flow s.parts)) (is_waiting flow s.parts) (is_none (start_of flow (map.entries s.pending))) (is_under_way flow (map.entries s.pending))
+          one_comes (is_some_unfinished (sender_of flow s.parts)) (is_waiting flow s.parts) (is_none (start_due flow (map.entries s.pending))) (is_under_way flow (map.entries s.pending))
           (pends_any (is_arrival_of flow) s.pending k (Arrive x) (due.pending ∙ ap (λ (w : Event). Some w) is) e)
 
   found_here : becomes_stalled flow s t ≡ (may_stall flow v effect.acts && is_stalled flow t)
@@ -267,7 +267,7 @@ arrival_on before after line q x is stepped_to there other =
 -- a flow with a packet under way is not stalled
 pub moving : (flow : ℕ) (state : State) (q : Key) (x : Packet) → map.get state.pending q ≡ Some (Arrive x) → (x.flow == flow) ≡ true → is_stalled flow state ≡ false
 moving flow state q x there its =
-    one_comes (is_some_unfinished (sender_of flow state.parts)) (is_waiting flow state.parts) (is_none (start_of flow (map.entries state.pending))) (is_under_way flow (map.entries state.pending))
+    one_comes (is_some_unfinished (sender_of flow state.parts)) (is_waiting flow state.parts) (is_none (start_due flow (map.entries state.pending))) (is_under_way flow (map.entries state.pending))
     (pends_any (is_arrival_of flow) state.pending q (Arrive x) there its)
 
 -- the same of a net and the net after a step

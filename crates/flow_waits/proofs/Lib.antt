@@ -1,5 +1,5 @@
 mod Appended
-mod Told
+mod Reported
 pub mod Any
 pub mod Waiting
 mod Totals

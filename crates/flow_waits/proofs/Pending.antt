@@ -7,17 +7,17 @@ use Rattle.packet_chain.specs.declared.packet.Packet.{Packet}
 use Rattle.scenario_image.specs.declared.parts.ScenarioParts.{ScenarioParts}
 use Rattle.scenario_image.specs.Scenario.{IsScenario}
 use Rattle.port.specs.Port.{Departure}
-use Rattle.node_core.specs.declared.alarm.Alarm.{Alarm}
-use Rattle.node_core.specs.declared.alarm.Alarm.TheVariants.{Free as BecomesFree}
+use Rattle.node_core.specs.declared.timer.Timer.{Timer}
+use Rattle.node_core.specs.declared.timer.Timer.TheVariants.{Free as BecomesFree}
 use Rattle.node_core.specs.declared.event.Event.{Event}
 use Rattle.node_core.specs.declared.event.Event.TheVariants.{Start, Free, Arrive}
-use Rattle.node_core.specs.Alarms.{alarm_key, alarm_number}
+use Rattle.node_core.specs.Timers.{timer_key, timer_number}
 use Rattle.node_core.specs.Part.{LinkState, link_at}
-use Rattle.node_core.specs.Pending.{Events, Change}
+use Rattle.node_core.specs.Pending.{Events, EventChange}
 use Rattle.node_core.specs.TraceLine.{TraceLine}
 use Rattle.node_core.specs.Row.{Effect, Leaving, home_changes, sent_away, arrives, changes_of}
-use Rattle.ranking.specs.Keyed.{apply}
-use Rattle.ranking.proofs.Maps.{not_some, get_here, get_other}
+use Rattle.tournament.specs.Keyed.{apply}
+use Rattle.tournament.proofs.Maps.{not_some, get_here, get_other}
 use Rattle.table_run.specs.State.{State, part_at, stepped}
 use Rattle.table_run.specs.Sound.{IsSoundAt}
 use Rattle.table_run.proofs.Due.{IsDue}
@@ -27,34 +27,34 @@ use Rattle.table_run.proofs.Rows.{IsRow}
 use Rattle.table_run.proofs.KeptEvents.{behind}
 
 -- what holds of the key of each change of a row
-each_key : (P : Key → Type 0) (node : ℕ) (alarm : Alarm) (event : Event) (old new : Option ℕ) (links : List LinkState) (index : ℕ) (departure : Option Departure)
-    → ((time : ℕ) → P (alarm_key node alarm time)) → ((time : ℕ) → P (alarm_key node (BecomesFree index) time)) → ((d : Departure) → departure ≡ Some d → P (coming links index d))
-    → AllByRecursion (λ (c : Change). P c.0) (row_changes node alarm event old new links index departure)
-each_key P node alarm event None None links index None a b c = tt
-each_key P node alarm event None None links index (Some d) a b c = (b d.free, (c d refl, tt))
-each_key P node alarm event None (Some u) links index None a b c = (a u, tt)
-each_key P node alarm event None (Some u) links index (Some d) a b c = (a u, (b d.free, (c d refl, tt)))
-each_key P node alarm event (Some x) None links index None a b c = (a x, tt)
-each_key P node alarm event (Some x) None links index (Some d) a b c = (a x, (b d.free, (c d refl, tt)))
-each_key P node alarm event (Some x) (Some u) links index None a b c = (a x, (a u, tt))
-each_key P node alarm event (Some x) (Some u) links index (Some d) a b c = (a x, (a u, (b d.free, (c d refl, tt))))
+each_key : (P : Key → Type 0) (node : ℕ) (timer : Timer) (event : Event) (old new : Option ℕ) (links : List LinkState) (index : ℕ) (departure : Option Departure)
+    → ((time : ℕ) → P (timer_key node timer time)) → ((time : ℕ) → P (timer_key node (BecomesFree index) time)) → ((d : Departure) → departure ≡ Some d → P (coming links index d))
+    → AllByRecursion (λ (c : EventChange). P c.0) (row_changes node timer event old new links index departure)
+each_key P node timer event None None links index None a b c = tt
+each_key P node timer event None None links index (Some d) a b c = (b d.free, (c d refl, tt))
+each_key P node timer event None (Some u) links index None a b c = (a u, tt)
+each_key P node timer event None (Some u) links index (Some d) a b c = (a u, (b d.free, (c d refl, tt)))
+each_key P node timer event (Some x) None links index None a b c = (a x, tt)
+each_key P node timer event (Some x) None links index (Some d) a b c = (a x, (b d.free, (c d refl, tt)))
+each_key P node timer event (Some x) (Some u) links index None a b c = (a x, (a u, tt))
+each_key P node timer event (Some x) (Some u) links index (Some d) a b c = (a x, (a u, (b d.free, (c d refl, tt))))
 
 module _ (p : ScenarioParts) (is_scenario : IsScenario p) (lines : List TraceLine) (now : ℕ) (s t : State) (k : Key) (v : Event) (r : Shape) (S : IsSoundAt p lines now s) (due : IsDue s k v) (nodes : k.node < length p.nodes) (M : IsMoved s k r t) (R : IsRow p s k v r t) where
   -- an event under a key that no change is under
-  stays : (q : Key) (w : Event) → map.get s.pending q ≡ Some w → q ≢ k → ((time : ℕ) → q ≢ alarm_key k.node r.alarm time) → ((time : ℕ) → q ≢ alarm_key k.node (BecomesFree r.index) time)
+  stays : (q : Key) (w : Event) → map.get s.pending q ≡ Some w → q ≢ k → ((time : ℕ) → q ≢ timer_key k.node r.timer time) → ((time : ℕ) → q ≢ timer_key k.node (BecomesFree r.index) time)
       → ((d : Departure) → r.step.departure ≡ Some d → q ≢ coming (part_at t k.node).links r.index d) → map.get t.pending q ≡ Some w
   stays q w there other a b c =
       let links = (part_at t k.node).links in
       ap (λ (m : Events). map.get m q) M.pending_is
-      ∙ applied_elsewhere q (row_changes k.node r.alarm r.event r.old r.new links r.index r.step.departure) (map.remove s.pending k)
-      (each_key (λ key. q ≢ key) k.node r.alarm r.event r.old r.new links r.index r.step.departure a b c)
+      ∙ applied_elsewhere q (row_changes k.node r.timer r.event r.old r.new links r.index r.step.departure) (map.remove s.pending k)
+      (each_key (λ key. q ≢ key) k.node r.timer r.event r.old r.new links r.index r.step.departure a b c)
       ∙ get_other s.pending k None q other ∙ there
 
   pub arrival_stays : (q : Key) (x : Packet) → map.get s.pending q ≡ Some (Arrive x) → q ≢ k → map.get t.pending q ≡ Some (Arrive x)
   arrival_stays q x there other =
       let over = (S.belongs q (Arrive x) there).comes_over in
-      let no_alarm : (number : ℕ) → q.source ≡ 0 → ⊥ = λ number zero. omega (arith, over, zero) in
-      stays q (Arrive x) there other (λ time same. no_alarm 0 (ap (λ (j : Key). j.source) same)) (λ time same. no_alarm 0 (ap (λ (j : Key). j.source) same))
+      let no_timer : (number : ℕ) → q.source ≡ 0 → ⊥ = λ number zero. omega (arith, over, zero) in
+      stays q (Arrive x) there other (λ time same. no_timer 0 (ap (λ (j : Key). j.source) same)) (λ time same. no_timer 0 (ap (λ (j : Key). j.source) same))
       (λ d is same.
       let before = (behind p is_scenario lines now s t k v r S due nodes M R d is q x there (ap (λ (j : Key). j.source) same)).0 in
       let number = ap (λ (j : Key). j.number) same in
@@ -66,7 +66,7 @@ module _ (p : ScenarioParts) (is_scenario : IsScenario p) (lines : List TraceLin
       let source : q.source ≡ 0 = ap (λ (j : Key). j.source) key in
       let number : q.number ≡ 0 = ap (λ (j : Key). j.number) key in
       stays q (Start flow) there other
-      (λ time same. let its : q.number ≡ alarm_number r.alarm = ap (λ (j : Key). j.number) same in let least = R.alarm_least in omega (arith, its, number, least))
+      (λ time same. let its : q.number ≡ timer_number r.timer = ap (λ (j : Key). j.number) same in let least = R.timer_least in omega (arith, its, number, least))
       (λ time same. let its : q.number ≡ 3 + r.index = ap (λ (j : Key). j.number) same in omega (arith, its, number))
       (λ d is same. let its : q.source ≡ (link_at (part_at t k.node).links r.index).port.link + 1 = ap (λ (j : Key). j.source) same in omega (arith, its, source))
 

@@ -20,13 +20,13 @@ use Rattle.port.specs.declared.acts.Act.{Act}
 use Rattle.port.specs.Losses.{is_lost}
 use Rattle.port.specs.Port.{PortState, PortStep, Departure, begun, dropped_for, taken, only, with_packet, entered, offered_one, offered_all}
 use Rattle.reno_sender.specs.declared.fields.SenderFields.{SenderFields}
-use Rattle.reno_receiver.specs.Received.{ReceiverState, alarm_came}
+use Rattle.reno_receiver.specs.Received.{ReceiverState, timer_came}
 use Rattle.node_core.specs.declared.event.Event.{Event}
 use Rattle.node_core.specs.declared.event.Event.TheVariants.{Start, Rto, DelAck, Free, Arrive}
 use Rattle.node_core.specs.declared.role.Role.{Role}
 use Rattle.node_core.specs.declared.role.Role.TheVariants.{Sends, Receives, Routes}
 use Rattle.node_core.specs.Part.{LinkState, PartState, link_at, no_link}
-use Rattle.node_core.specs.Pending.{Change}
+use Rattle.node_core.specs.Pending.{EventChange}
 use Rattle.node_core.specs.RouteTable.{exit_for}
 use Rattle.node_core.specs.Row.{Effect, Leaving, leaving_over, with_step, quiet, ack_of, row, start_row, rto_row, delack_row, arrival_row, at_sender, at_receiver, passed_on}
 use Rattle.flow_waits.specs.Stalled.{is_drop_of, may_stall}
@@ -86,8 +86,8 @@ module _ (flow now : ℕ) where
   same_queue port None = refl
   same_queue port (Some head) = refl
 
-  drops_told : (link : ℕ) (reason : TakeDrop) (cells : List Stamped) → list_any (is_drop_of flow) (each (dropped_for link reason) cells) ≡ list_any (is_of flow) cells
-  drops_told link reason cells = any_each (is_drop_of flow) (dropped_for link reason) cells
+  drops_reported : (link : ℕ) (reason : TakeDrop) (cells : List Stamped) → list_any (is_drop_of flow) (each (dropped_for link reason) cells) ≡ list_any (is_of flow) cells
+  drops_reported link reason cells = any_each (is_drop_of flow) (dropped_for link reason) cells
 
   -- what waits before a take waits still, is sent, or is dropped
   pub data AfterTake (step : PortStep) : Type 0 where
@@ -104,7 +104,7 @@ module _ (flow now : ℕ) where
       (λ (front : list_any (is_of flow) (t.dropped ++ listed t.given) ≡ true).
       ⊎_elim
       (λ (out : list_any (is_of flow) t.dropped ≡ true).
-      dropped (any_left (is_drop_of flow) (each (dropped_for port.link (take_reason port.queue)) t.dropped) (begun now rest t.given).acts (drops_told port.link (take_reason port.queue) t.dropped ∙ out)))
+      dropped (any_left (is_drop_of flow) (each (dropped_for port.link (take_reason port.queue)) t.dropped) (begun now rest t.given).acts (drops_reported port.link (take_reason port.queue) t.dropped ∙ out)))
       (λ (on : list_any (is_of flow) (listed t.given) ≡ true). leaves (given_departs rest t.given on))
       (any_append (is_of flow) t.dropped (listed t.given) front))
       (λ (back : list_any (is_of flow) (waiting_in t.queue) ≡ true). waits (ap (λ q. list_any (is_of flow) (waiting_in q)) (same_queue rest t.given) ∙ back))
@@ -122,7 +122,7 @@ module _ (flow now : ℕ) where
       ⊎_elim
       (λ (out : list_any (is_drop_of flow) (each (dropped_for port.link (take_reason port.queue)) t.dropped) ≡ true).
       ap (list_any (is_of flow)) (sym (takes_the_front port.queue now))
-      ∙ any_left (is_of flow) (t.dropped ++ listed t.given) (waiting_in t.queue) (any_left (is_of flow) t.dropped (listed t.given) (sym (drops_told port.link (take_reason port.queue) t.dropped) ∙ out)))
+      ∙ any_left (is_of flow) (t.dropped ++ listed t.given) (waiting_in t.queue) (any_left (is_of flow) t.dropped (listed t.given) (sym (drops_reported port.link (take_reason port.queue) t.dropped) ∙ out)))
       (λ (sent : list_any (is_drop_of flow) (begun now rest t.given).acts ≡ true). absurd (none_sent rest t.given sent))
       (any_append (is_drop_of flow) (each (dropped_for port.link (take_reason port.queue)) t.dropped) (begun now rest t.given).acts e)
 
@@ -146,41 +146,41 @@ IdleEmpty part = (index : ℕ) → index < length part.links → (link_at part.l
 
 module _ (flow : ℕ) (part : PartState) (index : ℕ) (W : WaitsAt flow part index) where
   -- a step at some link of the node
-  at_link : (event : Event) (role : Role) (timers : List Change) (i : ℕ) (step : PortStep)
-      → (index ≡ i → AfterRow flow event index (with_step part role timers i step)) → AfterRow flow event index (with_step part role timers i step)
-  at_link event role timers i step here =
+  at_link : (event : Event) (role : Role) (rto_timers : List EventChange) (i : ℕ) (step : PortStep)
+      → (index ≡ i → AfterRow flow event index (with_step part role rto_timers i step)) → AfterRow flow event index (with_step part role rto_timers i step)
+  at_link event role rto_timers i step here =
       ⊎_elim here
       (λ (other : index ≢ i). waits_on (ap (λ (l : LinkState). list_any (is_of flow) (waiting_in l.port.queue)) (get_or-set_other part.links i index (record (link_at part.links i) { port = step.port }) no_link other) ∙ W.holds))
       (cases_eq index i)
 
   -- the link there has this port afterwards
-  port_after : (role : Role) (timers : List Change) (i : ℕ) (step : PortStep) → index ≡ i → Holds flow step.port.queue → Holds flow (link_at (with_step part role timers i step).part.links index).port.queue
-  port_after role timers i step same holds =
-      ap (λ n. list_any (is_of flow) (waiting_in (link_at (with_step part role timers i step).part.links n).port.queue)) same
+  port_after : (role : Role) (rto_timers : List EventChange) (i : ℕ) (step : PortStep) → index ≡ i → Holds flow step.port.queue → Holds flow (link_at (with_step part role rto_timers i step).part.links index).port.queue
+  port_after role rto_timers i step same holds =
+      ap (λ n. list_any (is_of flow) (waiting_in (link_at (with_step part role rto_timers i step).part.links n).port.queue)) same
       ∙ ap (λ (l : LinkState). list_any (is_of flow) (waiting_in l.port.queue)) (get_or-set_same part.links i (record (link_at part.links i) { port = step.port }) no_link (subst (λ n. n < length part.links) same W.within)) ∙ holds
 
   holds_there : (i : ℕ) → index ≡ i → Holds flow (link_at part.links i).port.queue
   holds_there i same = subst (λ n. Holds flow (link_at part.links n).port.queue) same W.holds
 
   -- packets are offered
-  pub offers_keep : IdleEmpty part → (event : Event) (role : Role) (timers : List Change) (now i : ℕ) (step : PortStep)
-      → ((u : ℕ) → (link_at part.links i).port.next_free ≡ Some u → Holds flow (link_at part.links i).port.queue → StaysBusy flow now u step) → AfterRow flow event index (with_step part role timers i step)
-  offers_keep idle event role timers now i step busy =
-      at_link event role timers i step (λ same. by_free same (link_at part.links i).port.next_free refl)
+  pub offers_keep : IdleEmpty part → (event : Event) (role : Role) (rto_timers : List EventChange) (now i : ℕ) (step : PortStep)
+      → ((u : ℕ) → (link_at part.links i).port.next_free ≡ Some u → Holds flow (link_at part.links i).port.queue → StaysBusy flow now u step) → AfterRow flow event index (with_step part role rto_timers i step)
+  offers_keep idle event role rto_timers now i step busy =
+      at_link event role rto_timers i step (λ same. by_free same (link_at part.links i).port.next_free refl)
     where
-      by_free : index ≡ i → (o : Option ℕ) → (link_at part.links i).port.next_free ≡ o → AfterRow flow event index (with_step part role timers i step)
+      by_free : index ≡ i → (o : Option ℕ) → (link_at part.links i).port.next_free ≡ o → AfterRow flow event index (with_step part role rto_timers i step)
       by_free same None e =
           let none = idle i (subst (λ n. n < length part.links) same W.within) e in
           absurd (true≢false (sym (holds_there i same) ∙ ap (list_any (is_of flow)) none))
-      by_free same (Some u) e = waits_on (port_after role timers i step same (busy u e (holds_there i same)).holds)
+      by_free same (Some u) e = waits_on (port_after role rto_timers i step same (busy u e (holds_there i same)).holds)
 
-  all_keep : IdleEmpty part → (event : Event) (role : Role) (timers : List Change) (now i : ℕ) (packets : List Packet) → AfterRow flow event index (with_step part role timers i (offered_all now (link_at part.links i).port packets))
-  all_keep idle event role timers now i packets = offers_keep idle event role timers now i (offered_all now (link_at part.links i).port packets) (λ u. all_busy flow now u (link_at part.links i).port packets)
+  all_keep : IdleEmpty part → (event : Event) (role : Role) (rto_timers : List EventChange) (now i : ℕ) (packets : List Packet) → AfterRow flow event index (with_step part role rto_timers i (offered_all now (link_at part.links i).port packets))
+  all_keep idle event role rto_timers now i packets = offers_keep idle event role rto_timers now i (offered_all now (link_at part.links i).port packets) (λ u. all_busy flow now u (link_at part.links i).port packets)
 
   -- a link takes
-  pub take_keeps_row : (link : ℕ) (role : Role) (timers : List Change) (now i : ℕ) → AfterRow flow (Free link) index (with_step part role timers i (taken now (link_at part.links i).port))
-  take_keeps_row link role timers now i =
-      at_link (Free link) role timers i step (λ same. by_fate same (take_keeps flow now (link_at part.links i).port (holds_there i same)))
+  pub take_keeps_row : (link : ℕ) (role : Role) (rto_timers : List EventChange) (now i : ℕ) → AfterRow flow (Free link) index (with_step part role rto_timers i (taken now (link_at part.links i).port))
+  take_keeps_row link role rto_timers now i =
+      at_link (Free link) role rto_timers i step (λ same. by_fate same (take_keeps flow now (link_at part.links i).port (holds_there i same)))
     where
       step : PortStep
       step = taken now (link_at part.links i).port
@@ -188,8 +188,8 @@ module _ (flow : ℕ) (part : PartState) (index : ℕ) (W : WaitsAt flow part in
       leaves_over : (o : Option Departure) → Departs flow o → (l : Leaving) × (leaving_over i o ≡ Some l) × ((l.departure.packet.flow == flow) ≡ true)
       leaves_over o (d, is, its) = (record { index = i; departure = d }, ap (leaving_over i) is, its)
 
-      by_fate : index ≡ i → AfterTake flow now step → AfterRow flow (Free link) index (with_step part role timers i step)
-      by_fate same (waits holds) = waits_on (port_after role timers i step same holds)
+      by_fate : index ≡ i → AfterTake flow now step → AfterRow flow (Free link) index (with_step part role rto_timers i step)
+      by_fate same (waits holds) = waits_on (port_after role rto_timers i step same holds)
       by_fate same (leaves on) = goes (leaves_over step.departure on)
       by_fate same (dropped out) = is_dropped out
 
@@ -209,7 +209,7 @@ module _ (flow : ℕ) (part : PartState) (index : ℕ) (W : WaitsAt flow part in
 
     answers : (own : ℕ) (ρ : Role) → AfterRow flow (DelAck own) index (delack_row part ρ key)
     answers own (Sends n f) = stays_quiet (DelAck own)
-    answers own (Receives n b) = all_keep idle (DelAck own) _ _ key.time 0 (ack_of n (alarm_came b).reply)
+    answers own (Receives n b) = all_keep idle (DelAck own) _ _ key.time 0 (ack_of n (timer_came b).reply)
     answers own (Routes table) = stays_quiet (DelAck own)
 
     to_sender : (x : Packet) (n : ℕ) (f : SenderFields) (c : Kind) → AfterRow flow (Arrive x) index (at_sender part key n f c x.number)

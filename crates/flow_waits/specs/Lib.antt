@@ -1,4 +1,4 @@
 pub mod Stalled
-pub mod Standing
+pub mod FlowStatus
 pub mod Waits
 pub mod Laws

@@ -54,9 +54,9 @@ is_start_of flow (Free link) = false
 is_start_of flow (Arrive packet) = false
 
 -- when a flow starts, in nanoseconds, where that is still to come
-abbrev pub start_of : ℕ → List (Key × Event) → Option ℕ
-start_of flow [] = None
-start_of flow (entry ∷ pending) = if is_start_of flow entry.1 then Some entry.0.time else start_of flow pending
+abbrev pub start_due : ℕ → List (Key × Event) → Option ℕ
+start_due flow [] = None
+start_due flow (entry ∷ pending) = if is_start_of flow entry.1 then Some entry.0.time else start_due flow pending
 
 -- an event is the arrival of a packet of a flow
 abbrev pub is_arrival_of : ℕ → Event → Bool
@@ -80,9 +80,9 @@ may_be_stalled flow parts = is_some_unfinished (sender_of flow parts) && not (is
 
 -- as the pending events have it: the flow was started, and no packet of it is under way
 abbrev pub is_left_alone : ℕ → List (Key × Event) → Bool
-is_left_alone flow pending = is_none (start_of flow pending) && not (is_under_way flow pending)
+is_left_alone flow pending = is_none (start_due flow pending) && not (is_under_way flow pending)
 
--- a flow is stalled where all four hold: at most an alarm of its own goes on with it
+-- a flow is stalled where all four hold: at most a timer of its own goes on with it
 abbrev pub is_stalled : ℕ → State → Bool
 is_stalled flow state = may_be_stalled flow state.parts && is_left_alone flow (map.entries state.pending)
 

@@ -1,4 +1,4 @@
--- What a flow waits for in a state of a net: how it stands, where its packets are, and its alarms.
+-- What a flow waits for in a state of a net: how it stands, where its packets are, and its timers.
 use Rattle.std.specs.Prelude.{ℕ, ◌==◌, Bool, if◌then◌else◌, List, [], ◌∷◌, ◌++◌, codes, Option, None, Some}
 use Rattle.std.specs.List.{flat_map, enumerate_from}
 use Rattle.std.specs.FinMap as map
@@ -13,20 +13,20 @@ use Rattle.node_core.specs.Part.{LinkState, PartState}
 use Rattle.table_run.specs.State.{State}
 use Rattle.trace_text.specs.Line.{kind_name}
 use Rattle.trace_text.specs.Dump.{links_in_order}
-use Rattle.flow_waits.specs.declared.alarm.FlowAlarm.{FlowAlarm}
-use Rattle.flow_waits.specs.declared.alarm.FlowAlarm.TheVariants.{Starts, Retransmission, DelayedAcknowledgement}
-use Rattle.flow_waits.specs.Stalled.{sender_of, start_of, has_packets}
-use Rattle.flow_waits.specs.Standing.{numbered, between, own_alarm, first_alarm, standing_of, standing_text}
+use Rattle.flow_waits.specs.declared.timer.FlowTimer.{FlowTimer}
+use Rattle.flow_waits.specs.declared.timer.FlowTimer.TheVariants.{Starts, Retransmission, DelayedAcknowledgement}
+use Rattle.flow_waits.specs.Stalled.{sender_of, start_due, has_packets}
+use Rattle.flow_waits.specs.FlowStatus.{numbered, between, own_timer, first_timer, flow_status_of, flow_status_text}
 
 -- the first line; none where no node sends the flow
 abbrev pub sender_line : ℕ → Option ℕ → Bool → List (Key × Event) → Option SenderFields → List ℕ
 sender_line flow start packets pending None = []
 sender_line flow start packets pending (Some f) =
-    numbered (codes "flow ") flow ++ standing_text f (first_alarm flow pending) (standing_of start packets f)
+    numbered (codes "flow ") flow ++ flow_status_text f (first_timer flow pending) (flow_status_of start packets f)
 
-abbrev pub standing_line : ℕ → List PartState → List (Key × Event) → List ℕ
-standing_line flow parts pending =
-    sender_line flow (start_of flow pending) (has_packets flow parts pending) pending (sender_of flow parts)
+abbrev pub flow_status_line : ℕ → List PartState → List (Key × Event) → List ℕ
+flow_status_line flow parts pending =
+    sender_line flow (start_due flow pending) (has_packets flow parts pending) pending (sender_of flow parts)
 
 -- a packet, behind a comma and a space: what it carries, and its number
 abbrev pub next_packet : Packet → List ℕ
@@ -40,8 +40,8 @@ waiting_one flow link placed =
     else []
 
 -- those of a link, from the head of its queue on, which is place 1
-abbrev pub waiting_at : ℕ → LinkState → List ℕ
-waiting_at flow link = flat_map (waiting_one flow link.port.link) (enumerate_from 1 (waiting_in link.port.queue))
+abbrev pub places_waiting_at : ℕ → LinkState → List ℕ
+places_waiting_at flow link = flat_map (waiting_one flow link.port.link) (enumerate_from 1 (waiting_in link.port.queue))
 
 -- a packet of the flow that is under way, with the node and the moment at which it arrives
 abbrev pub arriving : ℕ → Key → Packet → List ℕ
@@ -57,15 +57,15 @@ under_way_one flow key (DelAck own) = []
 under_way_one flow key (Free link) = []
 under_way_one flow key (Arrive packet) = arriving flow key packet
 
--- an alarm, behind a comma and a space
-abbrev pub next_alarm : FlowAlarm → List ℕ
-next_alarm Starts = codes ", start at "
-next_alarm Retransmission = codes ", rto at "
-next_alarm DelayedAcknowledgement = codes ", delack at "
+-- a timer, behind a comma and a space
+abbrev pub next_timer : FlowTimer → List ℕ
+next_timer Starts = codes ", start at "
+next_timer Retransmission = codes ", rto at "
+next_timer DelayedAcknowledgement = codes ", delack at "
 
-abbrev pub alarm_one : ℕ → Option FlowAlarm → List ℕ
-alarm_one time None = []
-alarm_one time (Some alarm) = between (next_alarm alarm) time (codes " ns")
+abbrev pub timer_one : ℕ → Option FlowTimer → List ℕ
+timer_one time None = []
+timer_one time (Some timer) = between (next_timer timer) time (codes " ns")
 
 -- a line of texts, each behind a comma and a space but the first; no line where there is no text
 abbrev pub list_line : List ℕ → List ℕ → List ℕ
@@ -75,22 +75,22 @@ list_line heading (comma ∷ space ∷ texts) = heading ++ texts ++ codes "\n"
 
 -- the flow's packets that wait, link by link in rising number
 abbrev pub waiting_line : ℕ → List PartState → List ℕ
-waiting_line flow parts = list_line (codes "waits: ") (flat_map (waiting_at flow) (links_in_order parts))
+waiting_line flow parts = list_line (codes "waits: ") (flat_map (places_waiting_at flow) (links_in_order parts))
 
 -- the flow's packets under way, in the order of the keys of their arrivals
 abbrev pub under_way_line : ℕ → List (Key × Event) → List ℕ
 under_way_line flow pending =
     list_line (codes "under way: ") (flat_map (λ (entry : Key × Event). under_way_one flow entry.0 entry.1) pending)
 
--- the flow's alarms, in the order of their keys
-abbrev pub alarms_line : ℕ → List (Key × Event) → List ℕ
-alarms_line flow pending =
-    list_line (codes "alarms: ") (flat_map (λ (entry : Key × Event). alarm_one entry.0.time (own_alarm flow entry.1)) pending)
+-- the flow's timers, in the order of their keys
+abbrev pub timers_line : ℕ → List (Key × Event) → List ℕ
+timers_line flow pending =
+    list_line (codes "alarms: ") (flat_map (λ (entry : Key × Event). timer_one entry.0.time (own_timer flow entry.1)) pending)
 
 -- of the nodes, and what is pending in the order of keys
 abbrev pub waits_in : ℕ → List PartState → List (Key × Event) → List ℕ
 waits_in flow parts pending =
-    standing_line flow parts pending ++ waiting_line flow parts ++ under_way_line flow pending ++ alarms_line flow pending
+    flow_status_line flow parts pending ++ waiting_line flow parts ++ under_way_line flow pending ++ timers_line flow pending
 
 abbrev pub waits_bytes : ℕ → State → List ℕ
 waits_bytes flow state = waits_in flow state.parts (map.entries state.pending)

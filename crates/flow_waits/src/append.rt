@@ -1,6 +1,6 @@
 //! Texts with numbers, appended to others.
 ghost use Rattle.std.specs.Prelude.{◌≡◌, ◌++◌, OnOk};
-ghost use Rattle.flow_waits.specs.Standing.{numbered, between};
+ghost use Rattle.flow_waits.specs.FlowStatus.{numbered, between};
 
 use itoa::Buffer;
 use std::alloc::AllocError;

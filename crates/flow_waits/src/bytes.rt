@@ -2,7 +2,7 @@
 ghost use Rattle.std.specs.Prelude.{◌≡◌};
 ghost use Rattle.reno_sender.specs.Fields.{total, flight_size};
 ghost use Rattle.flow_waits.specs.Stalled.{is_unfinished};
-ghost use Rattle.flow_waits.specs.Standing.{window, with_next};
+ghost use Rattle.flow_waits.specs.FlowStatus.{window, with_next};
 
 use reno_sender::Sender;
 

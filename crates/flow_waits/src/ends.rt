@@ -2,7 +2,7 @@
 ghost use Rattle.std.specs.Prelude.{◌≡◌};
 ghost use Rattle.node_core.specs.Part.{sender_in};
 ghost use Rattle.net_machine.specs.Nodes.{parts_of};
-ghost use Rattle.flow_waits.specs.Stalled.{sender_if, sender_for, sender_of, is_start_of, start_of};
+ghost use Rattle.flow_waits.specs.Stalled.{sender_if, sender_for, sender_of, is_start_of, start_due};
 
 use node_core::{Event, Node};
 use reno_sender::Sender;
@@ -39,7 +39,7 @@ fn sender_if(is_own: bool, sender: &Sender) -> Option<Sender>
 
 /// When a flow starts, in nanoseconds, where that is still to come.
 pub(crate) fn start_of(flow: u16, pending: &[(Key, Event)]) -> Option<Time>
-    ensures { result ≡ start_of flow pending.now }
+    ensures { result ≡ start_due flow pending.now }
 {
     for (key, event) in pending {
         if is_start_of(flow, event) {

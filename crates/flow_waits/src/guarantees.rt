@@ -1,10 +1,10 @@
 //! What holds of what is told. Each function is a law: its contract is the statement, and its body is empty.
-ghost use Rattle.flow_waits.specs.Laws.{StalledIsTold, StallsAreFound};
+ghost use Rattle.flow_waits.specs.Laws.{StalledIsReported, StallsAreFound};
 
 /// Of a flow that a node sends, it is told that it is stalled exactly where it is.
-#[tactic(auto, using(crate::proofs::Told::stalled_is_told))]
-pub fn the_stalled_are_told()
-    ensures { StalledIsTold }
+#[tactic(auto, using(crate::proofs::Reported::stalled_is_reported))]
+pub fn the_stalled_are_reported()
+    ensures { StalledIsReported }
 {}
 
 /// In every run a flow becomes stalled only by its start, by the arrival of a packet of it, or where a link that

@@ -1,18 +1,18 @@
 //! What a flow waits for in a state of a net, as text, and whether it is stalled.
 #![tactic(auto)]
 
-mod alarm;
 mod append;
 mod becomes;
 mod bytes;
 mod ends;
+mod flow_status;
 pub mod guarantees;
 mod lists;
 mod packets;
 mod queues;
 mod sentence;
 mod stalled;
-mod standing;
+mod timer;
 mod waits;
 
 pub use becomes::{becomes_stalled, some_becomes_stalled};

@@ -1,14 +1,14 @@
-//! What is pending of a flow: its packets under way, and its alarms.
+//! What is pending of a flow: its packets under way, and its timers.
 ghost use Rattle.std.specs.Prelude.{◌≡◌, ◌++◌, OnOk};
 ghost use Rattle.std.specs.List.{flat_map};
 ghost use Rattle.sim_time.specs.declared.key.Key.{Key};
 ghost use Rattle.node_core.specs.declared.event.Event.{Event};
-ghost use Rattle.flow_waits.specs.Standing.{own_alarm as alarm_is};
-ghost use Rattle.flow_waits.specs.Waits.{arriving, under_way_one, next_alarm, alarm_one, list_line};
+ghost use Rattle.flow_waits.specs.FlowStatus.{own_timer as timer_is};
+ghost use Rattle.flow_waits.specs.Waits.{arriving, under_way_one, next_timer, timer_one, list_line};
 
-use crate::alarm::{FlowAlarm, own_alarm};
 use crate::append::{append_between, append_numbered};
 use crate::queues::append_packet;
+use crate::timer::{FlowTimer, own_timer};
 use node_core::Event;
 use packet_chain::Packet;
 use sim_time::{Key, Time};
@@ -52,39 +52,39 @@ fn append_own(flow: u16, key: &Key, packet: &Packet, out: &mut Vec<u8>) -> Resul
     append_between(b" at ", key.time, b" ns", out)
 }
 
-/// Appends the alarms of a flow, in the order of keys, each behind a comma.
-pub(crate) fn append_alarms(
+/// Appends the timers of a flow, in the order of keys, each behind a comma.
+pub(crate) fn append_timers(
     flow: u16,
     pending: &[(Key, Event)],
     out: &mut Vec<u8>,
 ) -> Result<(), AllocError>
     ensures { OnOk result (out.new.items ≡ out.old.items
-        ++ flat_map (λ (entry : Key × Event). alarm_one entry.0.time (alarm_is flow entry.1)) pending.now) }
+        ++ flat_map (λ (entry : Key × Event). timer_one entry.0.time (timer_is flow entry.1)) pending.now) }
 {
     for (key, event) in pending {
-        append_alarm(key.time, own_alarm(flow, event), out)?;
+        append_timer(key.time, own_timer(flow, event), out)?;
     }
     Ok(())
 }
 
-/// An alarm with its moment, where there is one.
-fn append_alarm(time: Time, alarm: Option<FlowAlarm>, out: &mut Vec<u8>) -> Result<(), AllocError>
-    ensures { OnOk result (out.new.items ≡ out.old.items ++ alarm_one time alarm) }
+/// A timer with its moment, where there is one.
+fn append_timer(time: Time, timer: Option<FlowTimer>, out: &mut Vec<u8>) -> Result<(), AllocError>
+    ensures { OnOk result (out.new.items ≡ out.old.items ++ timer_one time timer) }
 {
-    match alarm {
-        Some(alarm) => append_between(next_alarm(alarm), time, b" ns", out),
+    match timer {
+        Some(timer) => append_between(next_timer(timer), time, b" ns", out),
         None => Ok(()),
     }
 }
 
-/// An alarm's name behind a comma.
-fn next_alarm(alarm: FlowAlarm) -> &'static [u8]
-    ensures { result.now ≡ next_alarm alarm }
+/// A timer's name behind a comma.
+fn next_timer(timer: FlowTimer) -> &'static [u8]
+    ensures { result.now ≡ next_timer timer }
 {
-    match alarm {
-        FlowAlarm::Starts => b", start at ",
-        FlowAlarm::Retransmission => b", rto at ",
-        FlowAlarm::DelayedAcknowledgement => b", delack at ",
+    match timer {
+        FlowTimer::Starts => b", start at ",
+        FlowTimer::Retransmission => b", rto at ",
+        FlowTimer::DelayedAcknowledgement => b", delack at ",
     }
 }
 

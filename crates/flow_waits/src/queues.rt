@@ -5,8 +5,8 @@ ghost use Rattle.packet_chain.specs.Stamped.{Stamped};
 ghost use Rattle.node_core.specs.Part.{LinkState};
 ghost use Rattle.net_machine.specs.Nodes.{parts_of};
 ghost use Rattle.trace_text.specs.Dump.{links_numbered, numbers_below, links_in_order};
-ghost use Rattle.flow_waits.specs.Standing.{numbered};
-ghost use Rattle.flow_waits.specs.Waits.{next_packet, waiting_one, waiting_at};
+ghost use Rattle.flow_waits.specs.FlowStatus.{numbered};
+ghost use Rattle.flow_waits.specs.Waits.{next_packet, waiting_one, places_waiting_at};
 
 use crate::append::append_numbered;
 use node_core::Node;
@@ -21,7 +21,7 @@ const MOST_LINKS: u16 = 1024;
 /// with all functions here, a part of them may stand there.
 pub(crate) fn append_waiting(flow: u16, nodes: &[Node], out: &mut Vec<u8>) -> Result<(), AllocError>
     ensures { OnOk result (out.new.items ≡ out.old.items
-        ++ flat_map (waiting_at flow) (links_in_order (parts_of nodes.now))) }
+        ++ flat_map (places_waiting_at flow) (links_in_order (parts_of nodes.now))) }
 {
     append_first(flow, MOST_LINKS, nodes, out)
 }
@@ -29,7 +29,7 @@ pub(crate) fn append_waiting(flow: u16, nodes: &[Node], out: &mut Vec<u8>) -> Re
 /// Those at the links of numbers below this one.
 fn append_first(flow: u16, count: u16, nodes: &[Node], out: &mut Vec<u8>) -> Result<(), AllocError>
     ensures { OnOk result (out.new.items ≡ out.old.items
-        ++ flat_map (waiting_at flow) (flat_map (links_numbered (parts_of nodes.now)) (numbers_below count))) }
+        ++ flat_map (places_waiting_at flow) (flat_map (links_numbered (parts_of nodes.now)) (numbers_below count))) }
 {
     for number in 0..count {
         append_at_number(flow, number, nodes, out)?;
@@ -45,7 +45,7 @@ fn append_at_number(
     out: &mut Vec<u8>,
 ) -> Result<(), AllocError>
     ensures { OnOk result (out.new.items ≡ out.old.items
-        ++ flat_map (waiting_at flow) (links_numbered (parts_of nodes.now) number)) }
+        ++ flat_map (places_waiting_at flow) (links_numbered (parts_of nodes.now) number)) }
 {
     for node in nodes {
         append_own(flow, number, node.ports(), out)?;
@@ -56,7 +56,7 @@ fn append_at_number(
 /// Those at the link of a number, where it is one of these.
 fn append_own(flow: u16, number: u16, links: &[Link], out: &mut Vec<u8>) -> Result<(), AllocError>
     ensures { OnOk result (out.new.items ≡ out.old.items
-        ++ flat_map (waiting_at flow) (filter (λ (link : LinkState). link.port.link == number) links.now)) }
+        ++ flat_map (places_waiting_at flow) (filter (λ (link : LinkState). link.port.link == number) links.now)) }
 {
     for link in links {
         if link.port().link() == number {
@@ -68,7 +68,7 @@ fn append_own(flow: u16, number: u16, links: &[Link], out: &mut Vec<u8>) -> Resu
 
 /// Those at a link.
 fn append_link(flow: u16, link: &Link, out: &mut Vec<u8>) -> Result<(), AllocError>
-    ensures { OnOk result (out.new.items ≡ out.old.items ++ waiting_at flow link.now) }
+    ensures { OnOk result (out.new.items ≡ out.old.items ++ places_waiting_at flow link.now) }
 {
     let queue = link.port().queue();
     // That a queue is short is known from asking for its length.

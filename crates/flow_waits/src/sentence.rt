@@ -1,29 +1,29 @@
 //! The words that say how a flow stands.
 ghost use Rattle.std.specs.Prelude.{◌≡◌, ◌++◌, OnOk};
-ghost use Rattle.flow_waits.specs.Standing.{alarm_words, awaited_text, stalled_text, sent_text, flight_text, window_text, full_text, open_text, standing_text};
+ghost use Rattle.flow_waits.specs.FlowStatus.{timer_pairs, awaited_text, stalled_text, sent_text, flight_text, window_text, full_text, open_text, flow_status_text};
 
-use crate::alarm::{DueAlarm, FlowAlarm};
 use crate::append::{append_between, append_numbered};
 use crate::bytes::{flight_size, total};
-use crate::standing::Standing;
+use crate::flow_status::FlowStatus;
+use crate::timer::{DueTimer, FlowTimer};
 use reno_sender::Sender;
 use std::alloc::AllocError;
 
-/// Appends how a flow stands; of one that is stalled also which alarm is due first. After an `Err`, as with all
+/// Appends how a flow stands; of one that is stalled also which timer is due first. After an `Err`, as with all
 /// functions here, a part of the text may stand there.
-pub(crate) fn append_standing(
+pub(crate) fn append_flow_status(
     sender: &Sender,
-    alarm: Option<DueAlarm>,
-    standing: Standing,
+    timer: Option<DueTimer>,
+    flow_status: FlowStatus,
     out: &mut Vec<u8>,
 ) -> Result<(), AllocError>
-    ensures { OnOk result (out.new.items ≡ out.old.items ++ standing_text sender.now alarm standing) }
+    ensures { OnOk result (out.new.items ≡ out.old.items ++ flow_status_text sender.now timer flow_status) }
 {
-    match standing {
-        Standing::NotStarted(time) => {
+    match flow_status {
+        FlowStatus::NotStarted(time) => {
             append_between(b" is not started: it starts at ", time, b" ns\n", out)
         }
-        Standing::Complete => {
+        FlowStatus::Complete => {
             let all = total(sender);
             append_between(
                 b" is complete: all ",
@@ -32,20 +32,20 @@ pub(crate) fn append_standing(
                 out,
             )
         }
-        Standing::Stalled => append_stalled(sender, alarm, out),
-        Standing::SentAll => append_sent(sender, out),
-        Standing::SendsNoMore => append_full(sender, out),
-        Standing::MaySend => append_open(sender, out),
+        FlowStatus::Stalled => append_stalled(sender, timer, out),
+        FlowStatus::SentAll => append_sent(sender, out),
+        FlowStatus::SendsNoMore => append_full(sender, out),
+        FlowStatus::MaySend => append_open(sender, out),
     }
 }
 
 /// Of a flow that is stalled.
 fn append_stalled(
     sender: &Sender,
-    alarm: Option<DueAlarm>,
+    timer: Option<DueTimer>,
     out: &mut Vec<u8>,
 ) -> Result<(), AllocError>
-    ensures { OnOk result (out.new.items ≡ out.old.items ++ stalled_text sender.now alarm) }
+    ensures { OnOk result (out.new.items ≡ out.old.items ++ stalled_text sender.now timer) }
 {
     let dups = sender.as_fields().dups;
     append_between(
@@ -54,30 +54,30 @@ fn append_stalled(
         b" duplicate acknowledgements, and ",
         out,
     )?;
-    append_awaited(alarm, out)
+    append_awaited(timer, out)
 }
 
 /// What wakes it.
-fn append_awaited(alarm: Option<DueAlarm>, out: &mut Vec<u8>) -> Result<(), AllocError>
-    ensures { OnOk result (out.new.items ≡ out.old.items ++ awaited_text alarm) }
+fn append_awaited(timer: Option<DueTimer>, out: &mut Vec<u8>) -> Result<(), AllocError>
+    ensures { OnOk result (out.new.items ≡ out.old.items ++ awaited_text timer) }
 {
-    match alarm {
+    match timer {
         None => out.extend_from_slice(b"nothing goes on with it\n"),
         Some(due) => {
-            out.extend_from_slice(alarm_words(due.alarm))?;
+            out.extend_from_slice(timer_pairs(due.timer))?;
             append_between(b" is due at ", due.time, b" ns\n", out)
         }
     }
 }
 
-/// An alarm's name in that text.
-fn alarm_words(alarm: FlowAlarm) -> &'static [u8]
-    ensures { result.now ≡ alarm_words alarm }
+/// A timer's name in that text.
+fn timer_pairs(timer: FlowTimer) -> &'static [u8]
+    ensures { result.now ≡ timer_pairs timer }
 {
-    match alarm {
-        FlowAlarm::Starts => b"its start",
-        FlowAlarm::Retransmission => b"its retransmission timer",
-        FlowAlarm::DelayedAcknowledgement => b"its delayed acknowledgement",
+    match timer {
+        FlowTimer::Starts => b"its start",
+        FlowTimer::Retransmission => b"its retransmission timer",
+        FlowTimer::DelayedAcknowledgement => b"its delayed acknowledgement",
     }
 }
 

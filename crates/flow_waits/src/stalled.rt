@@ -13,7 +13,7 @@ use std::alloc::{AllocError, Global};
 use trace_text::pending_events;
 
 /// Whether a flow is stalled: it was started, bytes of it are still to be acknowledged, and none of its
-/// packets waits at a link or is under way, so that at most an alarm of its own goes on with it. Memory is
+/// packets waits at a link or is under way, so that at most a timer of its own goes on with it. Memory is
 /// taken only where the flow's packets have to be looked for among all that is pending: where bytes are to be
 /// acknowledged, and none of its packets waits.
 pub fn is_stalled(alloc: Global, net: &Net, flow: u16) -> Result<bool, AllocError>

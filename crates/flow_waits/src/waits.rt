@@ -1,16 +1,16 @@
 //! What a flow waits for.
 ghost use Rattle.std.specs.Prelude.{◌≡◌, ◌++◌, OnOk, OnErr};
 ghost use Rattle.net_machine.specs.Nodes.{parts_of};
-ghost use Rattle.flow_waits.specs.Waits.{standing_line, waiting_line, under_way_line, alarms_line, waits_in, waits_bytes};
+ghost use Rattle.flow_waits.specs.Waits.{flow_status_line, waiting_line, under_way_line, timers_line, waits_in, waits_bytes};
 
-use crate::alarm::first_alarm;
 use crate::append::append_numbered;
 use crate::ends::{sender_of, start_of};
-use crate::lists::{append_alarms, append_list, append_under_way};
+use crate::flow_status::flow_status_of;
+use crate::lists::{append_list, append_timers, append_under_way};
 use crate::packets::has_packets;
 use crate::queues::append_waiting;
-use crate::sentence::append_standing;
-use crate::standing::standing_of;
+use crate::sentence::append_flow_status;
+use crate::timer::first_timer;
 use net_machine::Net;
 use node_core::{Event, Node};
 use sim_time::Key;
@@ -18,7 +18,7 @@ use std::alloc::{AllocError, Global};
 use trace_text::pending_events;
 
 /// Appends what a flow waits for, or nothing: a line that says how it stands, and one each of its packets that wait,
-/// of those under way and of its alarms, where there are any.
+/// of those under way and of its timers, where there are any.
 pub fn waits_text(net: &Net, flow: u16, out: &mut Vec<u8>) -> Result<(), AllocError>
     ensures ok { OnOk result (out.new.items ≡ out.old.items ++ waits_bytes flow net.now.state) }
     ensures err { OnErr result (out.new.items ≡ out.old.items) }
@@ -46,28 +46,28 @@ fn append_lines(
 ) -> Result<(), AllocError>
     ensures { OnOk result (out.new.items ≡ out.old.items ++ waits_in flow (parts_of nodes.now) pending.now) }
 {
-    append_standing_line(flow, nodes, pending, out)?;
+    append_flow_status_line(flow, nodes, pending, out)?;
     append_waiting_line(flow, nodes, out)?;
     append_under_way_line(flow, pending, out)?;
-    append_alarms_line(flow, pending, out)
+    append_timers_line(flow, pending, out)
 }
 
 /// Appends how the flow stands.
-fn append_standing_line(
+fn append_flow_status_line(
     flow: u16,
     nodes: &[Node],
     pending: &[(Key, Event)],
     out: &mut Vec<u8>,
 ) -> Result<(), AllocError>
-    ensures { OnOk result (out.new.items ≡ out.old.items ++ standing_line flow (parts_of nodes.now) pending.now) }
+    ensures { OnOk result (out.new.items ≡ out.old.items ++ flow_status_line flow (parts_of nodes.now) pending.now) }
 {
     let start = start_of(flow, pending);
     let packets = has_packets(flow, nodes, pending);
     match sender_of(flow, nodes) {
         Some(sender) => {
             append_numbered(b"flow ", u64::from(flow), out)?;
-            let standing = standing_of(start, packets, &sender);
-            append_standing(&sender, first_alarm(flow, pending), standing, out)
+            let flow_status = flow_status_of(start, packets, &sender);
+            append_flow_status(&sender, first_timer(flow, pending), flow_status, out)
         }
         None => Ok(()),
     }
@@ -95,15 +95,15 @@ fn append_under_way_line(
     append_list(b"under way: ", &texts, out)
 }
 
-/// Appends the flow's alarms.
-fn append_alarms_line(
+/// Appends the flow's timers.
+fn append_timers_line(
     flow: u16,
     pending: &[(Key, Event)],
     out: &mut Vec<u8>,
 ) -> Result<(), AllocError>
-    ensures { OnOk result (out.new.items ≡ out.old.items ++ alarms_line flow pending.now) }
+    ensures { OnOk result (out.new.items ≡ out.old.items ++ timers_line flow pending.now) }
 {
     let mut texts = Vec::new(*out.allocator());
-    append_alarms(flow, pending, &mut texts)?;
+    append_timers(flow, pending, &mut texts)?;
     append_list(b"alarms: ", &texts, out)
 }

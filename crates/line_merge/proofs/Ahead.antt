@@ -11,19 +11,19 @@ use Rattle.std.specs.declared.cmp.Ordering.{Ordering}
 use Rattle.sim_time.specs.declared.key.Key.{Key}
 use Rattle.sim_time.specs.Keys.{key_cmp}
 use Rattle.sim_time.proofs.Order.{keys_total}
-use Rattle.ranking.specs.Leading.{rank_at, Leads}
-use Rattle.ranking.proofs.Maps.{same_some, not_some}
-use Rattle.ranking.proofs.Moments.{sooner}
+use Rattle.tournament.specs.Leading.{rank_at, Leads}
+use Rattle.tournament.proofs.Maps.{same_some, not_some}
+use Rattle.tournament.proofs.Moments.{sooner}
 use Rattle.node_core.specs.TraceLine.{TraceLine}
-use Rattle.line_merge.specs.Ahead.{HasNext, moment_in}
+use Rattle.line_merge.specs.Ahead.{HasNext, next_moment_in}
 use Rattle.line_merge.specs.Merged.{AreApart, all_of, first_key, lines_of, rests}
 use Rattle.line_merge.proofs.Rests.{IsTaken, first_drop, length_rests, none_left, rest_at, taken_next}
 
 -- a later moment than that of any key
-late : (place other : ℕ) (k : Key) → moment_in place None < moment_in other (Some k) → ⊥
+late : (place other : ℕ) (k : Key) → next_moment_in place None < next_moment_in other (Some k) → ⊥
 late place other k less = omega (arith, less)
 
-same_moment : (place other : ℕ) (k : Key) → moment_in place (Some k) < moment_in other (Some k) → ⊥
+same_moment : (place other : ℕ) (k : Key) → next_moment_in place (Some k) < next_moment_in other (Some k) → ⊥
 same_moment place other k less = omega (arith, less)
 
 less_not_greater : (r : Ordering) → r ≡ Less → r ≢ Greater
@@ -34,13 +34,13 @@ equal_not_greater r equal greater = (cc)
 
 module _
     (ranks : List (Option Key)) (moments : List ℕ) (n list : ℕ) (size : length ranks ≡ n)
-    (dated : (i : ℕ) → i < n → slice_index moments i ≡ moment_in i (rank_at ranks i))
+    (dated : (i : ℕ) → i < n → slice_index moments i ≡ next_moment_in i (rank_at ranks i))
     (within : list < n)
     (least : (i : ℕ) → i < n → i ≢ list → slice_index moments list < slice_index moments i)
   where
-    earlier : (i : ℕ) → i < n → i ≢ list → moment_in list (rank_at ranks list) < moment_in i (rank_at ranks i)
+    earlier : (i : ℕ) → i < n → i ≢ list → next_moment_in list (rank_at ranks list) < next_moment_in i (rank_at ranks i)
     earlier i under off =
-        subst (λ m. m < moment_in i (rank_at ranks i)) (dated list within)
+        subst (λ m. m < next_moment_in i (rank_at ranks i)) (dated list within)
         (subst (λ m. slice_index moments list < m) (dated i under) (least i under off))
 
     past : (i : ℕ) → n ≤ i → rank_at ranks i ≡ None
@@ -53,7 +53,7 @@ module _
     none_later none i under off =
         elim (rank_at ranks i) as (λ o. rank_at ranks i ≡ o → o ≡ None) [
           | None ↦ λ e. refl
-          | Some k ↦ λ e. absurd (late list i k (subst (λ o. moment_in list o < moment_in i (Some k)) none (subst (λ o. moment_in list (rank_at ranks list) < moment_in i o) e (earlier i under off))))
+          | Some k ↦ λ e. absurd (late list i k (subst (λ o. next_moment_in list o < next_moment_in i (Some k)) none (subst (λ o. next_moment_in list (rank_at ranks list) < next_moment_in i o) e (earlier i under off))))
         ] refl
 
     -- where that list has no line left, none has
@@ -63,10 +63,10 @@ module _
         (λ (over : n ≤ i). past i over)
         (cases_lt i n)
 
-    less_at : (key : Key) → rank_at ranks list ≡ Some key → (other : ℕ) (k : Key) → rank_at ranks other ≡ Some k → other ≢ list → moment_in list (Some key) < moment_in other (Some k)
+    less_at : (key : Key) → rank_at ranks list ≡ Some key → (other : ℕ) (k : Key) → rank_at ranks other ≡ Some k → other ≢ list → next_moment_in list (Some key) < next_moment_in other (Some k)
     less_at key held other k at off =
-        subst (λ o. moment_in list o < moment_in other (Some k)) held
-        (subst (λ o. moment_in list (rank_at ranks list) < moment_in other o) at (earlier other (inside other k at) off))
+        subst (λ o. next_moment_in list o < next_moment_in other (Some k)) held
+        (subst (λ o. next_moment_in list (rank_at ranks list) < next_moment_in other o) at (earlier other (inside other k at) off))
 
     leads : (key : Key) → rank_at ranks list ≡ Some key → Leads ranks list key
     leads key held = record {
@@ -106,9 +106,9 @@ rank_next lists nexts i size = get_or-map first_key (rests lists nexts) i [] ∙
 
 -- once a list's next line is gone, the moment of the one behind it is known
 pub dated_anew : (lists : List (List TraceLine)) (nexts moments : List ℕ) (list n m : ℕ) → length moments ≡ length lists → IsTaken lists nexts list
-    → ((i : ℕ) → i < length lists → slice_index moments i ≡ moment_in i (rank_at (map first_key (rests lists nexts)) i))
-    → n ≡ get_or nexts list 0 + 1 → m ≡ moment_in list (option_map (λ (line : TraceLine). line.key) (slice_get (lines_of lists list) n))
-    → (i : ℕ) → i < length lists → slice_index (set moments list m) i ≡ moment_in i (rank_at (map first_key (rests lists (set nexts list n))) i)
+    → ((i : ℕ) → i < length lists → slice_index moments i ≡ next_moment_in i (rank_at (map first_key (rests lists nexts)) i))
+    → n ≡ get_or nexts list 0 + 1 → m ≡ next_moment_in list (option_map (λ (line : TraceLine). line.key) (slice_get (lines_of lists list) n))
+    → (i : ℕ) → i < length lists → slice_index (set moments list m) i ≡ next_moment_in i (rank_at (map first_key (rests lists (set nexts list n))) i)
 dated_anew lists nexts moments list n m size taken dated n_is m_is i under =
     let ranks = map first_key (rests lists nexts) in
     let key : Option Key = option_map (λ (line : TraceLine). line.key) (slice_get (lines_of lists list) n) in
@@ -116,8 +116,8 @@ dated_anew lists nexts moments list n m size taken dated n_is m_is i under =
     let many = length_ranks lists nexts in
     ⊎_elim
     (λ (is : i ≡ list).
-    subst (λ j. slice_index (set moments list m) j ≡ moment_in j (rank_at (map first_key (rests lists (set nexts list n))) j)) (sym is)
-    (get_or-set_same moments list m 0 (omega (arith, taken.within, size)) ∙ m_is ∙ ap (moment_in list) (sym (get_or-set_same ranks list key None (omega (arith, taken.within, many))) ∙ ap (λ (r : List (Option Key)). rank_at r list) now)))
+    subst (λ j. slice_index (set moments list m) j ≡ next_moment_in j (rank_at (map first_key (rests lists (set nexts list n))) j)) (sym is)
+    (get_or-set_same moments list m 0 (omega (arith, taken.within, size)) ∙ m_is ∙ ap (next_moment_in list) (sym (get_or-set_same ranks list key None (omega (arith, taken.within, many))) ∙ ap (λ (r : List (Option Key)). rank_at r list) now)))
     (λ (off : i ≢ list).
-    get_or-set_other moments list i m 0 off ∙ dated i under ∙ ap (moment_in i) (sym (get_or-set_other ranks list i key None off) ∙ ap (λ (r : List (Option Key)). rank_at r i) now))
+    get_or-set_other moments list i m 0 off ∙ dated i under ∙ ap (next_moment_in i) (sym (get_or-set_other ranks list i key None off) ∙ ap (λ (r : List (Option Key)). rank_at r i) now))
     (cases_eq i list)

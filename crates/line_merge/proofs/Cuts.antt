@@ -10,7 +10,7 @@ use Rattle.std.specs.FinMap.Entries.{below_all}
 use Rattle.sim_time.specs.declared.key.Key.{Key}
 use Rattle.sim_time.specs.Keys.{key_cmp}
 use Rattle.sim_time.proofs.Order.{keys_total, earlier_less}
-use Rattle.ranking.proofs.Maps.{both_of}
+use Rattle.tournament.proofs.Maps.{both_of}
 use Rattle.node_core.specs.TraceLine.{TraceLine}
 use Rattle.table_run.proofs.Lists.{all_append}
 use Rattle.line_merge.specs.Ahead.{IsAhead}

@@ -10,8 +10,8 @@ use Rattle.std.specs.FinMap.Entries.{below_all}
 use Rattle.sim_time.specs.declared.key.Key.{Key}
 use Rattle.sim_time.specs.Keys.{key_cmp}
 use Rattle.sim_time.proofs.Order.{keys_total, exact_keys}
-use Rattle.ranking.specs.Leading.{rank_at, Leads}
-use Rattle.ranking.proofs.Maps.{both_of, is_less, same_some, not_some}
+use Rattle.tournament.specs.Leading.{rank_at, Leads}
+use Rattle.tournament.proofs.Maps.{both_of, is_less, same_some, not_some}
 use Rattle.node_core.specs.TraceLine.{TraceLine, blank}
 use Rattle.table_run.proofs.Lists.{all_append, all_map}
 use Rattle.window_law.specs.Windows.{keyed, in_order}
@@ -218,7 +218,7 @@ taken_next lists nexts list key size are leads =
     is_within (ls ∷ lists) zero under = omega arith
     is_within (ls ∷ lists) (suc i) under = let more = is_within lists i under in omega (arith, more)
 
--- the same of a ranking of the next keys
+-- the same of a tournament of the next keys
 pub taken_by : (lists : List (List TraceLine)) (nexts : List ℕ) (ranks : List (Option Key)) (list : ℕ) (key : Key) → ranks ≡ map first_key (rests lists nexts) → length nexts ≡ length lists → AreApart lists → Leads ranks list key → IsTaken lists nexts list
 taken_by lists nexts ranks list key ranked size are leads = taken_next lists nexts list key size are (subst (λ (r : List (Option Key)). Leads r list key) ranked leads)
 

@@ -7,7 +7,7 @@ use Rattle.sim_time.specs.declared.key.Key.{Key}
 use Rattle.sim_time.specs.Keys.{key_cmp}
 use Rattle.sim_time.proofs.Order.{keys_total}
 use Rattle.std.specs.Ordering.{is_eq}
-use Rattle.ranking.proofs.Maps.{both_of, is_less, not_some}
+use Rattle.tournament.proofs.Maps.{both_of, is_less, not_some}
 use Rattle.node_core.specs.TraceLine.{TraceLine}
 use Rattle.line_merge.specs.declared.sheaf.Sheaf.TheInside.{Inside}
 use Rattle.line_merge.specs.Merged.{line_in, lines_of, all_of, rests, HasKey, AreApart}

@@ -20,8 +20,8 @@ lines_of lists number = slice_index_or lists number []
 abbrev pub line_at : List (List TraceLine) → Spot → TraceLine
 line_at lists spot = line_in (lines_of lists spot.list) spot.index
 
-abbrev pub lines_at : List (List TraceLine) → List Spot → List TraceLine
-lines_at lists spots = each (line_at lists) spots
+abbrev pub lines_at_spots : List (List TraceLine) → List Spot → List TraceLine
+lines_at_spots lists spots = each (line_at lists) spots
 
 -- the spot is one of a line
 abbrev pub IsSpot : List (List TraceLine) → Spot → Type 0

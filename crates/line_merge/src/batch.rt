@@ -8,10 +8,10 @@ use crate::merge::merge;
 use crate::merge::spot::Spot;
 use crate::sheaf::Sheaf;
 use node_core::Line;
-use ranking::Ranking;
 use std::alloc::{AllocError, Global};
 use std::marker::Model;
 use std::mem::replace;
+use tournament::KeyTournament;
 
 /// The lines of a window in the order of their keys, and the number of the first. The lines stay
 /// where they were written, group by group; their order is kept beside them.
@@ -87,16 +87,16 @@ impl Batch {
     pub fn of(
         sheaf: Sheaf,
         nexts: &mut [usize],
-        ranking: &mut Ranking,
+        tournament: &mut KeyTournament,
         mut order: Vec<Spot>,
     ) -> Batch
         requires nexts { length nexts.old ≡ length sheaf.lists }
-        requires ranking { length ranking.old ≡ length sheaf.lists }
+        requires tournament { length tournament.old ≡ length sheaf.lists }
         requires order { length order.items ≡ length (all_of sheaf.lists) }
         ensures batch { result ≡ merged sheaf }
-        ensures sizes { length ranking.new ≡ length ranking.old }
+        ensures sizes { length tournament.new ≡ length tournament.old }
     {
-        merge(&sheaf.lists, nexts, ranking, &mut order);
+        merge(&sheaf.lists, nexts, tournament, &mut order);
         Batch { sheaf, order }
     }
 

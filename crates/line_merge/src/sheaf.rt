@@ -136,7 +136,7 @@ impl Sheaf {
             &self.lists,
             &cursor.nexts,
             &cursor.moments,
-            &mut cursor.ranking,
+            &mut cursor.tournament,
         )
     }
 
@@ -163,7 +163,7 @@ impl Sheaf {
             &self.lists,
             &mut cursor.nexts,
             &mut cursor.moments,
-            &mut cursor.ranking,
+            &mut cursor.tournament,
             list,
         );
         prove!(cursor.at < self.count);

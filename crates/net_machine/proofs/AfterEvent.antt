@@ -3,7 +3,7 @@ use Rattle.std.proofs.Common.{◌≡◌, ◌≢◌, ℕ, ◌+◌, ◌<◌, ◌�
 use Rattle.std.proofs.lemmas.Bool.{cases_eq}
 use Rattle.std.proofs.lemmas.List.{get_or-set_same, get_or-set_other, length-set}
 use Rattle.packet_chain.specs.Stamped.{Stamped}
-use Rattle.node_core.specs.AgendaState.{Incoming, incoming_at, no_incoming}
+use Rattle.node_core.specs.EventQueueState.{Incoming, incoming_at, no_incoming}
 use Rattle.node_core.specs.Part.{LinkState, link_at}
 use Rattle.node_core.specs.Row.{Leaving}
 use Rattle.node_core.specs.Node.{NodeState, delivered}

@@ -6,15 +6,15 @@ use Rattle.std.proofs.Math.ListN.{get_or-map}
 use Rattle.std.specs.FinMap as fin
 use Rattle.std.specs.List.{AllByRecursion}
 use Rattle.sim_time.specs.declared.key.Key.{Key}
-use Rattle.ranking.specs.Leading.{rank_at, Leads}
-use Rattle.ranking.specs.Timed.{time_at, time_of, times_of}
-use Rattle.ranking.specs.Keyed.{apply, least, next_key, EachKey}
-use Rattle.ranking.specs.Gathered.{gathered, map_at, AtHome}
-use Rattle.ranking.proofs.Maps.{each_apply}
-use Rattle.ranking.proofs.Timed.{time-at, times_set}
-use Rattle.ranking.proofs.Gathered.{rank-next, home_set, gathered-apply, gathered_has, none_gathered, IsFirst as IsFirstMap, is_first}
+use Rattle.tournament.specs.Leading.{rank_at, Leads}
+use Rattle.tournament.specs.Timed.{time_at, time_of, times_of}
+use Rattle.tournament.specs.Keyed.{apply, least, next_key, EachKey}
+use Rattle.tournament.specs.Gathered.{gathered, map_at, AtHome}
+use Rattle.tournament.proofs.Maps.{each_apply}
+use Rattle.tournament.proofs.Timed.{time-at, times_set}
+use Rattle.tournament.proofs.Gathered.{rank-next, home_set, gathered-apply, gathered_has, none_gathered, IsFirst as IsFirstMap, is_first}
 use Rattle.node_core.specs.declared.event.Event.{Event}
-use Rattle.node_core.specs.Pending.{Events, Change}
+use Rattle.node_core.specs.Pending.{Events, EventChange}
 use Rattle.node_core.specs.Node.{NodeState}
 use Rattle.net_machine.specs.Nodes.{no_node, node_at, pendings, next_keys, next_times, net_pending, IsPlaced, IsFirst}
 
@@ -23,7 +23,7 @@ pending_at nodes i = get_or-map (λ (n : NodeState). n.pending) nodes i no_node
 
 module _ (nodes : List NodeState) (placed : IsPlaced nodes) where
   -- a node changes by changes at it
-  module _ (i : ℕ) (within : i < length nodes) (x : NodeState) (number : x.number ≡ (node_at nodes i).number) (cs : List Change) (here : AllByRecursion (λ (c : Change). c.0.node ≡ i) cs)
+  module _ (i : ℕ) (within : i < length nodes) (x : NodeState) (number : x.number ≡ (node_at nodes i).number) (cs : List EventChange) (here : AllByRecursion (λ (c : EventChange). c.0.node ≡ i) cs)
       (change : x.pending ≡ apply cs (node_at nodes i).pending) where
     pending_within : i < length (pendings nodes)
     pending_within = omega (arith, within, length-map nodes (λ (n : NodeState). n.pending))

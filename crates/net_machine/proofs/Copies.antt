@@ -3,7 +3,7 @@ use Rattle.std.proofs.Common.{◌≡◌, ◌≢◌, ℕ, ◌<◌, List, length, 
 use Rattle.std.specs.Prelude.{IfSome}
 use Rattle.std.proofs.lemmas.Bool.{cases_eq}
 use Rattle.std.proofs.lemmas.List.{get_or_read, get_or-set_same, get_or-set_other}
-use Rattle.ranking.proofs.Maps.{not_some, same_some}
+use Rattle.tournament.proofs.Maps.{not_some, same_some}
 use Rattle.node_core.specs.Node.{NodeState}
 use Rattle.net_machine.specs.Nodes.{node_at, AreCopies}
 

@@ -5,10 +5,10 @@ use Rattle.std.proofs.lemmas.List.{length-map}
 use Rattle.std.proofs.Math.ListN.{get_or-eq_default}
 use Rattle.std.specs.Option.{option_map}
 use Rattle.sim_time.specs.declared.key.Key.{Key}
-use Rattle.ranking.specs.Keyed.{nothing_due, least, next_key}
-use Rattle.ranking.specs.Gathered.{map_at}
-use Rattle.ranking.proofs.Maps.{not_some, same_some, least_is, is_least}
-use Rattle.ranking.proofs.Gathered.{next_empty, get-gathered, gathered_has}
+use Rattle.tournament.specs.Keyed.{nothing_due, least, next_key}
+use Rattle.tournament.specs.Gathered.{map_at}
+use Rattle.tournament.proofs.Maps.{not_some, same_some, least_is, is_least}
+use Rattle.tournament.proofs.Gathered.{next_empty, get-gathered, gathered_has}
 use Rattle.node_core.specs.declared.event.Event.{Event}
 use Rattle.node_core.specs.Node.{NodeState}
 use Rattle.table_run.specs.State.{below, due}

@@ -3,12 +3,12 @@ use Rattle.std.proofs.Common.{◌≡◌, ℕ, ◌+◌, ◌<◌, List, [], ◌∷
 use Rattle.std.specs.FinMap as fin
 use Rattle.sim_time.specs.declared.key.Key.{Key}
 use Rattle.packet_chain.specs.Stamped.{Stamped}
-use Rattle.ranking.specs.Keyed.{apply, entering, least}
-use Rattle.ranking.proofs.Maps.{least_is}
+use Rattle.tournament.specs.Keyed.{apply, entering, least}
+use Rattle.tournament.proofs.Maps.{least_is}
 use Rattle.node_core.specs.declared.event.Event.{Event}
 use Rattle.node_core.specs.Pending.{Events}
 use Rattle.node_core.specs.WireState.{arrivals}
-use Rattle.node_core.specs.AgendaState.{incoming_at}
+use Rattle.node_core.specs.EventQueueState.{incoming_at}
 use Rattle.node_core.specs.Row.{row, home_changes}
 use Rattle.node_core.specs.Node.{NodeState, fired, delivered}
 use Rattle.table_run.proofs.AtHome.{AreAt, home_at}

@@ -9,11 +9,11 @@ use Rattle.std.specs.declared.cmp.Ordering.TheVariants.{Less, Equal, Greater}
 use mathlib.Core.Bool.{false≢true}
 use Rattle.sim_time.specs.declared.key.Key.{Key}
 use Rattle.sim_time.specs.Keys.{key_cmp}
-use Rattle.ranking.specs.Leading.{rank_at}
-use Rattle.ranking.specs.Timed.{AreInPlace}
-use Rattle.ranking.specs.Keyed.{least, next_key, EachKey}
-use Rattle.ranking.proofs.Maps.{not_some, least_is, next_some}
-use Rattle.ranking.proofs.Gathered.{next_empty}
+use Rattle.tournament.specs.Leading.{rank_at}
+use Rattle.tournament.specs.Timed.{AreInPlace}
+use Rattle.tournament.specs.Keyed.{least, next_key, EachKey}
+use Rattle.tournament.proofs.Maps.{not_some, least_is, next_some}
+use Rattle.tournament.proofs.Gathered.{next_empty}
 use Rattle.node_core.specs.declared.event.Event.{Event}
 use Rattle.node_core.specs.Node.{NodeState}
 use Rattle.net_machine.specs.Nodes.{no_node, node_at, next_keys, IsPlaced}

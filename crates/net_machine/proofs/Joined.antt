@@ -15,7 +15,7 @@ use Rattle.table_run.proofs.RunLaws.{sound_run}
 use Rattle.packet_chain.specs.Stamped.{Stamped}
 use Rattle.net_machine.specs.declared.places.LinkEnds.{LinkEnds}
 use Rattle.net_machine.specs.NetOf.{IsNet, AreNetParts}
-use Rattle.net_machine.specs.Nodes.{no_node, node_at, opening_nodes, net_state}
+use Rattle.net_machine.specs.Nodes.{no_node, node_at, initial_nodes, net_state}
 use Rattle.net_machine.specs.Wiring.{from_of, exit_of, to_of, IsJoined, IsWired}
 use Rattle.net_machine.proofs.Opened.{node_count}
 use Rattle.net_machine.proofs.OpenedWires.{links_of, past, opened_wired}
@@ -30,8 +30,8 @@ module _ (p : ScenarioParts) (is_scenario : IsScenario p) (n : ℕ) (lines : Lis
   part_is : (node : ℕ) → part_at (net_state nodes end) node ≡ (node_at nodes node).part
   part_is node = get_or-map (λ (x : NodeState). x.part) nodes node no_node
 
-  -- a node's links are those of the opening, used
-  same_links : (node : ℕ) → map afresh (node_at nodes node).part.links ≡ (node_at (opening_nodes p) node).part.links
+  -- a node's links are those of the initial state, used
+  same_links : (node : ℕ) → map afresh (node_at nodes node).part.links ≡ (node_at (initial_nodes p) node).part.links
   same_links node =
       ⊎_elim
       (λ (under : node < length p.nodes). ap (λ (x : PartState). map afresh x.links) (sym (part_is node)) ∙ (sound.sound.each_node node under).its_links ∙ sym (links_of p is_scenario node under))
@@ -40,13 +40,13 @@ module _ (p : ScenarioParts) (is_scenario : IsScenario p) (n : ℕ) (lines : Lis
       ∙ sym (ap (λ (x : NodeState). x.part.links) (past p is_scenario node over)))
       (cases_lt node (length p.nodes))
 
-  same_count : (node : ℕ) → length (node_at (opening_nodes p) node).part.links ≡ length (node_at nodes node).part.links
+  same_count : (node : ℕ) → length (node_at (initial_nodes p) node).part.links ≡ length (node_at nodes node).part.links
   same_count node = ap length (sym (same_links node)) ∙ length-map (node_at nodes node).part.links afresh
 
-  same_link : (node index : ℕ) → link_at (node_at (opening_nodes p) node).part.links index ≡ afresh (link_at (node_at nodes node).part.links index)
+  same_link : (node index : ℕ) → link_at (node_at (initial_nodes p) node).part.links index ≡ afresh (link_at (node_at nodes node).part.links index)
   same_link node index = ap (λ (links : List LinkState). link_at links index) (sym (same_links node)) ∙ get_or-map afresh (node_at nodes node).part.links index no_link
 
-  same_number : (node index : ℕ) → (link_at (node_at (opening_nodes p) node).part.links index).port.link ≡ (link_at (node_at nodes node).part.links index).port.link
+  same_number : (node index : ℕ) → (link_at (node_at (initial_nodes p) node).part.links index).port.link ≡ (link_at (node_at nodes node).part.links index).port.link
   same_number node index = ap (λ (link : LinkState). link.port.link) (same_link node index)
 
   pub joined_wired : ((number : ℕ) → number < length p.links → IsJoined p.links nodes number) → IsWired p.links nodes

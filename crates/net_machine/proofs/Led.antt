@@ -2,8 +2,8 @@
 use Rattle.std.proofs.Common.{◌≡◌, ℕ, ◌<◌, ◌≤◌, List, length, sym, ap, ◌∙◌, Some, None, cond, arith}
 use Rattle.std.proofs.lemmas.Bool.{lt-ltb, le-ltb}
 use Rattle.std.specs.Option.{option_map}
-use Rattle.ranking.specs.Keyed.{least, next_key}
-use Rattle.ranking.proofs.Maps.{next_some}
+use Rattle.tournament.specs.Keyed.{least, next_key}
+use Rattle.tournament.proofs.Maps.{next_some}
 use Rattle.node_core.specs.Node.{NodeState}
 use Rattle.table_run.specs.State.{below, due}
 use Rattle.net_machine.specs.Due.{due_of}

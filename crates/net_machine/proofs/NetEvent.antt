@@ -3,7 +3,7 @@ use Rattle.std.proofs.Common.{◌≡◌, ◌≢◌, ℕ, ◌+◌, ◌<◌, List,
 use Rattle.std.specs.Option.{option_map}
 use Rattle.sim_time.specs.declared.key.Key.{Key}
 use Rattle.packet_chain.specs.Stamped.{Stamped}
-use Rattle.ranking.specs.Keyed.{least, next_key}
+use Rattle.tournament.specs.Keyed.{least, next_key}
 use Rattle.node_core.specs.declared.event.Event.{Event}
 use Rattle.node_core.specs.Row.{Leaving}
 use Rattle.node_core.specs.TraceLine.{TraceLine}
@@ -75,12 +75,12 @@ module _ {nodes : List NodeState} {ends : List LinkEnds} {out : List (List Stamp
     by_leaving : (o : Option Leaving) → (effect_at nodes place k v).leaving ≡ o → (step (net_state nodes end) ≡ Some (line, net_state new end)) × IsNet new ends (replicate 16 []) end (position + 1)
     by_leaving None none =
         let is_ran : new ≡ ran nodes ends out end position d.is place d.first k v has.is_least early = subst (λ o. GoneOn (HaveCome ends) (effect_at nodes place k v) o (set nodes place (node_after nodes place k v)) new) none has.goes in (
-          quiet_step nodes ends out end position d.is place d.first k v has.is_least early none ∙ (λ i. Some (sym has.told i, net_state (sym is_ran i) end)),
+          quiet_step nodes ends out end position d.is place d.first k v has.is_least early none ∙ (λ i. Some (sym has.reported i, net_state (sym is_ran i) end)),
           subst (λ (n : List NodeState). IsNet n ends (replicate 16 []) end (position + 1)) (sym is_ran) (quiet_net nodes ends out end position d.is place d.first k v has.is_least early none d.fits),
         )
     by_leaving (Some l) left =
         let is_last : new ≡ last nodes ends out end position d.is place d.first k v has.is_least early l left = subst (λ o. GoneOn (HaveCome ends) (effect_at nodes place k v) o (set nodes place (node_after nodes place k v)) new) left has.goes in (
-          come_step nodes ends out end position d.is place d.first k v has.is_least early l left ∙ (λ i. Some (sym has.told i, net_state (sym is_last i) end)),
+          come_step nodes ends out end position d.is place d.first k v has.is_least early l left ∙ (λ i. Some (sym has.reported i, net_state (sym is_last i) end)),
           subst (λ (n : List NodeState). IsNet n ends (replicate 16 []) end (position + 1)) (sym is_last) (come_net nodes ends out end position d.is place d.first k v has.is_least early l left d.fits),
         )
 

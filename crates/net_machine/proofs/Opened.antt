@@ -1,4 +1,4 @@
--- The nodes of a scenario at first are in its opening state.
+-- The nodes of a scenario at first are in its initial state.
 use Rattle.std.proofs.Common.{◌≡◌, ℕ, ◌+◌, ◌<◌, ◌≤◌, ◌==◌, true, false, cond, List, [], ◌∷◌, length, filter, map, get_or, refl, sym, ap, subst, ◌∙◌, ⊎_elim, arith}
 use Rattle.std.proofs.lemmas.Bool.{cases_lt, eqb-true}
 use Rattle.std.proofs.lemmas.List.{length-map}
@@ -9,21 +9,21 @@ use Rattle.scenario_image.specs.declared.parts.NodeKind.{NodeKind}
 use Rattle.scenario_image.specs.declared.parts.NodeKind.TheVariants.{Router}
 use Rattle.scenario_image.specs.declared.parts.FlowPart.{FlowPart}
 use Rattle.scenario_image.specs.declared.parts.ScenarioParts.{ScenarioParts}
-use Rattle.ranking.specs.Keyed.{apply, nothing_due, EachKey}
-use Rattle.ranking.specs.Gathered.{map_at, AtHome}
-use Rattle.ranking.proofs.Maps.{each_apply, each_empty}
-use Rattle.ranking.proofs.Gathered.{own, gathered-apply_own, none-gathered}
+use Rattle.tournament.specs.Keyed.{apply, nothing_due, EachKey}
+use Rattle.tournament.specs.Gathered.{map_at, AtHome}
+use Rattle.tournament.proofs.Maps.{each_apply, each_empty}
+use Rattle.tournament.proofs.Gathered.{own, gathered-apply_own, none-gathered}
 use Rattle.node_core.specs.declared.event.Event.{Event}
-use Rattle.node_core.specs.Pending.{Change}
-use Rattle.node_core.specs.Opening.{opening_part, start_of, starting_flows}
-use Rattle.node_core.specs.Node.{NodeState, opening_node}
-use Rattle.table_run.specs.State.{opening}
-use Rattle.net_machine.specs.Nodes.{no_node, node_at, opening_nodes, pendings, net_pending, net_state, IsPlaced}
+use Rattle.node_core.specs.Pending.{EventChange}
+use Rattle.node_core.specs.Initial.{initial_part, start_of, starting_flows}
+use Rattle.node_core.specs.Node.{NodeState, initial_node}
+use Rattle.table_run.specs.State.{initial}
+use Rattle.net_machine.specs.Nodes.{no_node, node_at, initial_nodes, pendings, net_pending, net_state, IsPlaced}
 use Rattle.net_machine.proofs.AtNodes.{pending_at}
 
-parts_mapped : (p : ScenarioParts) (xs : List (ℕ × NodeKind)) → map (λ (n : NodeState). n.part) (map (opening_node p) xs) ≡ map (opening_part p) xs
+parts_mapped : (p : ScenarioParts) (xs : List (ℕ × NodeKind)) → map (λ (n : NodeState). n.part) (map (initial_node p) xs) ≡ map (initial_part p) xs
 parts_mapped p [] = refl
-parts_mapped p (x ∷ xs) = ap (λ rest. opening_part p x ∷ rest) (parts_mapped p xs)
+parts_mapped p (x ∷ xs) = ap (λ rest. initial_part p x ∷ rest) (parts_mapped p xs)
 
 -- the changes of one node's flows
 own_starts : (i : ℕ) (xs : List (ℕ × FlowPart)) → own (λ k. k.node) i (map start_of xs) ≡ map start_of (filter (λ (x : ℕ × FlowPart). x.1.sender == i) xs)
@@ -34,10 +34,10 @@ own_starts i (x ∷ xs) =
       | false ↦ own_starts i xs
     ]
 
-own_here : (i : ℕ) (xs : List (ℕ × FlowPart)) → AllByRecursion (λ (c : Change). c.0.node ≡ i) (map start_of (filter (λ (x : ℕ × FlowPart). x.1.sender == i) xs))
+own_here : (i : ℕ) (xs : List (ℕ × FlowPart)) → AllByRecursion (λ (c : EventChange). c.0.node ≡ i) (map start_of (filter (λ (x : ℕ × FlowPart). x.1.sender == i) xs))
 own_here i [] = tt
 own_here i (x ∷ xs) =
-    elim (x.1.sender == i) as (λ b. (x.1.sender == i) ≡ b → AllByRecursion (λ (c : Change). c.0.node ≡ i) (map start_of (cond b (x ∷ filter (λ (y : ℕ × FlowPart). y.1.sender == i) xs) (filter (λ (y : ℕ × FlowPart). y.1.sender == i) xs)))) [
+    elim (x.1.sender == i) as (λ b. (x.1.sender == i) ≡ b → AllByRecursion (λ (c : EventChange). c.0.node ≡ i) (map start_of (cond b (x ∷ filter (λ (y : ℕ × FlowPart). y.1.sender == i) xs) (filter (λ (y : ℕ × FlowPart). y.1.sender == i) xs)))) [
       | true ↦ λ same. (eqb-true x.1.sender i same, own_here i xs)
       | false ↦ λ _. own_here i xs
     ] refl
@@ -52,41 +52,41 @@ none_past i bound base (flow ∷ flows) past all =
     ] refl
 
 module _ (p : ScenarioParts) where
-  pub node_count : length (opening_nodes p) ≡ length p.nodes
-  node_count = length-map (enumerate_from 0 p.nodes) (opening_node p) ∙ length-enumerate_from 0 p.nodes
+  pub node_count : length (initial_nodes p) ≡ length p.nodes
+  node_count = length-map (enumerate_from 0 p.nodes) (initial_node p) ∙ length-enumerate_from 0 p.nodes
 
-  pub opened : (i : ℕ) (kind : NodeKind) → i < length p.nodes → node_at (opening_nodes p) i ≡ opening_node p (i, get_or p.nodes i kind)
+  pub opened : (i : ℕ) (kind : NodeKind) → i < length p.nodes → node_at (initial_nodes p) i ≡ initial_node p (i, get_or p.nodes i kind)
   opened i kind under =
-      Rattle.std.proofs.lemmas.List.get_or-map (opening_node p) (enumerate_from 0 p.nodes) i (0, kind) no_node (subst (λ n. i < n) (sym (length-enumerate_from 0 p.nodes)) under)
-      ∙ ap (opening_node p) (get_or-enumerate_from 0 p.nodes i (0, kind) under)
-      ∙ (let number : 0 + i ≡ i = omega arith in ap (λ n. opening_node p (n, get_or p.nodes i kind)) number)
+      Rattle.std.proofs.lemmas.List.get_or-map (initial_node p) (enumerate_from 0 p.nodes) i (0, kind) no_node (subst (λ n. i < n) (sym (length-enumerate_from 0 p.nodes)) under)
+      ∙ ap (initial_node p) (get_or-enumerate_from 0 p.nodes i (0, kind) under)
+      ∙ (let number : 0 + i ≡ i = omega arith in ap (λ n. initial_node p (n, get_or p.nodes i kind)) number)
 
 module _ (p : ScenarioParts) (senders : AllByRecursion (λ (flow : FlowPart). flow.sender < length p.nodes) p.flows) where
-  starts_at : (i : ℕ) → map_at (pendings (opening_nodes p)) i ≡ apply (own (λ k. k.node) i (map start_of (enumerate_from 0 p.flows))) (map_at [] i)
+  starts_at : (i : ℕ) → map_at (pendings (initial_nodes p)) i ≡ apply (own (λ k. k.node) i (map start_of (enumerate_from 0 p.flows))) (map_at [] i)
   starts_at i =
-      pending_at (opening_nodes p) i
+      pending_at (initial_nodes p) i
       ∙ ⊎_elim
       (λ (under : i < length p.nodes). ap (λ (n : NodeState). n.pending) (opened p i Router under))
       (λ (past : length p.nodes ≤ i).
-      ap (λ (n : NodeState). n.pending) (get_or-eq_default (opening_nodes p) no_node (subst (λ n. n ≤ i) (sym (node_count p)) past))
+      ap (λ (n : NodeState). n.pending) (get_or-eq_default (initial_nodes p) no_node (subst (λ n. n ≤ i) (sym (node_count p)) past))
       ∙ ap (λ (xs : List (ℕ × FlowPart)). apply (map start_of xs) (nothing_due Event)) (sym (none_past i (length p.nodes) 0 p.flows past senders)))
       (cases_lt i (length p.nodes))
       ∙ ap (λ cs. apply cs (nothing_due Event)) (sym (own_starts i (enumerate_from 0 p.flows)))
 
-  at_home : AtHome (λ k. k.node) (pendings (opening_nodes p))
+  at_home : AtHome (λ k. k.node) (pendings (initial_nodes p))
   at_home i = subst (EachKey (λ k. k.node ≡ i)) (sym (starts_at i ∙ ap (λ cs. apply cs (nothing_due Event)) (own_starts i (enumerate_from 0 p.flows))))
       (each_apply (λ k. k.node ≡ i) (map start_of (starting_flows p.flows i)) (nothing_due Event) (own_here i (enumerate_from 0 p.flows)) (each_empty (λ k. k.node ≡ i)))
 
-  pub opened_placed : IsPlaced (opening_nodes p)
+  pub opened_placed : IsPlaced (initial_nodes p)
   opened_placed = record {
     number = λ i under. ap (λ (n : NodeState). n.number) (opened p i Router (subst (λ n. i < n) (node_count p) under));
     at_home = at_home;
   }
 
-  opened_pending : net_pending (opening_nodes p) ≡ apply (map start_of (enumerate_from 0 p.flows)) (nothing_due Event)
+  opened_pending : net_pending (initial_nodes p) ≡ apply (map start_of (enumerate_from 0 p.flows)) (nothing_due Event)
   opened_pending =
-      gathered-apply_own (λ k. k.node) (map start_of (enumerate_from 0 p.flows)) [] (pendings (opening_nodes p)) (λ i. each_empty (λ k. k.node ≡ i)) at_home starts_at
+      gathered-apply_own (λ k. k.node) (map start_of (enumerate_from 0 p.flows)) [] (pendings (initial_nodes p)) (λ i. each_empty (λ k. k.node ≡ i)) at_home starts_at
       ∙ ap (apply (map start_of (enumerate_from 0 p.flows))) (none-gathered [] (λ i. refl))
 
-  pub opened_state : net_state (opening_nodes p) p.end ≡ opening p
+  pub opened_state : net_state (initial_nodes p) p.end ≡ initial p
   opened_state = λ i. record { parts = parts_mapped p (enumerate_from 0 p.nodes) i; pending = opened_pending i; end = p.end }

@@ -3,16 +3,16 @@ use Rattle.std.proofs.Common.{◌≡◌, ℕ, List, [], sym, subst, ap, ◌∙�
 use Rattle.scenario_image.specs.declared.parts.ScenarioParts.{ScenarioParts}
 use Rattle.scenario_image.specs.Scenario.{IsScenario}
 use Rattle.node_core.specs.Node.{NodeState}
-use Rattle.table_run.specs.State.{State, opening}
+use Rattle.table_run.specs.State.{State, initial}
 use Rattle.net_machine.specs.declared.places.LinkEnds.{LinkEnds}
-use Rattle.net_machine.specs.Nodes.{opening_nodes, net_state, IsPlaced}
+use Rattle.net_machine.specs.Nodes.{initial_nodes, net_state, IsPlaced}
 use Rattle.net_machine.specs.Wiring.{IsWired, AreEnds}
 use Rattle.net_machine.specs.NetOf.{AreNetParts}
 use Rattle.net_machine.proofs.Opened.{opened_placed, opened_state}
 use Rattle.net_machine.proofs.OpenedWires.{nodes_senders, opened_wired}
 
-module _ (p : ScenarioParts) (is_scenario : IsScenario p) (nodes : List NodeState) (nodes_are : nodes ≡ opening_nodes p) (end : ℕ) (end_is : end ≡ p.end) where
-  pub state_is : net_state nodes end ≡ opening p
+module _ (p : ScenarioParts) (is_scenario : IsScenario p) (nodes : List NodeState) (nodes_are : nodes ≡ initial_nodes p) (end : ℕ) (end_is : end ≡ p.end) where
+  pub state_is : net_state nodes end ≡ initial p
   state_is = (λ i. net_state (nodes_are i) (end_is i)) ∙ opened_state p (nodes_senders p is_scenario)
 
   pub opened_parts : (links : List LinkEnds) → AreEnds p.links links → AreNetParts nodes links end 0

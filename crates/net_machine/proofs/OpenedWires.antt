@@ -12,12 +12,12 @@ use Rattle.scenario_image.specs.declared.parts.FlowPart.{FlowPart}
 use Rattle.scenario_image.specs.declared.parts.ScenarioParts.{ScenarioParts}
 use Rattle.scenario_image.specs.Ends.{leaves, outgoing_count, HasItsLinks}
 use Rattle.scenario_image.specs.Scenario.{IsScenario}
-use Rattle.node_core.specs.AgendaState.{Incoming, incoming_at, no_incoming}
+use Rattle.node_core.specs.EventQueueState.{Incoming, incoming_at, no_incoming}
 use Rattle.node_core.specs.Part.{LinkState, link_at, no_link}
-use Rattle.node_core.specs.Opening.{opening_link, opening_links, leaving_links, coming_links}
+use Rattle.node_core.specs.Initial.{initial_link, initial_links, leaving_links, coming_links}
 use Rattle.node_core.specs.Node.{NodeState}
-use Rattle.net_machine.specs.Nodes.{no_node, node_at, opening_nodes}
-use Rattle.net_machine.specs.Wiring.{no_link_part, link_part, from_of, exit_of, to_of, entry_of, leaving_at, coming_at, IsWire, IsExit, IsWired}
+use Rattle.net_machine.specs.Nodes.{no_node, node_at, initial_nodes}
+use Rattle.net_machine.specs.Wiring.{no_link_part, link_part, from_of, exit_of, to_of, entry_of, leaving_at, coming_at, IsNetWire, IsExit, IsWired}
 use Rattle.net_machine.proofs.Counting.{passing, at_count, IsPassing, passing_at}
 use Rattle.net_machine.proofs.Opened.{opened}
 
@@ -50,40 +50,40 @@ module _ (p : ScenarioParts) (is_scenario : IsScenario p) where
   link_there : (number : ℕ) → number < length p.links → (from_of p.links number < length p.nodes) × (to_of p.links number < length p.nodes)
   link_there number under = (let l = is_scenario.in_limits.each_link number no_link_part under in (l.from_node, l.to_node))
 
-  pub links_of : (node : ℕ) → node < length p.nodes → (node_at (opening_nodes p) node).part.links ≡ opening_links p.links node
+  pub links_of : (node : ℕ) → node < length p.nodes → (node_at (initial_nodes p) node).part.links ≡ initial_links p.links node
   links_of node under = ap (λ (n : NodeState). n.part.links) (opened p node Router under)
 
-  coming_of : (node : ℕ) → node < length p.nodes → (node_at (opening_nodes p) node).incoming ≡ map (λ (x : ℕ × LinkPart). record { link = x.0; came = 0 }) (coming_links p.links node)
+  coming_of : (node : ℕ) → node < length p.nodes → (node_at (initial_nodes p) node).incoming ≡ map (λ (x : ℕ × LinkPart). record { link = x.0; came = 0 }) (coming_links p.links node)
   coming_of node under = ap (λ (n : NodeState). n.incoming) (opened p node Router under)
 
-  pub past : (node : ℕ) → length p.nodes ≤ node → node_at (opening_nodes p) node ≡ no_node
-  past node over = get_or-eq_default (opening_nodes p) no_node (subst (λ n. n ≤ node) (sym (Rattle.net_machine.proofs.Opened.node_count p)) over)
+  pub past : (node : ℕ) → length p.nodes ≤ node → node_at (initial_nodes p) node ≡ no_node
+  past node over = get_or-eq_default (initial_nodes p) no_node (subst (λ n. n ≤ node) (sym (Rattle.net_machine.proofs.Opened.node_count p)) over)
 
-  few : (node : ℕ) → length (node_at (opening_nodes p) node).part.links ≤ 16
+  few : (node : ℕ) → length (node_at (initial_nodes p) node).part.links ≤ 16
   few node =
       ⊎_elim
       (λ (under : node < length p.nodes).
-      let count : length (node_at (opening_nodes p) node).part.links ≡ outgoing_count p.links node = ap length (links_of node under) ∙ length-map (leaving_links p.links node) opening_link ∙ passing_count (leaves node) 0 p.links in
+      let count : length (node_at (initial_nodes p) node).part.links ≡ outgoing_count p.links node = ap length (links_of node under) ∙ length-map (leaving_links p.links node) initial_link ∙ passing_count (leaves node) 0 p.links in
       let most = most_links p node (get_or p.nodes node Router) (is_scenario.ends node (get_or p.nodes node Router) (slice_get-get_or p.nodes node Router under)) in
       omega (arith, count, most))
-      (λ (over : length p.nodes ≤ node). (let none : length (node_at (opening_nodes p) node).part.links ≡ 0 = ap (λ (n : NodeState). length n.part.links) (past node over) in omega (arith, none)))
+      (λ (over : length p.nodes ≤ node). (let none : length (node_at (initial_nodes p) node).part.links ≡ 0 = ap (λ (n : NodeState). length n.part.links) (past node over) in omega (arith, none)))
       (cases_lt node (length p.nodes))
 
-  exits : (node index : ℕ) → index < length (node_at (opening_nodes p) node).part.links → IsExit p.links (opening_nodes p) node index
+  exits : (node index : ℕ) → index < length (node_at (initial_nodes p) node).part.links → IsExit p.links (initial_nodes p) node index
   exits node index within =
       ⊎_elim
       (λ (under : node < length p.nodes).
-      let inside : index < length (leaving_links p.links node) = subst (λ n. index < n) (ap length (links_of node under) ∙ length-map (leaving_links p.links node) opening_link) within in
+      let inside : index < length (leaving_links p.links node) = subst (λ n. index < n) (ap length (links_of node under) ∙ length-map (leaving_links p.links node) initial_link) within in
       let it = passing_at (leaves node) 0 p.links index no_link_part (0, no_link_part) inside in
-      let at : link_at (node_at (opening_nodes p) node).part.links index ≡ opening_link (0 + it.place, link_part p.links it.place) = ap (λ ls. link_at ls index) (links_of node under) ∙ get_or-map opening_link (leaving_links p.links node) index (0, no_link_part) no_link inside ∙ ap opening_link it.is in
-      let number : (link_at (node_at (opening_nodes p) node).part.links index).port.link ≡ it.place = ap (λ (l : LinkState). l.port.link) at ∙ omega arith in
+      let at : link_at (node_at (initial_nodes p) node).part.links index ≡ initial_link (0 + it.place, link_part p.links it.place) = ap (λ ls. link_at ls index) (links_of node under) ∙ get_or-map initial_link (leaving_links p.links node) index (0, no_link_part) no_link inside ∙ ap initial_link it.is in
+      let number : (link_at (node_at (initial_nodes p) node).part.links index).port.link ≡ it.place = ap (λ (l : LinkState). l.port.link) at ∙ omega arith in
       let from : from_of p.links it.place ≡ node = eqb-true (from_of p.links it.place) node it.passes in
       record {
         known = subst (λ n. n < length p.links) (sym number) it.within;
         from_here = ap (from_of p.links) number ∙ from;
         exit_here = ap (exit_of p.links) number ∙ ap (λ n. count_by (λ (link : LinkPart). link.from == n) (take it.place p.links)) from ∙ it.count;
       })
-      (λ (over : length p.nodes ≤ node). (let none : length (node_at (opening_nodes p) node).part.links ≡ 0 = ap (λ (n : NodeState). length n.part.links) (past node over) in absurd (omega (arith, none, within))))
+      (λ (over : length p.nodes ≤ node). (let none : length (node_at (initial_nodes p) node).part.links ≡ 0 = ap (λ (n : NodeState). length n.part.links) (past node over) in absurd (omega (arith, none, within))))
       (cases_lt node (length p.nodes))
 
   -- a link that is counted is among those that pass
@@ -94,7 +94,7 @@ module _ (p : ScenarioParts) (is_scenario : IsScenario p) where
       let all = passing_count q 0 p.links in
       omega (arith, more, most, all)
 
-  wires : (number : ℕ) → number < length p.links → IsWire p.links (opening_nodes p) number
+  wires : (number : ℕ) → number < length p.links → IsNetWire p.links (initial_nodes p) number
   wires number under =
       let there = link_there number under in
       let from = from_of p.links number in
@@ -103,10 +103,10 @@ module _ (p : ScenarioParts) (is_scenario : IsScenario p) where
       let ends_here : (to == to) ≡ true = eq-eqb to to refl in
       let exit_in = index_below (leaves from) number under leaves_here in
       let entry_in = index_below (λ (l : LinkPart). l.to == to) number under ends_here in
-      let at : leaving_at p.links (opening_nodes p) number ≡ opening_link (0 + number, link_part p.links number) =
-      ap (λ ls. link_at ls (exit_of p.links number)) (links_of from there.0) ∙ get_or-map opening_link (leaving_links p.links from) (exit_of p.links number) (0, no_link_part) no_link exit_in
-      ∙ ap opening_link (at_count (leaves from) 0 p.links number no_link_part (0, no_link_part) under leaves_here) in
-      let comes : coming_at p.links (opening_nodes p) number ≡ record { link = 0 + number; came = 0 } =
+      let at : leaving_at p.links (initial_nodes p) number ≡ initial_link (0 + number, link_part p.links number) =
+      ap (λ ls. link_at ls (exit_of p.links number)) (links_of from there.0) ∙ get_or-map initial_link (leaving_links p.links from) (exit_of p.links number) (0, no_link_part) no_link exit_in
+      ∙ ap initial_link (at_count (leaves from) 0 p.links number no_link_part (0, no_link_part) under leaves_here) in
+      let comes : coming_at p.links (initial_nodes p) number ≡ record { link = 0 + number; came = 0 } =
       ap (λ ins. incoming_at ins (entry_of p.links number)) (coming_of to there.1) ∙ get_or-map (λ (x : ℕ × LinkPart). record { link = x.0; came = 0 }) (coming_links p.links to) (entry_of p.links number) (0, no_link_part) no_incoming entry_in
       ∙ ap (λ (x : ℕ × LinkPart). record { link = x.0; came = 0 }) (at_count (λ (l : LinkPart). l.to == to) 0 p.links number no_link_part (0, no_link_part) under ends_here) in
       record {
@@ -118,5 +118,5 @@ module _ (p : ScenarioParts) (is_scenario : IsScenario p) where
         came = ap (λ (i : Incoming). i.came) comes ∙ sym (ap (λ (l : LinkState). l.port.sent) at);
       }
 
-  pub opened_wired : IsWired p.links (opening_nodes p)
+  pub opened_wired : IsWired p.links (initial_nodes p)
   opened_wired = record { few = few; exits = exits; wires = wires }

@@ -3,7 +3,7 @@ use Rattle.std.proofs.Common.{◌≡◌, ℕ, ◌<◌, List, [], ◌++◌, lengt
 use Rattle.std.proofs.lemmas.List.{get_or-set_same, length-set, set-set, set-get_or, get_or-replicate}
 use Rattle.std.specs.Option.{option_map}
 use Rattle.packet_chain.specs.Stamped.{Stamped}
-use Rattle.ranking.proofs.Maps.{not_some, same_some}
+use Rattle.tournament.proofs.Maps.{not_some, same_some}
 use Rattle.node_core.specs.Part.{link_at}
 use Rattle.node_core.specs.Row.{Effect, Leaving}
 use Rattle.node_core.specs.TraceLine.{TraceLine}
@@ -60,7 +60,7 @@ module _ {S : Type 0} (nodes : S → List NodeState) (put : S → ℕ → NodeSt
   mid_is = is_mid ∙ ap (put old place) has.node
 
   happened : (new : S) → GoneOn takes eff eff.leaving (put old place (node_after (nodes old) place line.key line.event)) new → HasHappened nodes put takes old new place line
-  happened new goes = record { is_least = has.is_least; told = λ i. record { key = line.key; event = line.event; after = has.shows i; acts = has.did i }; goes = goes }
+  happened new goes = record { is_least = has.is_least; reported = λ i. record { key = line.key; event = line.event; after = has.shows i; acts = has.did i }; goes = goes }
 
   -- nothing left it
   module _ (none : None ≡ option_map (λ (l : Leaving). l.index) eff.leaving) where

@@ -8,25 +8,25 @@ use Rattle.std.specs.FinMap as fin
 use Rattle.std.specs.List.Sorted.{IsStrictlyIncreasing}
 use Rattle.sim_time.specs.declared.key.Key.{Key}
 use Rattle.packet_chain.specs.Stamped.{Stamped}
-use Rattle.ranking.specs.Keyed.{apply, changed, least, next_key, entering, EachKey}
-use Rattle.ranking.proofs.Maps.{same_some}
+use Rattle.tournament.specs.Keyed.{apply, changed, least, next_key, entering, EachKey}
+use Rattle.tournament.proofs.Maps.{same_some}
 use Rattle.node_core.specs.declared.event.Event.{Event}
 use Rattle.node_core.specs.declared.event.Event.TheVariants.{Arrive}
-use Rattle.node_core.specs.Pending.{Events, Change}
-use Rattle.node_core.specs.Alarms.{arrival_key}
-use Rattle.node_core.specs.AgendaState.{Incoming, incoming_at}
+use Rattle.node_core.specs.Pending.{Events, EventChange}
+use Rattle.node_core.specs.Timers.{arrival_key}
+use Rattle.node_core.specs.EventQueueState.{Incoming, incoming_at}
 use Rattle.node_core.specs.WireState.{arrivals}
 use Rattle.node_core.specs.Part.{LinkState, PartState, link_at}
 use Rattle.node_core.specs.Row.{Effect, Leaving, row, home_changes, sent_away}
 use Rattle.node_core.specs.Ready.{IsRunnable}
 use Rattle.node_core.specs.TraceLine.{TraceLine}
 use Rattle.node_core.specs.Node.{NodeState, delivered}
-use Rattle.table_run.specs.State.{State, part_at, below as below_end, due, effect_of, stepped, line_of, step_at, step, one_more, run, opening}
-use Rattle.net_machine.specs.declared.places.Place.{Place}
+use Rattle.table_run.specs.State.{State, part_at, below as below_end, due, effect_of, stepped, line_of, step_at, step, one_step_more, run, initial}
+use Rattle.net_machine.specs.declared.places.EndPlace.{EndPlace}
 use Rattle.net_machine.specs.declared.places.LinkEnds.{LinkEnds}
 use Rattle.net_machine.specs.Run.{Reached, IsRun}
 use Rattle.net_machine.specs.Nodes.{no_node, node_at, net_pending, parts_of, net_state, reached, IsPlaced, IsFirst}
-use Rattle.net_machine.specs.Wiring.{from_of, exit_of, to_of, entry_of, leaving_at, coming_at, place_at, IsWire, IsExit, IsWired}
+use Rattle.net_machine.specs.Wiring.{from_of, exit_of, to_of, entry_of, leaving_at, coming_at, place_at, IsNetWire, IsExit, IsWired}
 use Rattle.net_machine.specs.NetOf.{IsNet}
 use Rattle.net_machine.proofs.AtNodes.{node_key}
 use Rattle.net_machine.specs.Region.{effect_at, node_after, link_left, packet_left, come_over, IsOver, CanCome}
@@ -34,7 +34,7 @@ use Rattle.net_machine.proofs.Home.{its_node, fired_placed, fired_pending, come_
 use Rattle.table_run.proofs.Ready.{LinksStay, IsDelivery, runnable, links_stay, delivery}
 use Rattle.net_machine.proofs.Wired.{wired_fired, wired_delivered}
 
-apply_both : (cs ds : List Change) (m : Events) → apply (cs ++ ds) m ≡ apply ds (apply cs m)
+apply_both : (cs ds : List EventChange) (m : Events) → apply (cs ++ ds) m ≡ apply ds (apply cs m)
 apply_both [] ds m = refl
 apply_both (c ∷ cs) ds m = apply_both cs ds (changed m c.0 c.1)
 
@@ -45,8 +45,8 @@ run_step r line new is_run fits is = record {
   lines = is_run.lines ++ line ∷ [];
   is_scenario = is_run.is_scenario;
   position_fits = omega (arith, fits);
-  is = subst (λ n. run (opening is_run.scenario) n ≡ Some (is_run.lines ++ line ∷ [], new)) {x = suc r.position} {y = r.position + 1} (omega arith)
-      (ap (option_and_then one_more) is_run.is ∙ ap (option_map {U = List TraceLine × State} (λ (next : TraceLine × State). (is_run.lines ++ next.0 ∷ [], next.1))) is);
+  is = subst (λ n. run (initial is_run.scenario) n ≡ Some (is_run.lines ++ line ∷ [], new)) {x = suc r.position} {y = r.position + 1} (omega arith)
+      (ap (option_and_then one_step_more) is_run.is ∙ ap (option_map {U = List TraceLine × State} (λ (next : TraceLine × State). (is_run.lines ++ next.0 ∷ [], next.1))) is);
 }
 
 -- what holds of the only one
@@ -132,7 +132,7 @@ module _ (nodes : List NodeState) (ends : List LinkEnds) (out : List (List Stamp
       abbrev link : ℕ
       link = link_left eff l
 
-      abbrev to : Place
+      abbrev to : EndPlace
       to = place_at ends link
 
       gone : IsDelivery (net_state nodes end) position k eff.part.links l
@@ -156,7 +156,7 @@ module _ (nodes : List NodeState) (ends : List LinkEnds) (out : List (List Stamp
       exit_here : exit_of is.run.scenario.links link ≡ l.index
       exit_here = ap (exit_of is.run.scenario.links) link_old ∙ its_exit.exit_here
 
-      wire : IsWire is.run.scenario.links nodes link
+      wire : IsNetWire is.run.scenario.links nodes link
       wire = is.wired.wires link known
 
       pub over : IsOver ends eff l

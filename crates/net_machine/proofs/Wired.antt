@@ -4,14 +4,14 @@ use Rattle.std.proofs.lemmas.Bool.{cases_eq}
 use Rattle.std.proofs.lemmas.List.{get_or-set_same, length-set}
 use Rattle.scenario_image.specs.declared.parts.LinkPart.{LinkPart}
 use Rattle.packet_chain.specs.Stamped.{Stamped}
-use Rattle.ranking.proofs.Maps.{not_some, same_some}
-use Rattle.node_core.specs.AgendaState.{Incoming, incoming_at}
+use Rattle.tournament.proofs.Maps.{not_some, same_some}
+use Rattle.node_core.specs.EventQueueState.{Incoming, incoming_at}
 use Rattle.node_core.specs.Part.{LinkState, PartState, link_at}
 use Rattle.node_core.specs.Row.{Leaving}
 use Rattle.node_core.specs.Node.{NodeState, delivered}
 use Rattle.net_machine.specs.Nodes.{no_node, node_at}
 use Rattle.net_machine.proofs.AfterEvent.{same_link as link_after, same_count as count_after, same_coming as coming_after, same_sent as sent_after, same_part as part_come, coming_count, coming_link, coming_others, coming_here}
-use Rattle.net_machine.specs.Wiring.{from_of, exit_of, to_of, entry_of, leaving_at, coming_at, IsWire, IsExit, IsWired}
+use Rattle.net_machine.specs.Wiring.{from_of, exit_of, to_of, entry_of, leaving_at, coming_at, IsNetWire, IsExit, IsWired}
 use Rattle.table_run.proofs.Ready.{IsSameLink, LinksStay}
 
 module _ (links : List LinkPart) (nodes : List NodeState) (wired : IsWired links nodes) where
@@ -60,7 +60,7 @@ module _ (links : List LinkPart) (nodes : List NodeState) (wired : IsWired links
         → (leaving_at links (set nodes place x) number).port.sent ≡ (leaving_at links nodes number).port.sent
     sent_stays number other = sent_after nodes (set nodes place x) place inside x refl same_in leaving stay (from_of links number) (exit_of links number) other
 
-    wire_stays : (number : ℕ) → number < length links → (leaving_at links (set nodes place x) number).port.sent ≡ (leaving_at links nodes number).port.sent → IsWire links (set nodes place x) number
+    wire_stays : (number : ℕ) → number < length links → (leaving_at links (set nodes place x) number).port.sent ≡ (leaving_at links nodes number).port.sent → IsNetWire links (set nodes place x) number
     wire_stays number under sent =
         let old = wired.wires number under in
         let link = same_link (from_of links number) (exit_of links number) in

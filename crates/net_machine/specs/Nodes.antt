@@ -3,14 +3,14 @@ use Rattle.std.specs.Prelude.{◌≡◌, ◌<◌, ℕ, List, [], map as each, le
 use Rattle.std.specs.List.{enumerate_from}
 use Rattle.sim_time.specs.declared.key.Key.{Key}
 use Rattle.scenario_image.specs.declared.parts.ScenarioParts.{ScenarioParts}
-use Rattle.ranking.specs.Leading.{Leads}
-use Rattle.ranking.specs.Timed.{times_of}
-use Rattle.ranking.specs.Keyed.{least, next_key, nothing_due}
-use Rattle.ranking.specs.Gathered.{gathered, AtHome}
+use Rattle.tournament.specs.Leading.{Leads}
+use Rattle.tournament.specs.Timed.{times_of}
+use Rattle.tournament.specs.Keyed.{least, next_key, nothing_due}
+use Rattle.tournament.specs.Gathered.{gathered, AtHome}
 use Rattle.node_core.specs.declared.event.Event.{Event}
 use Rattle.node_core.specs.Pending.{Events}
 use Rattle.node_core.specs.Part.{PartState}
-use Rattle.node_core.specs.Node.{NodeState, opening_node}
+use Rattle.node_core.specs.Node.{NodeState, initial_node}
 use Rattle.table_run.specs.State.{State, no_part}
 use Rattle.net_machine.specs.Run.{Reached}
 
@@ -21,8 +21,8 @@ abbrev pub node_at : List NodeState → ℕ → NodeState
 node_at nodes i = slice_index_or nodes i no_node
 
 -- the nodes of a scenario, before anything is sent
-abbrev pub opening_nodes : ScenarioParts → List NodeState
-opening_nodes p = each (opening_node p) (enumerate_from 0 p.nodes)
+abbrev pub initial_nodes : ScenarioParts → List NodeState
+initial_nodes p = each (initial_node p) (enumerate_from 0 p.nodes)
 
 -- what is pending at each
 abbrev pub pendings : List NodeState → List Events

@@ -3,9 +3,9 @@ use Rattle.std.specs.Prelude.{◌≡◌, ◌≢◌, ◌<◌, ◌≤◌, ◌+◌,
 use Rattle.std.specs.List.Sorted.{IsStrictlyIncreasing}
 use Rattle.sim_time.specs.declared.key.Key.{Key}
 use Rattle.packet_chain.specs.Stamped.{Stamped}
-use Rattle.ranking.specs.Keyed.{least, next_key, EachKey}
+use Rattle.tournament.specs.Keyed.{least, next_key, EachKey}
 use Rattle.node_core.specs.declared.event.Event.{Event}
-use Rattle.node_core.specs.AgendaState.{incoming_at}
+use Rattle.node_core.specs.EventQueueState.{incoming_at}
 use Rattle.node_core.specs.WireState.{stamps_of}
 use Rattle.node_core.specs.Part.{link_at}
 use Rattle.node_core.specs.Row.{Effect, Leaving, row}
@@ -59,7 +59,7 @@ GoneOn takes effect (Some leaving) s new = takes s (link_left effect leaving) (p
 -- a node of a region has run its least event, which was told, and what left it has gone on
 pub record HasHappened {S : Type 0} (nodes : S → List NodeState) (put : S → ℕ → NodeState → S) (takes : S → ℕ → List Stamped → S → Type 0) (old new : S) (place : ℕ) (line : TraceLine) : Type 0 where
   pub is_least : least (node_at (nodes old) place).pending ≡ Some (line.key, line.event)
-  pub told : line ≡ line_of (line.key, line.event) (effect_at (nodes old) place line.key line.event)
+  pub reported : line ≡ line_of (line.key, line.event) (effect_at (nodes old) place line.key line.event)
   pub goes : GoneOn takes (effect_at (nodes old) place line.key line.event) (effect_at (nodes old) place line.key line.event).leaving (put old place (node_after (nodes old) place line.key line.event)) new
 
 -- packets can come to the end of a link, after all that came over it

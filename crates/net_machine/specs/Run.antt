@@ -11,7 +11,7 @@ pub record Reached : Type 0 where
   pub state : State
   pub position : ℕ
 
--- the state is that after so many steps from the opening of some scenario
+-- the state is that after so many steps from the initial state of some scenario
 pub record IsRun (r : Reached) : Type 0 where
   pub scenario : ScenarioParts
   pub lines : List TraceLine

@@ -3,9 +3,9 @@ use Rattle.std.specs.Prelude.{◌≡◌, ◌<◌, ◌≤◌, ◌==◌, ℕ, List
 use Rattle.scenario_image.specs.declared.parts.LinkPart.{LinkPart}
 use Rattle.sim_time.specs.declared.queue_kind.QueueKind.TheVariants.{DropTail}
 use Rattle.node_core.specs.Part.{LinkState, link_at}
-use Rattle.node_core.specs.AgendaState.{Incoming, incoming_at}
+use Rattle.node_core.specs.EventQueueState.{Incoming, incoming_at}
 use Rattle.node_core.specs.Node.{NodeState}
-use Rattle.net_machine.specs.declared.places.Place.{Place}
+use Rattle.net_machine.specs.declared.places.EndPlace.{EndPlace}
 use Rattle.net_machine.specs.declared.places.LinkEnds.{LinkEnds}
 use Rattle.net_machine.specs.Nodes.{node_at}
 
@@ -37,7 +37,7 @@ abbrev pub coming_at : List LinkPart → List NodeState → ℕ → Incoming
 coming_at links nodes number = incoming_at (node_at nodes (to_of links number)).incoming (entry_of links number)
 
 -- a link leaves its node and comes to its end, and all that it has sent has come
-pub record IsWire (links : List LinkPart) (nodes : List NodeState) (number : ℕ) : Type 0 where
+pub record IsNetWire (links : List LinkPart) (nodes : List NodeState) (number : ℕ) : Type 0 where
   pub leaves : (leaving_at links nodes number).port.link ≡ number
   pub ends : (leaving_at links nodes number).to ≡ to_of links number
   pub within : to_of links number < length nodes
@@ -61,7 +61,7 @@ pub record IsExit (links : List LinkPart) (nodes : List NodeState) (node index :
 pub record IsWired (links : List LinkPart) (nodes : List NodeState) : Type 0 where
   pub few : (node : ℕ) → length (node_at nodes node).part.links ≤ 16
   pub exits : (node index : ℕ) → index < length (node_at nodes node).part.links → IsExit links nodes node index
-  pub wires : (number : ℕ) → number < length links → IsWire links nodes number
+  pub wires : (number : ℕ) → number < length links → IsNetWire links nodes number
 
 abbrev pub no_ends : LinkEnds
 no_ends = record { from = 0; to = record { node = 0; index = 0 }; delay = 0 }
@@ -79,5 +79,5 @@ pub record AreEnds (links : List LinkPart) (ends : List LinkEnds) : Type 0 where
   pub each_link : (number : ℕ) → number < length links → ends_at ends number ≡ link_ends links number
 
 -- where a link ends
-abbrev pub place_at : List LinkEnds → ℕ → Place
+abbrev pub place_at : List LinkEnds → ℕ → EndPlace
 place_at ends number = (ends_at ends number).to

@@ -2,9 +2,9 @@
 #![tactic(auto)]
 
 mod due;
+mod initial;
 pub mod net;
 pub mod nodes;
-mod opening;
 pub mod places;
 pub mod region;
 
@@ -12,5 +12,5 @@ pub use due::Due;
 pub use net::parts::{NetParts, Spare};
 pub use net::{Net, StepFault};
 pub use nodes::Nodes;
-pub use places::{LinkEnds, Place};
+pub use places::{EndPlace, LinkEnds};
 pub use region::{Region, run_event};

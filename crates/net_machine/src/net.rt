@@ -1,9 +1,9 @@
 //! One event at a time: the least pending key below the end.
 ghost use Rattle.std.specs.Prelude.{◌≡◌, ◌≢◌, ◌+◌, if◌then◌else◌, ◌<◌, false, IfOk, OnOk, OnErr, IfErr, None, Some, Ok, Err};
 ghost use Rattle.std.specs.Option.{option_map};
-ghost use Rattle.ranking.specs.Keyed.{next_key};
+ghost use Rattle.tournament.specs.Keyed.{next_key};
 ghost use Rattle.node_core.specs.TraceLine.{shown};
-ghost use Rattle.table_run.specs.State.{opening, due};
+ghost use Rattle.table_run.specs.State.{initial, due};
 ghost use Rattle.net_machine.specs.Nodes.{parts_of, net_pending, IsPlaced};
 ghost use Rattle.net_machine.specs.Due.{due_of};
 ghost use Rattle.net_machine.specs.Run.{IsRun, Stepped};
@@ -12,8 +12,8 @@ pub mod parts;
 
 use self::parts::{NetParts, Spare};
 use crate::due::Due;
+use crate::initial::{ends_of, nodes_of};
 use crate::nodes::Nodes;
-use crate::opening::{ends_of, nodes_of};
 use crate::places::LinkEnds;
 use crate::region::run_event;
 use node_core::{After, Event, Line, Node, Outbox};
@@ -80,7 +80,7 @@ fn copied(ends: &Vec<LinkEnds>) -> Result<Vec<LinkEnds>, AllocError>
 impl Net {
     /// The net of a scenario, before anything is sent.
     pub fn new(alloc: Global, scenario: &Scenario) -> Result<Net, AllocError>
-        ensures state { IfOk result (λ net. net ≡ record { state = opening scenario.now; position = 0 }) }
+        ensures state { IfOk result (λ net. net ≡ record { state = initial scenario.now; position = 0 }) }
     {
         let parts = scenario.parts();
         let nodes = nodes_of(alloc, scenario)?;
@@ -226,7 +226,7 @@ impl Net {
 
     /// Runs the event of the least key below the end, where there is one, and tells of it.
     pub fn step(&mut self) -> Result<Option<Line>, StepFault>
-        ensures ok { IfOk result (λ told. Stepped self.old (option_map shown told) self.new) }
+        ensures ok { IfOk result (λ reported. Stepped self.old (option_map shown reported) self.new) }
         ensures full { IfErr result (λ fault. fault ≡ StepFault.CountFull → (due self.old.state ≢ None) × (self.old.position ≡ 1000000000000000)) }
         ensures none { due self.old.state ≡ None → result ≡ Ok None }
         ensures count { due self.old.state ≢ None → self.old.position ≡ 1000000000000000 → result ≡ Err StepFault.CountFull }

@@ -3,11 +3,11 @@ ghost use Rattle.std.specs.Prelude.{◌≡◌, ◌≢◌, ◌+◌, ◌<◌, ◌�
 ghost use Rattle.std.specs.Option.{option_map};
 ghost use Rattle.std.specs.List.Sorted.{IsStrictlyIncreasing};
 ghost use Rattle.sim_time.specs.declared.key.Key.{Key};
-ghost use Rattle.ranking.specs.Leading.{rank_at};
-ghost use Rattle.ranking.specs.Timed.{AreInPlace};
-ghost use Rattle.ranking.specs.Keyed.{least, next_key, EachKey};
+ghost use Rattle.tournament.specs.Leading.{rank_at};
+ghost use Rattle.tournament.specs.Timed.{AreInPlace};
+ghost use Rattle.tournament.specs.Keyed.{least, next_key, EachKey};
 ghost use Rattle.node_core.specs.declared.event.Event.{Event};
-ghost use Rattle.node_core.specs.AgendaState.{incoming_at};
+ghost use Rattle.node_core.specs.EventQueueState.{incoming_at};
 ghost use Rattle.node_core.specs.WireState.{stamps_of};
 ghost use Rattle.node_core.specs.Part.{link_at};
 ghost use Rattle.node_core.specs.Row.{Leaving, row};
@@ -18,10 +18,10 @@ ghost use Rattle.net_machine.specs.Nodes.{node_at, next_keys, next_times, LeadsA
 
 use node_core::{Line, Node, Outbox};
 use packet_chain::PacketChain;
-use ranking::Timetable;
 use sim_time::Time;
 use std::alloc::{AllocError, Global};
 use std::marker::Model;
+use tournament::Timetable;
 
 /// Nodes of a net in a row: all of it, each at its number, or some of it.
 #[derive(Drop)]

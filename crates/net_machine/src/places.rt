@@ -4,7 +4,7 @@ use sim_time::Time;
 
 /// The end of a link.
 #[derive(Clone, Copy, Debug, PartialEq, Eq)]
-pub struct Place {
+pub struct EndPlace {
     /// The node at which it ends.
     pub node: u16,
     /// Which of that node's incoming links it is, counted from 0 in rising number.
@@ -17,7 +17,7 @@ pub struct LinkEnds {
     /// The node that sends over it.
     pub from: u16,
     /// Where it ends.
-    pub to: Place,
+    pub to: EndPlace,
     /// Its propagation delay in nanoseconds.
     pub delay: Time,
 }

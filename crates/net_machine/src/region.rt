@@ -16,7 +16,7 @@ pub trait Region {
     ghost use Rattle.std.specs.Option.{option_map};
     ghost use Rattle.sim_time.specs.declared.key.Key.{Key};
     ghost use Rattle.packet_chain.specs.Stamped.{Stamped};
-    ghost use Rattle.ranking.specs.Keyed.{least, next_key};
+    ghost use Rattle.tournament.specs.Keyed.{least, next_key};
     ghost use Rattle.node_core.specs.declared.event.Event.{Event};
     ghost use Rattle.node_core.specs.Part.{link_at};
     ghost use Rattle.node_core.specs.Row.{Leaving};

@@ -5,7 +5,7 @@ use Rattle.std.proofs.lemmas.Bool.{and_parts, cases_lt, eqb-false}
 use Rattle.std.proofs.lemmas.List.{length-replicate, length-set, length-take, get_or-set_other, get_or-set_same}
 use Rattle.std.proofs.lemmas.List.Elements.{All-set, All-take, Contains-get_or, recursion_from_All}
 use Rattle.std.proofs.lemmas.List.Folds.{list_all-append}
-use Rattle.net_partition.specs.Partition.{is_partition, group_in, greatest_of, groups_of, alone}
+use Rattle.net_partition.specs.Partition.{is_partition, group_in, greatest_number, groups_of, alone}
 
 all_zero : (n : ℕ) → list_all (λ group. nat_lt group 64) (replicate n 0) ≡ true
 all_zero zero = refl
@@ -31,12 +31,12 @@ pub alone_is : (n : ℕ) → 2 ≤ n → n ≤ 256 → is_partition (alone n) �
 alone_is n least most = let l = length-alone n in within (alone n) (omega (arith, least, l)) (omega (arith, most, l)) (all_alone n)
 
 -- each entry is at most the greatest, and so is what stands past the last
-pub upto_greatest : (entries : List ℕ) (node : ℕ) → group_in entries node ≤ greatest_of entries
+pub upto_greatest : (entries : List ℕ) (node : ℕ) → group_in entries node ≤ greatest_number entries
 upto_greatest [] node = omega arith
 upto_greatest (x ∷ xs) zero = omega arith
 upto_greatest (x ∷ xs) (suc node) = let rest = upto_greatest xs node in omega (arith, rest)
 
-greatest_below : (entries : List ℕ) → list_all (λ group. nat_lt group 64) entries ≡ true → greatest_of entries < 64
+greatest_below : (entries : List ℕ) → list_all (λ group. nat_lt group 64) entries ≡ true → greatest_number entries < 64
 greatest_below [] all = omega arith
 greatest_below (x ∷ xs) all =
     let parts = and_parts _ _ all in
@@ -47,7 +47,7 @@ greatest_below (x ∷ xs) all =
 pub few_groups : (entries : List ℕ) → is_partition entries ≡ true → groups_of entries ≤ 64
 few_groups entries is =
     let all : list_all (λ group. nat_lt group 64) entries ≡ true = (and_parts (nat_le (length entries) 256) _ (and_parts (nat_le 2 (length entries)) _ is).1).1 in
-    let below : greatest_of entries < 64 = greatest_below entries all in
+    let below : greatest_number entries < 64 = greatest_below entries all in
     omega (arith, below)
 
 all_below : (most : ℕ) → most ≤ 64 → (entries : List ℕ) → AllByRecursion (λ group. group < most) entries → list_all (λ group. nat_lt group 64) entries ≡ true
@@ -56,7 +56,7 @@ all_below most few (x ∷ xs) all =
     let here : x < most = all.0 in
     λ i. lt-ltb x 64 (omega (arith, here)) i && all_below most few xs all.1 i
 
-greatest_within : (most : ℕ) → 1 ≤ most → (entries : List ℕ) → AllByRecursion (λ group. group < most) entries → greatest_of entries < most
+greatest_within : (most : ℕ) → 1 ≤ most → (entries : List ℕ) → AllByRecursion (λ group. group < most) entries → greatest_number entries < most
 greatest_within most some [] all = omega (arith, some)
 greatest_within most some (x ∷ xs) all =
     let here : x < most = all.0 in
@@ -80,7 +80,7 @@ two_at_least n entries is =
 -- their groups are no more than that
 pub few_below : (most n : ℕ) (entries : List ℕ) → 1 ≤ most → All (λ group. group < most) entries → groups_of (take n entries) ≤ most
 few_below most n entries some all =
-    let below : greatest_of (take n entries) < most = greatest_within most some (take n entries) (recursion_from_All (λ (group : ℕ). group < most) (take n entries) (All-take (λ (group : ℕ). group < most) n entries all)) in
+    let below : greatest_number (take n entries) < most = greatest_within most some (take n entries) (recursion_from_All (λ (group : ℕ). group < most) (take n entries) (All-take (λ (group : ℕ). group < most) n entries all)) in
     omega (arith, below)
 
 -- NUMBERS WITHOUT GAPS

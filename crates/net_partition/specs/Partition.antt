@@ -10,13 +10,13 @@ is_partition entries = nat_le 2 (length entries) && (nat_le (length entries) 256
 abbrev pub group_in : List ℕ → ℕ → ℕ
 group_in entries node = slice_index_or entries node 0
 
-abbrev pub greatest_of : List ℕ → ℕ
-greatest_of [] = 0
-greatest_of (entry ∷ entries) = max entry (greatest_of entries)
+abbrev pub greatest_number : List ℕ → ℕ
+greatest_number [] = 0
+greatest_number (entry ∷ entries) = max entry (greatest_number entries)
 
 -- groups are those from 0 to the greatest entry
 abbrev pub groups_of : List ℕ → ℕ
-groups_of entries = greatest_of entries + 1
+groups_of entries = greatest_number entries + 1
 
 -- each of so many nodes in a group of its own, as far as groups go: node k in group k mod 64
 abbrev pub alone : ℕ → List ℕ

@@ -2,7 +2,7 @@
 ghost use Rattle.std.specs.Prelude.{◌≡◌, ◌≤◌, ◌<◌, ◌*◌, ℕ, true, All, Contains, map as each, slice_index_or, take, length, replicate, max, if◌then◌else◌, Option, Some, None, Ok};
 ghost use Rattle.std.specs.List.{list_all};
 ghost use Rattle.std.specs.Prelude.{nat_lt};
-ghost use Rattle.net_partition.specs.Partition.{is_partition, group_in, greatest_of, groups_of, alone};
+ghost use Rattle.net_partition.specs.Partition.{is_partition, group_in, greatest_number, groups_of, alone};
 
 use crate::found::found_groups;
 use scenario_image::Scenario;
@@ -50,7 +50,7 @@ fn are_groups(entries: &[u8]) -> bool
 
 // The greatest of these; 0 where there is none.
 fn greatest(entries: &[u8]) -> u8
-    ensures { result ≡ greatest_of entries.now }
+    ensures { result ≡ greatest_number entries.now }
 {
     let mut greatest = 0;
     for entry in entries {

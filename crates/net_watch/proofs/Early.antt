@@ -5,8 +5,8 @@ use Rattle.std.specs.Option.{option_map, option_and_then}
 use Rattle.sim_time.specs.declared.key.Key.{Key}
 use Rattle.node_core.specs.declared.event.Event.{Event}
 use Rattle.node_core.specs.TraceLine.{TraceLine}
-use Rattle.ranking.proofs.Maps.{not_some, same_some}
-use Rattle.table_run.specs.State.{State, due, step_at, run, one_more}
+use Rattle.tournament.proofs.Maps.{not_some, same_some}
+use Rattle.table_run.specs.State.{State, due, step_at, run, one_step_more}
 use Rattle.net_machine.specs.declared.due.Due.{Due}
 use Rattle.net_machine.specs.Due.{due_of}
 use Rattle.net_machine.specs.Run.{Reached, Stepped}
@@ -40,7 +40,7 @@ before_more moment old mid new line so next stepped =
     let longer : length (so.lines ++ line ∷ []) ≡ suc (length so.lines) = omega (arith, long) in
     record {
       lines = so.lines ++ line ∷ [];
-      comes = ap (run old.state) longer ∙ ap (option_and_then one_more) so.comes ∙ ap (option_map {U = List TraceLine × State} (λ (x : TraceLine × State). (so.lines ++ x.0 ∷ [], x.1))) stepped.0;
+      comes = ap (run old.state) longer ∙ ap (option_and_then one_step_more) so.comes ∙ ap (option_map {U = List TraceLine × State} (λ (x : TraceLine × State). (so.lines ++ x.0 ∷ [], x.1))) stepped.0;
       position = (let p = stepped.1 in let q = so.position in omega (arith, p, q, longer));
       early = early_more moment so.lines line so.early (next line.key line.event (of_due mid.state (due mid.state) line new.state stepped.0));
     }

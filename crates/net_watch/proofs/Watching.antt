@@ -2,7 +2,7 @@
 use Rattle.std.proofs.Common.{◌≡◌, suc, Bool, true, if◌then◌else◌, List, [], ◌∷◌, ◌++◌, length, length-append, Some, None, refl, ap, subst, ◌∙◌, arith}
 use Rattle.std.specs.Option.{option_map, option_and_then}
 use Rattle.node_core.specs.TraceLine.{TraceLine}
-use Rattle.table_run.specs.State.{State, run, one_more}
+use Rattle.table_run.specs.State.{State, run, one_step_more}
 use Rattle.net_machine.specs.Run.{Reached, Stepped}
 use Rattle.net_watch.specs.RunsOn.{RunsOn}
 use Rattle.net_watch.specs.Watched.{Watched}
@@ -16,7 +16,7 @@ runs_more old mid new line so stepped =
     let longer : length (so.lines ++ line ∷ []) ≡ suc (length so.lines) = omega (arith, long) in
     record {
       lines = so.lines ++ line ∷ [];
-      comes = ap (run old.state) longer ∙ ap (option_and_then one_more) so.comes ∙ ap (option_map {U = List TraceLine × State} (λ (x : TraceLine × State). (so.lines ++ x.0 ∷ [], x.1))) stepped.0;
+      comes = ap (run old.state) longer ∙ ap (option_and_then one_step_more) so.comes ∙ ap (option_map {U = List TraceLine × State} (λ (x : TraceLine × State). (so.lines ++ x.0 ∷ [], x.1))) stepped.0;
       position = let p = stepped.1 in let q = so.position in omega (arith, p, q, longer);
     }
 

@@ -4,7 +4,7 @@ use net_machine::{Due, Net};
 use node_core::Line;
 use std::snapshot::Snapshot;
 
-/// Holds the run once so many events were run since its opening.
+/// Holds the run once so many events were run since its initial state.
 #[derive(Clone, Copy, Debug, Drop)]
 pub struct UpTo {
     /// How many.

@@ -8,8 +8,8 @@ use Rattle.std.specs.FinMap.Entries.{below_all}
 use Rattle.sim_time.specs.declared.key.Key.{Key}
 use Rattle.sim_time.specs.Keys.{key_cmp}
 use Rattle.sim_time.proofs.Order.{exact_keys}
-use Rattle.ranking.specs.Keyed.{Keyed, least}
-use Rattle.ranking.proofs.Maps.{both_of, is_less, is_equal, same_at, get-changed, not_some, same_some}
+use Rattle.tournament.specs.Keyed.{Keyed, least}
+use Rattle.tournament.proofs.Maps.{both_of, is_less, is_equal, same_at, get-changed, not_some, same_some}
 
 module _ {E : Type 0} where
   -- a key that all others are behind is not among them

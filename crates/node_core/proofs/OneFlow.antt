@@ -16,8 +16,8 @@ use Rattle.scenario_image.specs.FlowLimits.{IsFlowInLimits}
 use Rattle.scenario_image.specs.Scenario.{IsScenario}
 use Rattle.scenario_image.specs.Settings.{sender_settings}
 use Rattle.reno_sender.specs.Laws.{IsFlow}
-use Rattle.node_core.specs.Opening.{node_kind, leaving_links, starting_flows}
-use Rattle.node_core.specs.OpeningAgenda.{numbers_of, flow_sent, flow_received}
+use Rattle.node_core.specs.Initial.{node_kind, leaving_links, starting_flows}
+use Rattle.node_core.specs.InitialEventQueue.{numbers_of, flow_sent, flow_received}
 use Rattle.node_core.proofs.Numbered.{passing, passing_count, none_passes, found_holds, only_found, found_some, same_count}
 
 -- a flow of a scenario that a node sends or receives, which is of a kind

@@ -1,4 +1,4 @@
--- What passing a link does to the agenda.
+-- What passing a link does to the event queue.
 use Rattle.std.proofs.Common.{◌≡◌, ℕ, ◌+◌, ◌-◌, ◌==◌, Bool, true, false, cond, List, [], ◌∷◌, ◌++◌, get_or, set, Option, Some, None, refl, sym, ap, ◌∙◌, arith}
 use Rattle.std.specs.Prelude.{is_some}
 use Rattle.std.specs.Option.{option_map, option_or}
@@ -6,18 +6,18 @@ use Rattle.std.proofs.lemmas.Bool.{ne_eqb}
 use Rattle.std.proofs.lemmas.List.{set-get_or}
 use Rattle.packet_chain.specs.declared.packet.Packet.{Packet}
 use Rattle.packet_chain.specs.Stamped.{Stamped}
-use Rattle.ranking.specs.Keyed.{apply}
+use Rattle.tournament.specs.Keyed.{apply}
 use Rattle.aqm.specs.Queue.{taken_from}
 use Rattle.port.specs.Port.{PortState, PortStep, Departure, begun, taken, with_packet, offered_one, offered_all}
 use Rattle.port.proofs.Cases.{counted_one, after_tests, offered_by_case}
 use Rattle.port.proofs.StepLaws.{one_counts, taken_counts, busy_link_begins_nothing}
 use Rattle.node_core.specs.declared.event.Event.{Event}
 use Rattle.node_core.specs.declared.event.Event.TheVariants.{Start, Rto, DelAck, Free}
-use Rattle.node_core.specs.Pending.{Change}
-use Rattle.node_core.specs.Alarms.{numbered_key, alarm_cleared, alarm_set}
+use Rattle.node_core.specs.Pending.{EventChange}
+use Rattle.node_core.specs.Timers.{numbered_key, timer_cleared, timer_set}
 use Rattle.node_core.specs.Passing.{busied, passed}
-use Rattle.node_core.specs.AgendaState.{Owner, AgendaState, alarm_event}
-use Rattle.node_core.proofs.Slots.{same_agenda}
+use Rattle.node_core.specs.EventQueueState.{Owner, EventQueueState, timer_event}
+use Rattle.node_core.proofs.Slots.{same_event_queue}
 
 abbrev pub free_of : Option Departure → Option ℕ
 free_of = option_map (λ (d : Departure). d.free)
@@ -63,12 +63,12 @@ pub some_free : (d : Option Departure) → is_some (free_of d) ≡ is_some d
 some_free None = refl
 some_free (Some d) = refl
 
--- a link that stays as long busy leaves the agenda as it was
-pub passed_busy : (agenda : AgendaState) (index : ℕ) (step : PortStep) → get_or agenda.alarms (3 + index) None ≡ step.port.next_free → step.departure ≡ None → agenda ≡ passed agenda index step
-passed_busy agenda index step alarm none =
-    same_agenda agenda.owner (sym (ap (set agenda.alarms (3 + index)) (sym alarm) ∙ set-get_or agenda.alarms (3 + index) None)) refl (ap (λ d. apply (busied agenda.owner.node index step.port.link d) agenda.pending) (sym none))
+-- a link that stays as long busy leaves the event queue as it was
+pub passed_busy : (event_queue : EventQueueState) (index : ℕ) (step : PortStep) → get_or event_queue.timers (3 + index) None ≡ step.port.next_free → step.departure ≡ None → event_queue ≡ passed event_queue index step
+passed_busy event_queue index step timer none =
+    same_event_queue event_queue.owner (sym (ap (set event_queue.timers (3 + index)) (sym timer) ∙ set-get_or event_queue.timers (3 + index) None)) refl (ap (λ d. apply (busied event_queue.owner.node index step.port.link d) event_queue.pending) (sym none))
 
-free_event : (owner : Owner) (index : ℕ) → alarm_event owner (3 + index) ≡ Free (get_or owner.exits index 0)
+free_event : (owner : Owner) (index : ℕ) → timer_event owner (3 + index) ≡ Free (get_or owner.exits index 0)
 free_event owner index =
     let n = 3 + index in
     ap (λ b. cond b (Start owner.flow) (cond (n == 1) (Rto owner.flow) (cond (n == 2) (DelAck owner.flow) (Free (get_or owner.exits (n - 3) 0))))) (ne_eqb n 0 (λ e. omega (arith, e)))
@@ -76,21 +76,21 @@ free_event owner index =
     ∙ ap (λ b. cond b (DelAck owner.flow) (Free (get_or owner.exits (n - 3) 0))) (ne_eqb n 2 (λ e. omega (arith, e)))
     ∙ ap (λ i. Free (get_or owner.exits i 0)) {x = n - 3} {y = index} (omega arith)
 
-set_is_busied : (owner : Owner) (index link : ℕ) (d : Option Departure) → get_or owner.exits index 0 ≡ link → alarm_set (numbered_key owner.node (3 + index)) (alarm_event owner (3 + index)) (free_of d) ≡ busied owner.node index link d
+set_is_busied : (owner : Owner) (index link : ℕ) (d : Option Departure) → get_or owner.exits index 0 ≡ link → timer_set (numbered_key owner.node (3 + index)) (timer_event owner (3 + index)) (free_of d) ≡ busied owner.node index link d
 set_is_busied owner index link None exit = refl
 set_is_busied owner index link (Some d) exit = ap (λ (event : Event). (numbered_key owner.node (3 + index) d.free, Some event) ∷ []) (free_event owner index ∙ ap (λ l. Free l) exit)
 
--- an idle link's alarm is set to when it is free
-pub passed_idle : (agenda : AgendaState) (index : ℕ) (step : PortStep) → get_or agenda.alarms (3 + index) None ≡ None → get_or agenda.owner.exits index 0 ≡ step.port.link → step.port.next_free ≡ free_of step.departure → (time : Option ℕ) → time ≡ step.port.next_free
-    → record agenda {
-      alarms = set agenda.alarms (3 + index) time;
-      pending = apply (alarm_cleared (numbered_key agenda.owner.node (3 + index)) (get_or agenda.alarms (3 + index) None) ++ alarm_set (numbered_key agenda.owner.node (3 + index)) (alarm_event agenda.owner (3 + index)) time) agenda.pending;
-    } ≡ passed agenda index step
-passed_idle agenda index step alarm exit free time is =
-    same_agenda agenda.owner (ap (set agenda.alarms (3 + index)) is) refl
-    (ap (λ old. apply (alarm_cleared (numbered_key agenda.owner.node (3 + index)) old ++ alarm_set (numbered_key agenda.owner.node (3 + index)) (alarm_event agenda.owner (3 + index)) time) agenda.pending) alarm
-    ∙ ap (λ t. apply (alarm_set (numbered_key agenda.owner.node (3 + index)) (alarm_event agenda.owner (3 + index)) t) agenda.pending) (is ∙ free)
-    ∙ ap (λ (cs : List Change). apply cs agenda.pending) (set_is_busied agenda.owner index step.port.link step.departure exit))
+-- an idle link's timer is set to when it is free
+pub passed_idle : (event_queue : EventQueueState) (index : ℕ) (step : PortStep) → get_or event_queue.timers (3 + index) None ≡ None → get_or event_queue.owner.exits index 0 ≡ step.port.link → step.port.next_free ≡ free_of step.departure → (time : Option ℕ) → time ≡ step.port.next_free
+    → record event_queue {
+      timers = set event_queue.timers (3 + index) time;
+      pending = apply (timer_cleared (numbered_key event_queue.owner.node (3 + index)) (get_or event_queue.timers (3 + index) None) ++ timer_set (numbered_key event_queue.owner.node (3 + index)) (timer_event event_queue.owner (3 + index)) time) event_queue.pending;
+    } ≡ passed event_queue index step
+passed_idle event_queue index step timer exit free time is =
+    same_event_queue event_queue.owner (ap (set event_queue.timers (3 + index)) is) refl
+    (ap (λ old. apply (timer_cleared (numbered_key event_queue.owner.node (3 + index)) old ++ timer_set (numbered_key event_queue.owner.node (3 + index)) (timer_event event_queue.owner (3 + index)) time) event_queue.pending) timer
+    ∙ ap (λ t. apply (timer_set (numbered_key event_queue.owner.node (3 + index)) (timer_event event_queue.owner (3 + index)) t) event_queue.pending) (is ∙ free)
+    ∙ ap (λ (cs : List EventChange). apply cs event_queue.pending) (set_is_busied event_queue.owner index step.port.link step.departure exit))
 
 pub none_busy : (o : Option ℕ) → is_some o ≡ false → o ≡ None
 none_busy None e = refl

@@ -1,4 +1,4 @@
--- Runs of segments, and an agenda whose event has left.
+-- Runs of segments, and an event queue whose event has left.
 use Rattle.std.proofs.Common.{◌≡◌, ℕ, zero, suc, ◌+◌, ◌-◌, ◌*◌, ◌<◌, ◌≤◌, ◌==◌, cond, true, false, List, [], ◌∷◌, ◌++◌, set, map, length, Option, Some, None, refl, sym, ap, subst, ◌∙◌, arith, append_assoc, append-nil, length-append}
 use Rattle.std.specs.Prelude.{option_to_list}
 use Rattle.std.proofs.Math.Nat.{suc-mul, mul-le-mul_right}
@@ -12,7 +12,7 @@ use Rattle.reno_sender.specs.PlanView.{PlanView, IsWellMade, sent_of}
 use Rattle.reno_sender.specs.declared.fields.SenderFields.{SenderFields}
 use Rattle.node_core.specs.Links.{packets_of}
 use Rattle.node_core.specs.Row.{data_packet}
-use Rattle.node_core.specs.AgendaState.{cleared}
+use Rattle.node_core.specs.EventQueueState.{cleared}
 
 -- the next number of a run stays below what the last one's end stays below
 pub number_fits : (first step done count bound : ℕ) → done < count → first + (count - done) * step < bound → first + step + (count - (done + 1)) * step < bound
@@ -46,8 +46,8 @@ one_at_most : (resent : Option ℕ) → length (option_to_list resent) ≤ 1
 one_at_most None = omega arith
 one_at_most (Some x) = omega arith
 
-pub length_cleared : (key : Key) (alarms : List (Option ℕ)) → length (cleared key alarms) ≡ length alarms
-length_cleared key alarms = elim (key.source == 0) as (λ b. length (cond b (set alarms key.number None) alarms) ≡ length alarms) [ true ↦ length-set alarms key.number None | false ↦ refl ]
+pub length_cleared : (key : Key) (timers : List (Option ℕ)) → length (cleared key timers) ≡ length timers
+length_cleared key timers = elim (key.source == 0) as (λ b. length (cond b (set timers key.number None) timers) ≡ length timers) [ true ↦ length-set timers key.number None | false ↦ refl ]
 
 run_ends : (first step n : ℕ) → spaced first step (suc n) ≡ spaced first step n ++ (first + n * step) ∷ []
 run_ends first step zero = ap (λ x. x ∷ []) {x = first} {y = first + 0 * step} (omega arith)

@@ -7,11 +7,11 @@ use Rattle.std.proofs.lemmas.Cmp.{upto}
 use Rattle.sim_time.specs.declared.key.Key.{Key}
 use Rattle.sim_time.specs.Keys.{key_cmp}
 use Rattle.sim_time.proofs.Order.{keys_total}
-use Rattle.ranking.specs.Leading.{rank_at}
-use Rattle.ranking.specs.Keyed.{Keyed, least, next_key}
-use Rattle.ranking.specs.Gathered.{gathered, map_at, AtHome}
-use Rattle.ranking.proofs.Maps.{not_some, none_or, least_is, is_least, least_none, none_least, next_some}
-use Rattle.ranking.proofs.Gathered.{rank-next, get-gathered, gathered_has, none_gathered}
+use Rattle.tournament.specs.Leading.{rank_at}
+use Rattle.tournament.specs.Keyed.{Keyed, least, next_key}
+use Rattle.tournament.specs.Gathered.{gathered, map_at, AtHome}
+use Rattle.tournament.proofs.Maps.{not_some, none_or, least_is, is_least, least_none, none_least, next_some}
+use Rattle.tournament.proofs.Gathered.{rank-next, get-gathered, gathered_has, none_gathered}
 
 module _ {E : Type 0} (home : Key → ℕ) (ms : List (Keyed E)) (at : AtHome home ms) where
   -- the least of all is the next key of its map

@@ -12,19 +12,19 @@ use Rattle.std.specs.FinMap as fin
 use Rattle.sim_time.specs.declared.key.Key.{Key}
 use Rattle.packet_chain.specs.Stamped.{Stamped}
 use Rattle.packet_chain.specs.declared.packet.Packet.{Packet}
-use Rattle.ranking.specs.Keyed.{least, next_key, apply, entering, EachKey, IsInOrder, due_of}
+use Rattle.tournament.specs.Keyed.{least, next_key, apply, entering, EachKey, IsInOrder, map_of_keys}
 use Rattle.std.proofs.Common.{true, false, cond}
 use Rattle.std.specs.Ordering.{eq_by_cmp}
 use Rattle.std.specs.FinMap.{get-from_entries}
 use Rattle.sim_time.specs.Keys.{key_cmp}
 use Rattle.sim_time.proofs.Order.{keys_total, exact_keys}
-use Rattle.node_core.specs.Pending.{Change}
-use Rattle.ranking.proofs.Maps.{not_some, same_some, is_equal}
-use Rattle.ranking.proofs.InOrder.{least_first, first_leaves, each_entry, Follows, joined}
+use Rattle.node_core.specs.Pending.{EventChange}
+use Rattle.tournament.proofs.Maps.{not_some, same_some, is_equal}
+use Rattle.tournament.proofs.InOrder.{least_first, first_leaves, each_entry, Follows, joined}
 use Rattle.node_core.specs.declared.event.Event.{Event}
 use Rattle.node_core.specs.declared.event.Event.TheVariants.{Arrive}
-use Rattle.node_core.specs.Alarms.{arrival_key}
-use Rattle.node_core.specs.WireState.{WireState, stamps_of, arrivals, arrivals_on, pending_on, came_over, IsWire, after_pop, without_first}
+use Rattle.node_core.specs.Timers.{arrival_key}
+use Rattle.node_core.specs.WireState.{WireState, stamps_of, arrivals, arrivals_on, pending_on, came_over, IsWire, after_pop, without_first_arrival}
 
 pub increasing_rest : (x : ℕ) (xs : List ℕ) → IsStrictlyIncreasing (x ∷ xs) → IsStrictlyIncreasing xs
 increasing_rest x xs h k under = subst (λ n. get_or xs k 0 < get_or (x ∷ xs) n 0) {x = suc k + 1} {y = suc (k + 1)} (omega arith) (h (suc k) (omega (arith, under)))
@@ -136,11 +136,11 @@ appended w sent is rising later few =
         link = is.link;
         count = omega (arith, few, length-append w.under_way sent);
       };
-      entered = ap due_of (arrivals-append w.node w.link w.taken w.under_way sent) ∙ join.entered;
+      entered = ap map_of_keys (arrivals-append w.node w.link w.taken w.under_way sent) ∙ join.entered;
     }
 
 -- what holds of each entry's key holds of each key of the map
-each_due : (P : Key → Type 0) (es : List (Key × Event)) → AllByRecursion (λ (e : Key × Event). P e.0) es → EachKey P (due_of es)
+each_due : (P : Key → Type 0) (es : List (Key × Event)) → AllByRecursion (λ (e : Key × Event). P e.0) es → EachKey P (map_of_keys es)
 each_due P es all k v there = go es all (sym (get-from_entries keys_total es k) ∙ there)
   where
     go : (es : List (Key × Event)) → AllByRecursion (λ (e : Key × Event). P e.0) es → fin.find key_cmp k es ≡ Some v → P k
@@ -179,7 +179,7 @@ all_arrive w key event there = go w.taken w.under_way (sym (get-from_entries key
         ] e
 
 -- and so have the changes by which further packets come
-pub entering_sources : (node link before : ℕ) (q : List Stamped) → AllByRecursion (λ (c : Change). c.0.source ≡ link + 1) (entering (arrivals node link before q))
+pub entering_sources : (node link before : ℕ) (q : List Stamped) → AllByRecursion (λ (c : EventChange). c.0.source ≡ link + 1) (entering (arrivals node link before q))
 entering_sources node link before [] = tt
 entering_sources node link before (a ∷ q) = (refl, entering_sources node link (before + 1) q)
 
@@ -196,13 +196,13 @@ first_packet w is key packet e = at (slice_get w.under_way 0) (head_on w ∙ sym
 
 -- what a packet that arrives leaves of its link
 pub popped_node : (w : WireState) → (after_pop w).node ≡ w.node
-popped_node w = elim w.under_way as (λ q. (without_first w q).node ≡ w.node) [ [] ↦ refl | a ∷ q ↦ refl ]
+popped_node w = elim w.under_way as (λ q. (without_first_arrival w q).node ≡ w.node) [ [] ↦ refl | a ∷ q ↦ refl ]
 
 pub popped_link : (w : WireState) → (after_pop w).link ≡ w.link
-popped_link w = elim w.under_way as (λ q. (without_first w q).link ≡ w.link) [ [] ↦ refl | a ∷ q ↦ refl ]
+popped_link w = elim w.under_way as (λ q. (without_first_arrival w q).link ≡ w.link) [ [] ↦ refl | a ∷ q ↦ refl ]
 
 pub popped_came : (w : WireState) → came_over (after_pop w) ≡ came_over w
-popped_came w = elim w.under_way as (λ q. w.under_way ≡ q → came_over (without_first w q) ≡ came_over w) [ [] ↦ λ _. refl | a ∷ q ↦ λ e. omega (arith, ap length e) ] refl
+popped_came w = elim w.under_way as (λ q. w.under_way ≡ q → came_over (without_first_arrival w q) ≡ came_over w) [ [] ↦ λ _. refl | a ∷ q ↦ λ e. omega (arith, ap length e) ] refl
 
 -- what joins behind others is not next
 pub next_appended : (w : WireState) (sent : List Stamped) → IsWire w → IsWire (record w { under_way = w.under_way ++ sent }) → IsSome (next_key (pending_on w)) → next_key (pending_on (record w { under_way = w.under_way ++ sent })) ≡ next_key (pending_on w)

@@ -7,8 +7,8 @@ use Rattle.reno_sender.specs.declared.fields.SenderFields.{SenderFields}
 use Rattle.reno_receiver.specs.Received.{ReceiverState}
 use Rattle.port.specs.Port.{offered_all, taken}
 use Rattle.port.specs.Room.{drops_at}
-use Rattle.node_core.specs.declared.alarm.Alarm.{Alarm}
-use Rattle.node_core.specs.declared.alarm.Alarm.TheVariants.{Start as FlowStarts, Retransmission, DelayedAcknowledgement, Free as BecomesFree}
+use Rattle.node_core.specs.declared.timer.Timer.{Timer}
+use Rattle.node_core.specs.declared.timer.Timer.TheVariants.{Start as FlowStarts, Retransmission, DelayedAcknowledgement, Free as BecomesFree}
 use Rattle.node_core.specs.declared.decision.Decision.{Decision}
 use Rattle.node_core.specs.declared.decision.Decision.TheVariants.{Leave, PassOn, TakeNext, Send}
 use Rattle.node_core.specs.declared.decision.Sending.{Sending}
@@ -16,18 +16,18 @@ use Rattle.node_core.specs.declared.event.Event.{Event}
 use Rattle.node_core.specs.declared.event.Event.TheVariants.{Start, Rto, DelAck, Free, Arrive}
 use Rattle.node_core.specs.declared.role.Role.{Role}
 use Rattle.node_core.specs.declared.role.Role.TheVariants.{Sends, Receives, Routes}
-use Rattle.node_core.specs.Alarms.{first_free, alarm_number, alarm_key}
-use Rattle.node_core.specs.InStep.{HasItsLink, flow_of, deadline_of, delayed_of}
+use Rattle.node_core.specs.Timers.{first_free, timer_number, timer_key}
+use Rattle.node_core.specs.InStep.{HasItsLink, flow_of, rto_deadline, delayed_of}
 use Rattle.node_core.specs.Links.{packets_of}
 use Rattle.node_core.specs.Part.{LinkState, PartState, link_at}
-use Rattle.node_core.specs.Ready.{CanRun, IsOfLink, IsSetBy}
-use Rattle.node_core.specs.Row.{Effect, quiet, row, timer_moved, with_step}
+use Rattle.node_core.specs.Ready.{CanHandle, IsOfLink, IsSetBy}
+use Rattle.node_core.specs.Row.{Effect, quiet, row, rto_timer_moved, with_step}
 use Rattle.node_core.specs.RouteTable.{exit_for}
 use Rattle.node_core.specs.Running.{part}
 
 -- the packets that an end sends: those that have cells, and behind them the one that takes the arriving packet's
-abbrev pub sent_by : Sending → List Packet
-sent_by sending = packets_of sending.cells ++ option_to_list sending.last
+abbrev pub sent_by_end : Sending → List Packet
+sent_by_end sending = packets_of sending.cells ++ option_to_list sending.last
 
 -- the packet that arrives, if one does
 abbrev pub arriving : Event → List Packet
@@ -38,40 +38,40 @@ arriving (Free link) = []
 arriving (Arrive packet) = packet ∷ []
 
 -- what the timer of a flow's end announces
-abbrev pub timer_event : ℕ → Alarm → Event
-timer_event flow FlowStarts = Start flow
-timer_event flow Retransmission = Rto flow
-timer_event flow DelayedAcknowledgement = DelAck flow
-timer_event flow (BecomesFree index) = Free index
+abbrev pub rto_timer_event : ℕ → Timer → Event
+rto_timer_event flow FlowStarts = Start flow
+rto_timer_event flow Retransmission = Rto flow
+rto_timer_event flow DelayedAcknowledgement = DelAck flow
+rto_timer_event flow (BecomesFree index) = Free index
 
 -- when the timer of an end ends
-abbrev pub timer_of : Role → Alarm → Option ℕ
-timer_of role FlowStarts = None
-timer_of role Retransmission = deadline_of role
-timer_of role DelayedAcknowledgement = delayed_of role
-timer_of role (BecomesFree index) = None
+abbrev pub rto_timer_of : Role → Timer → Option ℕ
+rto_timer_of role FlowStarts = None
+rto_timer_of role Retransmission = rto_deadline role
+rto_timer_of role DelayedAcknowledgement = delayed_of role
+rto_timer_of role (BecomesFree index) = None
 
 -- the effect of what is decided of an event, at a part that has this role afterwards
-abbrev pub effect_of : PartState → Role → Key → Event → Decision → Effect
-effect_of part role key event Leave = quiet part
-effect_of part role key event (PassOn index) = with_step part role [] index (offered_all key.time (link_at part.links index).port (arriving event))
-effect_of part role key event (TakeNext index) = with_step part role [] index (taken key.time (link_at part.links index).port)
-effect_of part role key event (Send sending) =
-    with_step part role (timer_moved (alarm_key key.node sending.alarm) (timer_event (flow_of part.role) sending.alarm) (timer_of part.role sending.alarm) sending.time) 0
-    (offered_all key.time (link_at part.links 0).port (sent_by sending))
+abbrev pub decided_effect : PartState → Role → Key → Event → Decision → Effect
+decided_effect part role key event Leave = quiet part
+decided_effect part role key event (PassOn index) = with_step part role [] index (offered_all key.time (link_at part.links index).port (arriving event))
+decided_effect part role key event (TakeNext index) = with_step part role [] index (taken key.time (link_at part.links index).port)
+decided_effect part role key event (Send sending) =
+    with_step part role (rto_timer_moved (timer_key key.node sending.timer) (rto_timer_event (flow_of part.role) sending.timer) (rto_timer_of part.role sending.timer) sending.time) 0
+    (offered_all key.time (link_at part.links 0).port (sent_by_end sending))
 
 -- an end's timer is to end when the end has it
-pub data IsTimerOf (old new : Role) (alarm : Alarm) (time : Option ℕ) : Type 0 where
-  of_sender : (flow : ℕ) (fields planned : SenderFields) → old ≡ Sends flow fields → new ≡ Sends flow planned → alarm ≡ Retransmission → time ≡ planned.deadline → IsTimerOf old new alarm time
-  of_receiver : (flow : ℕ) (state answered : ReceiverState) → old ≡ Receives flow state → new ≡ Receives flow answered → alarm ≡ DelayedAcknowledgement → time ≡ answered.alarm → IsTimerOf old new alarm time
+pub data IsRtoTimerOf (old new : Role) (timer : Timer) (time : Option ℕ) : Type 0 where
+  of_sender : (flow : ℕ) (fields planned : SenderFields) → old ≡ Sends flow fields → new ≡ Sends flow planned → timer ≡ Retransmission → time ≡ planned.deadline → IsRtoTimerOf old new timer time
+  of_receiver : (flow : ℕ) (state answered : ReceiverState) → old ≡ Receives flow state → new ≡ Receives flow answered → timer ≡ DelayedAcknowledgement → time ≡ answered.timer → IsRtoTimerOf old new timer time
 
 -- the timer of an end moves at the flow's start, at its own end, and where a packet arrives
-abbrev pub CanMove : Alarm → Event → Type 0
-CanMove alarm (Start flow) = Unit {0}
-CanMove alarm (Rto flow) = alarm ≡ Retransmission
-CanMove alarm (DelAck flow) = alarm ≡ DelayedAcknowledgement
-CanMove alarm (Free link) = ⊥
-CanMove alarm (Arrive packet) = Unit {0}
+abbrev pub CanMove : Timer → Event → Type 0
+CanMove timer (Start flow) = Unit {0}
+CanMove timer (Rto flow) = timer ≡ Retransmission
+CanMove timer (DelAck flow) = timer ≡ DelayedAcknowledgement
+CanMove timer (Free link) = ⊥
+CanMove timer (Arrive packet) = Unit {0}
 
 -- a start or a packet may find nothing to do; a timer that ends and a link that is free do not
 abbrev pub CanLeave : Event → Type 0
@@ -86,32 +86,32 @@ abbrev pub Suits : Role → Role → Event → Decision → Type 0
 Suits old new event Leave = (new ≡ old) × CanLeave event
 Suits old new event (PassOn index) = new ≡ old
 Suits old new event (TakeNext index) = new ≡ old
-Suits old new event (Send sending) = IsTimerOf old new sending.alarm sending.time
+Suits old new event (Send sending) = IsRtoTimerOf old new sending.timer sending.time
 
-abbrev pub IsArrival : Event → Type 0
-IsArrival event = (packet : Packet) × (event ≡ Arrive packet)
+abbrev pub IsArriving : Event → Type 0
+IsArriving event = (packet : Packet) × (event ≡ Arrive packet)
 
 -- a packet arrives, its link is there, and there is room for what happens to it
 pub record CanPass (event : Event) (links : List LinkState) (room index : ℕ) : Type 0 where
-  pub arrives : IsArrival event
+  pub arrives : IsArriving event
   pub within : index < length links
   pub room_for : 1 ≤ room
 
 -- the event is the link's, and there is room for what its queue drops and what it sends
 pub record CanTake (key : Key) (event : Event) (links : List LinkState) (room index : ℕ) : Type 0 where
   pub frees : (link : ℕ) × (event ≡ Free link)
-  pub number : key.number ≡ alarm_number (BecomesFree index)
+  pub number : key.number ≡ timer_number (BecomesFree index)
   pub within : index < length links
   pub room_for : drops_at key.time (link_at links index).port + 1 ≤ room
 
 -- the end has its link, there is room for what happens to its packets, and a packet without a cell finds the arriving packet's
 pub record CanSend (event : Event) (links : List LinkState) (room : ℕ) (sending : Sending) : Type 0 where
   pub linked : 0 < length links
-  pub room_for : length (sent_by sending) ≤ room
+  pub room_for : length (sent_by_end sending) ≤ room
   pub few : length sending.cells ≤ 2 ^ 40
-  pub timer : alarm_number sending.alarm < first_free
-  pub moves : CanMove sending.alarm event
-  pub cell : (packet : Packet) → sending.last ≡ Some packet → IsArrival event
+  pub rto_timer : timer_number sending.timer < first_free
+  pub moves : CanMove sending.timer event
+  pub cell : (packet : Packet) → sending.last ≡ Some packet → IsArriving event
 
 -- what is decided can be done at these links, with room for so many acts
 abbrev pub CanDo : Key → Event → List LinkState → ℕ → Decision → Type 0
@@ -137,13 +137,13 @@ pub record CanDecide (role : Role) (links : List LinkState) (key : Key) (event :
   pub moment : IsMoment key.time
   pub set : IsSetBy role event
   pub own : IsOfLink key.number (length links) event
-  pub takes : CanRun (part role links) key.time event
+  pub takes : CanHandle (part role links) key.time event
   pub linked : HasItsLink role links
   pub few : length links ≤ 1024
 
 -- what is decided has the row's effect, and can be done
 pub record IsDecided (old new : Role) (links : List LinkState) (key : Key) (event : Event) (room : ℕ) (decision : Decision) : Type 0 where
-  pub row_is : row (part old links) key event ≡ effect_of (part old links) new key event decision
+  pub row_is : row (part old links) key event ≡ decided_effect (part old links) new key event decision
   pub suits : Suits old new event decision
   pub can : CanDo key event links room decision
 
@@ -155,9 +155,9 @@ OnSend P (TakeNext index) = ⊥
 OnSend P (Send sending) = P sending
 
 -- these packets are to be sent, this timer is to end then, and only where a packet arrives is one without a cell
-pub record IsSent (arrives : Bool) (packets : List Packet) (alarm : Alarm) (time : Option ℕ) (room : ℕ) (sending : Sending) : Type 0 where
-  pub sent : sent_by sending ≡ packets
-  pub alarm_is : sending.alarm ≡ alarm
+pub record IsSent (arrives : Bool) (packets : List Packet) (timer : Timer) (time : Option ℕ) (room : ℕ) (sending : Sending) : Type 0 where
+  pub sent : sent_by_end sending ≡ packets
+  pub timer_is : sending.timer ≡ timer
   pub time_is : sending.time ≡ time
   pub room_for : length packets ≤ room
   pub few : length sending.cells ≤ 2 ^ 40

@@ -1,9 +1,9 @@
--- A node's alarms, as what it does and its links have them.
+-- A node's timers, as what it does and its links have them.
 use Rattle.std.specs.Prelude.{◌≡◌, ◌<◌, ◌≤◌, ℕ, List, ◌∷◌, length, map, slice_index_or, Option, None}
 use Rattle.node_core.specs.declared.role.Role.{Role}
 use Rattle.node_core.specs.declared.role.Role.TheVariants.{Sends, Receives, Routes}
 use Rattle.node_core.specs.Part.{LinkState}
-use Rattle.node_core.specs.AgendaState.{AgendaState}
+use Rattle.node_core.specs.EventQueueState.{EventQueueState}
 
 abbrev pub flow_of : Role → ℕ
 flow_of (Sends flow fields) = flow
@@ -11,15 +11,15 @@ flow_of (Receives flow state) = flow
 flow_of (Routes table) = 0
 
 -- when the retransmission timer ends: at a sender only
-abbrev pub deadline_of : Role → Option ℕ
-deadline_of (Sends flow fields) = fields.deadline
-deadline_of (Receives flow state) = None
-deadline_of (Routes table) = None
+abbrev pub rto_deadline : Role → Option ℕ
+rto_deadline (Sends flow fields) = fields.deadline
+rto_deadline (Receives flow state) = None
+rto_deadline (Routes table) = None
 
 -- when a delayed acknowledgement is due: at a receiver only
 abbrev pub delayed_of : Role → Option ℕ
 delayed_of (Sends flow fields) = None
-delayed_of (Receives flow state) = state.alarm
+delayed_of (Receives flow state) = state.timer
 delayed_of (Routes table) = None
 
 -- a sender and a receiver have a link
@@ -35,14 +35,14 @@ frees_of = map (λ (link : LinkState). link.port.next_free)
 abbrev pub numbers_of : List LinkState → List ℕ
 numbers_of = map (λ (link : LinkState). link.port.link)
 
--- the alarms by their numbers, where the flow's start is this
-abbrev pub alarms_of : Option ℕ → Role → List LinkState → List (Option ℕ)
-alarms_of start role links = start ∷ deadline_of role ∷ delayed_of role ∷ frees_of links
+-- the timers by their numbers, where the flow's start is this
+abbrev pub timers_of : Option ℕ → Role → List LinkState → List (Option ℕ)
+timers_of start role links = start ∷ rto_deadline role ∷ delayed_of role ∷ frees_of links
 
--- the alarms are the start, the sender's deadline, the receiver's alarm and when each link is free; the owner is the node with its flow and its links' numbers, of which there are not too many
-pub record IsInStep (role : Role) (links : List LinkState) (agenda : AgendaState) : Type 0 where
-  pub alarms : agenda.alarms ≡ alarms_of (slice_index_or agenda.alarms 0 None) role links
-  pub exits : agenda.owner.exits ≡ numbers_of links
-  pub flow : agenda.owner.flow ≡ flow_of role
+-- the timers are the start, the sender's deadline, the receiver's timer and when each link is free; the owner is the node with its flow and its links' numbers, of which there are not too many
+pub record IsInStep (role : Role) (links : List LinkState) (event_queue : EventQueueState) : Type 0 where
+  pub timers : event_queue.timers ≡ timers_of (slice_index_or event_queue.timers 0 None) role links
+  pub exits : event_queue.owner.exits ≡ numbers_of links
+  pub flow : event_queue.owner.flow ≡ flow_of role
   pub linked : HasItsLink role links
   pub few : length links ≤ 1024

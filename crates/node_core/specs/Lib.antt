@@ -1,5 +1,5 @@
 pub mod Pending
-pub mod Alarms
+pub mod Timers
 pub mod RouteTable
 pub mod Part
 pub mod Links
@@ -7,11 +7,11 @@ pub mod Lending
 pub mod Shown
 pub mod Row
 pub mod TraceLine
-pub mod Opening
+pub mod Initial
 pub mod WireState
-pub mod AgendaState
+pub mod EventQueueState
 pub mod Codes
-pub mod AgendaOf
+pub mod EventQueueOf
 pub mod InStep
 pub mod Passing
 pub mod Node
@@ -21,6 +21,6 @@ pub mod CarriedOut
 pub mod NodeCode
 pub mod NodeOf
 pub mod Ready
-pub mod OpeningAgenda
-pub use Rattle.ranking.specs.Keyed
-pub use Rattle.ranking.specs.Gathered
+pub mod InitialEventQueue
+pub use Rattle.tournament.specs.Keyed
+pub use Rattle.tournament.specs.Gathered

@@ -9,5 +9,5 @@ abbrev pub packets_of : List Stamped → List Packet
 packets_of = map (λ cell. cell.0)
 
 -- the packets of cells, and behind them that of one more cell, if there is one
-abbrev pub all_of : List Stamped → Option Stamped → List Packet
-all_of cells last = packets_of cells ++ option_to_list (option_map (λ (cell : Stamped). cell.0) last)
+abbrev pub packets_with : List Stamped → Option Stamped → List Packet
+packets_with cells last = packets_of cells ++ option_to_list (option_map (λ (cell : Stamped). cell.0) last)

@@ -4,7 +4,7 @@ use Rattle.std.specs.FinMap as map
 use Rattle.sim_time.specs.declared.key.Key.{Key}
 use Rattle.packet_chain.specs.Stamped.{Stamped}
 use Rattle.node_core.specs.declared.event.Event.{Event}
-use Rattle.ranking.specs.Keyed.{apply, entering, least, nothing_due}
+use Rattle.tournament.specs.Keyed.{apply, entering, least, nothing_due}
 use Rattle.node_core.specs.Pending.{Events}
 use Rattle.scenario_image.specs.declared.parts.NodeKind.{NodeKind}
 use Rattle.scenario_image.specs.declared.parts.LinkPart.{LinkPart}
@@ -12,8 +12,8 @@ use Rattle.scenario_image.specs.declared.parts.ScenarioParts.{ScenarioParts}
 use Rattle.node_core.specs.Part.{PartState}
 use Rattle.node_core.specs.TraceLine.{TraceLine}
 use Rattle.node_core.specs.WireState.{arrivals}
-use Rattle.node_core.specs.AgendaState.{Incoming, incoming_at}
-use Rattle.node_core.specs.Opening.{opening_part, coming_links, starting_flows, start_of}
+use Rattle.node_core.specs.EventQueueState.{Incoming, incoming_at}
+use Rattle.node_core.specs.Initial.{initial_part, coming_links, starting_flows, start_of}
 use Rattle.node_core.specs.Row.{Effect, Leaving, row, home_changes}
 
 -- a node of a number: what it is, its incoming links in rising number, and the events that are pending at it
@@ -42,10 +42,10 @@ delivered node index packets =
     }
 
 -- what a node of a scenario is at first: its flow's start is pending where it sends one, and nothing has come
-abbrev pub opening_node : ScenarioParts → ℕ × NodeKind → NodeState
-opening_node p numbered = record {
+abbrev pub initial_node : ScenarioParts → ℕ × NodeKind → NodeState
+initial_node p numbered = record {
   number = numbered.0;
-  part = opening_part p numbered;
+  part = initial_part p numbered;
   incoming = each (λ (x : ℕ × LinkPart). record { link = x.0; came = 0 }) (coming_links p.links numbered.0);
   pending = apply (each start_of (starting_flows p.flows numbered.0)) (nothing_due Event);
 }

@@ -5,7 +5,7 @@ use Rattle.node_core.specs.contracts.role.Role as role
 use Rattle.node_core.specs.contracts.link.Link as link
 use Rattle.node_core.specs.declared.role.Role.{Role}
 use Rattle.node_core.specs.Part.{LinkState, PartState}
-use Rattle.node_core.specs.AgendaState.{Incoming}
+use Rattle.node_core.specs.EventQueueState.{Incoming}
 use Rattle.node_core.specs.Pending.{Events}
 use Rattle.node_core.specs.Codes.{incoming_code, events_code}
 use Rattle.node_core.specs.Node.{NodeState}

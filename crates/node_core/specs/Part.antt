@@ -3,7 +3,7 @@ use Rattle.std.specs.Prelude.{ℕ, List, [], slice_index_or, Option, None, Some}
 use Rattle.reno_sender.specs.declared.fields.SenderFields.{SenderFields}
 use Rattle.reno_receiver.specs.Received.{ReceiverState}
 use Rattle.aqm.specs.declared.queue.Queue.TheVariants.{DropTail}
-use Rattle.port.specs.Port.{PortState, opening_port}
+use Rattle.port.specs.Port.{PortState, initial_port}
 use Rattle.node_core.specs.declared.role.Role.{Role}
 use Rattle.node_core.specs.declared.role.Role.TheVariants.{Sends, Receives, Routes}
 
@@ -18,7 +18,7 @@ pub record PartState : Type 0 where
   pub links : List LinkState
 
 abbrev pub no_link : LinkState
-no_link = record { to = 0; port = opening_port 0 0 0 [] (DropTail (record { waiting = []; capacity = 0 })) }
+no_link = record { to = 0; port = initial_port 0 0 0 [] (DropTail (record { waiting = []; capacity = 0 })) }
 
 -- the outgoing link of an index
 abbrev pub link_at : List LinkState → ℕ → LinkState

@@ -1,5 +1,5 @@
 -- The pending events: one finite map from keys to events, and the changes that an event makes to it.
-use Rattle.ranking.specs.Keyed.{Keyed, Change as KeyedChange}
+use Rattle.tournament.specs.Keyed.{Keyed, KeyChange as KeyedChange}
 use Rattle.node_core.specs.declared.event.Event.{Event}
 
 -- events under their keys
@@ -7,5 +7,5 @@ abbrev pub Events : Type 0
 Events = Keyed Event
 
 -- under this key the event is pending from now on, or none is
-abbrev pub Change : Type 0
-Change = KeyedChange Event
+abbrev pub EventChange : Type 0
+EventChange = KeyedChange Event

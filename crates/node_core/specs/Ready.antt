@@ -15,8 +15,8 @@ use Rattle.node_core.specs.declared.event.Event.TheVariants.{Start, Rto, DelAck,
 use Rattle.node_core.specs.declared.role.Role.{Role}
 use Rattle.node_core.specs.declared.role.Role.TheVariants.{Sends, Receives, Routes}
 use Rattle.node_core.specs.RouteTable.{exit_for}
-use Rattle.node_core.specs.Alarms.{first_free}
-use Rattle.node_core.specs.InStep.{deadline_of, delayed_of}
+use Rattle.node_core.specs.Timers.{first_free}
+use Rattle.node_core.specs.InStep.{rto_deadline, delayed_of}
 use Rattle.node_core.specs.Part.{LinkState, PartState}
 
 -- an acknowledgement has to be one for the sender
@@ -34,18 +34,18 @@ abbrev pub IsExit : ℕ → Option ℕ → Type 0
 IsExit links exit = (index : ℕ) → exit ≡ Some index → index < links
 
 -- a node can take a packet
-abbrev pub Takes : PartState → Role → ℕ → Packet → Type 0
-Takes part (Sends flow fields) now x = SenderTakes fields now x.kind x.number
-Takes part (Receives flow state) now x = ReceiverTakes state x.kind x.number
-Takes part (Routes table) now x = IsExit (length part.links) (exit_for table x)
+abbrev pub CanTakePacket : PartState → Role → ℕ → Packet → Type 0
+CanTakePacket part (Sends flow fields) now x = SenderTakes fields now x.kind x.number
+CanTakePacket part (Receives flow state) now x = ReceiverTakes state x.kind x.number
+CanTakePacket part (Routes table) now x = IsExit (length part.links) (exit_for table x)
 
 -- what an event needs of its node: an arrival that the node can take the packet
-abbrev pub CanRun : PartState → ℕ → Event → Type 0
-CanRun part now (Start flow) = Unit {0}
-CanRun part now (Rto flow) = Unit {0}
-CanRun part now (DelAck flow) = Unit {0}
-CanRun part now (Free link) = Unit {0}
-CanRun part now (Arrive packet) = Takes part part.role now packet
+abbrev pub CanHandle : PartState → ℕ → Event → Type 0
+CanHandle part now (Start flow) = Unit {0}
+CanHandle part now (Rto flow) = Unit {0}
+CanHandle part now (DelAck flow) = Unit {0}
+CanHandle part now (Free link) = Unit {0}
+CanHandle part now (Arrive packet) = CanTakePacket part part.role now packet
 
 -- the sums at a link stay in their types
 pub record LinkCan (link : LinkState) : Type 0 where
@@ -61,13 +61,13 @@ pub record CanOffer (now : ℕ) (link : LinkState) (chain : List Stamped) : Type
 -- what is needed of the event that is a node's least
 pub record IsRunnable (part : PartState) (k : Key) (v : Event) : Type 0 where
   pub moment : IsMoment k.time
-  pub can : CanRun part k.time v
+  pub can : CanHandle part k.time v
   pub links : AllByRecursion LinkCan part.links
 
 -- the timer that ends is one that the role has set
 abbrev pub IsSetBy : Role → Event → Type 0
 IsSetBy role (Start flow) = Unit {0}
-IsSetBy role (Rto flow) = IsSome (deadline_of role)
+IsSetBy role (Rto flow) = IsSome (rto_deadline role)
 IsSetBy role (DelAck flow) = IsSome (delayed_of role)
 IsSetBy role (Free link) = Unit {0}
 IsSetBy role (Arrive packet) = Unit {0}

@@ -9,18 +9,18 @@ use Rattle.reno_sender.specs.Sending.{Planned}
 use Rattle.reno_sender.specs.Table.{started, acknowledged, timed_out}
 use Rattle.reno_receiver.specs.declared.reply.Reply.{Reply}
 use Rattle.reno_receiver.specs.declared.reply.Reply.TheVariants.{AckNow, Wait}
-use Rattle.reno_receiver.specs.Received.{ReceiverState, Answered, data_came, alarm_came, next_of}
+use Rattle.reno_receiver.specs.Received.{ReceiverState, Answered, data_came, timer_came, next_of}
 use Rattle.port.specs.declared.acts.Act.{Act}
 use Rattle.port.specs.Port.{Departure, PortStep, offered_one, offered_all, taken}
-use Rattle.node_core.specs.declared.alarm.Alarm.TheVariants.{Retransmission, DelayedAcknowledgement, Free as BecomesFree}
+use Rattle.node_core.specs.declared.timer.Timer.TheVariants.{Retransmission, DelayedAcknowledgement, Free as BecomesFree}
 use Rattle.node_core.specs.declared.event.Event.{Event}
 use Rattle.node_core.specs.declared.event.Event.TheVariants.{Start, Rto, DelAck, Free, Arrive}
 use Rattle.node_core.specs.declared.line.After.{After}
 use Rattle.node_core.specs.declared.line.After.TheVariants.{AtSender, AtReceiver, AtRouter}
 use Rattle.node_core.specs.declared.role.Role.{Role}
 use Rattle.node_core.specs.declared.role.Role.TheVariants.{Sends, Receives, Routes}
-use Rattle.node_core.specs.Pending.{Change}
-use Rattle.node_core.specs.Alarms.{alarm_key, arrival_key, alarm_cleared, alarm_set}
+use Rattle.node_core.specs.Pending.{EventChange}
+use Rattle.node_core.specs.Timers.{timer_key, arrival_key, timer_cleared, timer_set}
 use Rattle.node_core.specs.RouteTable.{exit_for}
 use Rattle.node_core.specs.Part.{PartState, LinkState, link_at}
 
@@ -32,7 +32,7 @@ pub record Leaving : Type 0 where
 -- what an event leaves and does: the node; its timer, moved; the packet that leaves, if one does; what the line shows
 pub record Effect : Type 0 where
   pub part : PartState
-  pub timers : List Change
+  pub rto_timers : List EventChange
   pub leaving : Option Leaving
   pub after : After
   pub acts : List Act
@@ -48,10 +48,10 @@ leaving_over index None = None
 leaving_over index (Some departure) = Some (record { index = index; departure = departure })
 
 -- the node has a new role's state, and packets passed one of its links
-abbrev pub with_step : PartState → Role → List Change → ℕ → PortStep → Effect
-with_step part role timers index step = record {
+abbrev pub with_step : PartState → Role → List EventChange → ℕ → PortStep → Effect
+with_step part role rto_timers index step = record {
   part = record { role = role; links = slice_set part.links index (record (link_at part.links index) { port = step.port }) };
-  timers = timers;
+  rto_timers = rto_timers;
   leaving = leaving_over index step.departure;
   after = after_of role;
   acts = step.acts;
@@ -59,11 +59,11 @@ with_step part role timers index step = record {
 
 -- nothing is done
 abbrev pub quiet : PartState → Effect
-quiet part = record { part = part; timers = []; leaving = None; after = after_of part.role; acts = [] }
+quiet part = record { part = part; rto_timers = []; leaving = None; after = after_of part.role; acts = [] }
 
 -- a timer moves: what was set is taken out, and what is to be set is set
-abbrev pub timer_moved : (ℕ → Key) → Event → Option ℕ → Option ℕ → List Change
-timer_moved key_at event old new = alarm_cleared key_at old ++ alarm_set key_at event new
+abbrev pub rto_timer_moved : (ℕ → Key) → Event → Option ℕ → Option ℕ → List EventChange
+rto_timer_moved key_at event old new = timer_cleared key_at old ++ timer_set key_at event new
 
 -- a segment has 40 bytes besides its data, an acknowledgement 40 bytes
 abbrev pub data_packet : ℕ → ℕ → ℕ → Packet
@@ -75,7 +75,7 @@ ack_packet flow number = record { flow = flow; kind = Ack; number = number; byte
 -- a row of the sender's table: its packets are offered to the node's link, and the retransmission timer is its deadline
 abbrev pub sender_row : PartState → Key → ℕ → SenderFields → Planned → Effect
 sender_row part key flow old planned =
-    with_step part (Sends flow planned.fields) (timer_moved (alarm_key key.node Retransmission) (Rto flow) old.deadline planned.fields.deadline) 0
+    with_step part (Sends flow planned.fields) (rto_timer_moved (timer_key key.node Retransmission) (Rto flow) old.deadline planned.fields.deadline) 0
     (offered_all key.time (link_at part.links 0).port (map (data_packet flow planned.fields.mss) planned.sent))
 
 -- what a receiver sends at once
@@ -86,7 +86,7 @@ ack_of flow (Wait time) = []
 -- a row of the receiver's table
 abbrev pub receiver_row : PartState → Key → ℕ → ReceiverState → Answered → Effect
 receiver_row part key flow old answered =
-    with_step part (Receives flow answered.state) (timer_moved (alarm_key key.node DelayedAcknowledgement) (DelAck flow) old.alarm answered.state.alarm) 0
+    with_step part (Receives flow answered.state) (rto_timer_moved (timer_key key.node DelayedAcknowledgement) (DelAck flow) old.timer answered.state.timer) 0
     (offered_all key.time (link_at part.links 0).port (ack_of flow answered.reply))
 
 -- a router offers a packet to the link of its route
@@ -106,7 +106,7 @@ rto_row part (Routes table) key = quiet part
 
 abbrev pub delack_row : PartState → Role → Key → Effect
 delack_row part (Sends flow fields) key = quiet part
-delack_row part (Receives flow state) key = receiver_row part key flow state (alarm_came state)
+delack_row part (Receives flow state) key = receiver_row part key flow state (timer_came state)
 delack_row part (Routes table) key = quiet part
 
 -- a packet comes to a sender: it acts on an acknowledgement
@@ -137,28 +137,28 @@ row part key (Free link) = free_row part key (key.number - 3)
 row part key (Arrive packet) = arrival_row part part.role key packet
 
 -- the link that a packet leaves over is busy until it is free
-abbrev pub busy_until : ℕ → List LinkState → Leaving → Change
-busy_until node links leaving = (alarm_key node (BecomesFree leaving.index) leaving.departure.free, Some (Free (link_at links leaving.index).port.link))
+abbrev pub busy_until : ℕ → List LinkState → Leaving → EventChange
+busy_until node links leaving = (timer_key node (BecomesFree leaving.index) leaving.departure.free, Some (Free (link_at links leaving.index).port.link))
 
 -- the packet that leaves arrives at the link's end; its number is how many the link has begun to send with it
-abbrev pub arrives : List LinkState → Leaving → Change
+abbrev pub arrives : List LinkState → Leaving → EventChange
 arrives links leaving =
     let link = link_at links leaving.index in
     (arrival_key link.to link.port.link leaving.departure.arrival link.port.sent, Some (Arrive leaving.departure.packet))
 
 -- what changes among the events that are pending at the node itself
-abbrev pub made_at_home : ℕ → List LinkState → Option Leaving → List Change
+abbrev pub made_at_home : ℕ → List LinkState → Option Leaving → List EventChange
 made_at_home node links None = []
 made_at_home node links (Some leaving) = busy_until node links leaving ∷ []
 
-abbrev pub home_changes : ℕ → Effect → List Change
-home_changes node effect = effect.timers ++ made_at_home node effect.part.links effect.leaving
+abbrev pub home_changes : ℕ → Effect → List EventChange
+home_changes node effect = effect.rto_timers ++ made_at_home node effect.part.links effect.leaving
 
 -- what is pending besides, at the end of a link
-abbrev pub sent_away : List LinkState → Option Leaving → List Change
+abbrev pub sent_away : List LinkState → Option Leaving → List EventChange
 sent_away links None = []
 sent_away links (Some leaving) = arrives links leaving ∷ []
 
 -- all changes to the pending events
-abbrev pub changes_of : ℕ → Effect → List Change
+abbrev pub changes_of : ℕ → Effect → List EventChange
 changes_of node effect = home_changes node effect ++ sent_away effect.part.links effect.leaving

@@ -3,11 +3,11 @@ use Rattle.std.specs.Prelude.{◌≤◌, ◌<◌, ◌+◌, ◌^◌, ℕ, List, [
 use Rattle.std.specs.List.Sorted.{IsStrictlyIncreasing}
 use Rattle.sim_time.specs.declared.key.Key.{Key}
 use Rattle.packet_chain.specs.Stamped.{Stamped}
-use Rattle.ranking.specs.Keyed.{due_of}
+use Rattle.tournament.specs.Keyed.{map_of_keys}
 use Rattle.node_core.specs.declared.event.Event.{Event}
 use Rattle.node_core.specs.declared.event.Event.TheVariants.{Arrive}
 use Rattle.node_core.specs.Pending.{Events}
-use Rattle.node_core.specs.Alarms.{arrival_key}
+use Rattle.node_core.specs.Timers.{arrival_key}
 
 -- the node at its end, the link, how many packets have arrived, and the others with the moments at which they arrive
 pub record WireState : Type 0 where
@@ -30,19 +30,19 @@ arrivals_on w = arrivals w.node w.link w.taken w.under_way
 
 -- the arrivals as a map
 abbrev pub pending_on : WireState → Events
-pending_on w = due_of (arrivals_on w)
+pending_on w = map_of_keys (arrivals_on w)
 
 -- how many packets have come onto it
 abbrev pub came_over : WireState → ℕ
 came_over w = w.taken + length w.under_way
 
 -- the first packet has arrived
-abbrev pub without_first : WireState → List Stamped → WireState
-without_first w [] = w
-without_first w (first ∷ rest) = record w { taken = w.taken + 1; under_way = rest }
+abbrev pub without_first_arrival : WireState → List Stamped → WireState
+without_first_arrival w [] = w
+without_first_arrival w (first ∷ rest) = record w { taken = w.taken + 1; under_way = rest }
 
 abbrev pub after_pop : WireState → WireState
-after_pop w = without_first w w.under_way
+after_pop w = without_first_arrival w w.under_way
 
 -- arrivals strictly rise, and the numbers of their keys fit
 pub record IsWire (w : WireState) : Type 0 where

@@ -5,7 +5,7 @@ ghost use Rattle.reno_sender.specs.Sending.{spaced};
 ghost use Rattle.node_core.specs.Links.{packets_of};
 ghost use Rattle.node_core.specs.Row.{data_packet, ack_packet};
 
-use crate::spares::Spares;
+use crate::free_list::FreeList;
 use packet_chain::{Kind, Packet, PacketBytes, PacketChain};
 use reno_sender::{AckRun, Plan};
 use std::alloc::{AllocError, Global};
@@ -48,12 +48,12 @@ pub(crate) fn acknowledgement(flow: u16, number: u64) -> Packet
 #[inline(always)]
 pub(crate) fn alone(
     origin: Origin,
-    spares: &mut Spares,
+    free_list: &mut FreeList,
     packet: Packet,
 ) -> Result<PacketChain, AllocError>
     ensures { IfOk result (λ cells. packets_of cells ≡ packet ∷ []) }
 {
-    let cell = spares.take(origin.alloc, packet)?;
+    let cell = free_list.take(origin.alloc, packet)?;
     let mut cells = PacketChain::new(origin.alloc);
     cells.push_back(cell);
     Ok(cells)
@@ -62,7 +62,7 @@ pub(crate) fn alone(
 // Puts so many segments at the end, from the first on.
 fn push_run(
     origin: Origin,
-    spares: &mut Spares,
+    free_list: &mut FreeList,
     cells: &mut PacketChain,
     mss: u64,
     first: u64,
@@ -75,7 +75,7 @@ fn push_run(
 {
     let mut number = first;
     for _made in 0..count {
-        let cell = spares.take(origin.alloc, segment(origin.flow, mss, number))?;
+        let cell = free_list.take(origin.alloc, segment(origin.flow, mss, number))?;
         cells.push_back(cell);
         number += mss;
     }
@@ -85,7 +85,7 @@ fn push_run(
 /// The segment that is sent again, if one is, and then so many segments from the first on.
 pub(crate) fn segments(
     origin: Origin,
-    spares: &mut Spares,
+    free_list: &mut FreeList,
     mss: u64,
     resent: Option<u64>,
     first: u64,
@@ -98,17 +98,17 @@ pub(crate) fn segments(
 {
     let mut cells = PacketChain::new(origin.alloc);
     if let Some(number) = resent {
-        let cell = spares.take(origin.alloc, segment(origin.flow, mss, number))?;
+        let cell = free_list.take(origin.alloc, segment(origin.flow, mss, number))?;
         cells.push_back(cell);
     }
-    push_run(origin, spares, &mut cells, mss, first, count)?;
+    push_run(origin, free_list, &mut cells, mss, first, count)?;
     Ok(cells)
 }
 
 /// The segments of a plan: all but the last in cells of their own, and the last, if there is one.
 pub(crate) fn but_last(
     origin: Origin,
-    spares: &mut Spares,
+    free_list: &mut FreeList,
     plan: &Plan,
 ) -> Result<(PacketChain, Option<Packet>), AllocError>
     ensures { IfOk result (λ made. packets_of made.0 ++ option_to_list made.1 ≡ map (data_packet origin.flow plan.now.fields.mss) (sent_of plan.now)) }
@@ -118,7 +118,7 @@ pub(crate) fn but_last(
         let cells = PacketChain::new(origin.alloc);
         return Ok((cells, again(origin.flow, mss, plan.resent())));
     }
-    let cells = segments(origin, spares, mss, plan.resent(), first, count - 1)?;
+    let cells = segments(origin, free_list, mss, plan.resent(), first, count - 1)?;
     let last = segment(origin.flow, mss, first + (count - 1) * mss);
     Ok((cells, Some(last)))
 }
@@ -127,7 +127,7 @@ pub(crate) fn but_last(
 #[inline(always)]
 pub(crate) fn run_but_last(
     origin: Origin,
-    spares: &mut Spares,
+    free_list: &mut FreeList,
     mss: u64,
     run: AckRun,
 ) -> Result<(PacketChain, Option<Packet>), AllocError>
@@ -146,9 +146,9 @@ pub(crate) fn run_but_last(
     if run.count == 2 {
         // An acknowledgement of two segments lets two go: a loop for one cell would cost more than the cell.
         let first = segment(origin.flow, mss, run.first);
-        return Ok((alone(origin, spares, first)?, Some(last)));
+        return Ok((alone(origin, free_list, first)?, Some(last)));
     }
-    let cells = segments(origin, spares, mss, None, run.first, run.count - 1)?;
+    let cells = segments(origin, free_list, mss, None, run.first, run.count - 1)?;
     Ok((cells, Some(last)))
 }
 

@@ -1,6 +1,6 @@
-//! What is decided of an event, before its node's links and its agenda change.
+//! What is decided of an event, before its node's links and its event queue change.
 
-use crate::alarm::Alarm;
+use crate::timer::Timer;
 use packet_chain::{Packet, PacketChain};
 use sim_time::Time;
 
@@ -25,7 +25,7 @@ pub struct Sending {
     /// The packet behind them, which takes the cell of the packet that arrives.
     pub last: Option<Packet>,
     /// The timer.
-    pub alarm: Alarm,
+    pub timer: Timer,
     /// When it ends from now on, in nanoseconds; none: it is off.
     pub time: Option<Time>,
 }

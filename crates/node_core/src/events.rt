@@ -3,22 +3,22 @@ ghost use Rattle.std.specs.Prelude.{◌≡◌, ◌≤◌, ℕ, List, IfOk, OnErr
 ghost use Rattle.sim_time.specs.Moment.{IsMoment};
 ghost use Rattle.node_core.specs.declared.event.Event.TheVariants.{Start, Rto, DelAck, Arrive};
 ghost use Rattle.node_core.specs.Decided.{CanDecide, IsDecided};
-ghost use Rattle.node_core.specs.InStep.{HasItsLink, deadline_of, delayed_of};
+ghost use Rattle.node_core.specs.InStep.{HasItsLink, rto_deadline, delayed_of};
 ghost use Rattle.node_core.specs.Part.{LinkState};
-ghost use Rattle.node_core.specs.Ready.{EndTakes, Takes};
+ghost use Rattle.node_core.specs.Ready.{EndTakes, CanTakePacket};
 ghost use Rattle.node_core.specs.Running.{part};
 ghost use Rattle.node_core.specs.TraceLine.{IsSameEvent};
 
 use crate::cells::Origin;
 use crate::decision::Decision;
 use crate::event::Event;
+use crate::free_list::FreeList;
 use crate::line::Line;
 use crate::link::Link;
 use crate::receiver_node::{answer_data, answer_delayed};
 use crate::role::Role;
 use crate::router_node::{free_link, pass_packet};
 use crate::sender_node::{send_for_ack, send_plan};
-use crate::spares::Spares;
 use packet_chain::{Kind, Packet};
 use port::Acts;
 use sim_time::Key;
@@ -27,7 +27,7 @@ use std::alloc::{AllocError, Global};
 /// The flow starts.
 pub(crate) fn decide_start(
     alloc: Global,
-    spares: &mut Spares,
+    free_list: &mut FreeList,
     role: &mut Role,
     key: Key,
     acts: &mut Acts,
@@ -40,7 +40,13 @@ pub(crate) fn decide_start(
     match role {
         Role::Sends(flow, sender) => {
             let plan = sender.start(key.time);
-            send_plan(Origin { alloc, flow: *flow }, spares, sender, &plan, acts)
+            send_plan(
+                Origin { alloc, flow: *flow },
+                free_list,
+                sender,
+                &plan,
+                acts,
+            )
         }
         Role::Receives(_, _) | Role::Routes(_) => Ok(Decision::Leave),
     }
@@ -49,13 +55,13 @@ pub(crate) fn decide_start(
 /// The retransmission timer ends.
 pub(crate) fn decide_timeout(
     alloc: Global,
-    spares: &mut Spares,
+    free_list: &mut FreeList,
     role: &mut Role,
     key: Key,
     acts: &mut Acts,
 ) -> Result<Decision, AllocError>
     requires moment { IsMoment key.time }
-    requires set { IsSome (deadline_of role.old) }
+    requires set { IsSome (rto_deadline role.old) }
     ensures decided { (flow : ℕ) (links : List LinkState) → HasItsLink role.old links → IfOk result (IsDecided role.old role.new links key (Rto flow) acts.new.room) }
     ensures same { OnErr result (role.new ≡ role.old) }
     ensures acts { acts.new.acts ≡ acts.old.acts }
@@ -63,7 +69,13 @@ pub(crate) fn decide_timeout(
     match role {
         Role::Sends(flow, sender) => {
             let plan = sender.on_rto(key.time);
-            send_plan(Origin { alloc, flow: *flow }, spares, sender, &plan, acts)
+            send_plan(
+                Origin { alloc, flow: *flow },
+                free_list,
+                sender,
+                &plan,
+                acts,
+            )
         }
         Role::Receives(_, _) | Role::Routes(_) => Ok(Decision::Leave),
     }
@@ -72,7 +84,7 @@ pub(crate) fn decide_timeout(
 /// A delayed acknowledgement is due.
 pub(crate) fn decide_delayed(
     alloc: Global,
-    spares: &mut Spares,
+    free_list: &mut FreeList,
     role: &mut Role,
     acts: &mut Acts,
 ) -> Result<Decision, AllocError>
@@ -83,7 +95,7 @@ pub(crate) fn decide_delayed(
 {
     match role {
         Role::Receives(flow, receiver) => {
-            answer_delayed(Origin { alloc, flow: *flow }, spares, receiver, acts)
+            answer_delayed(Origin { alloc, flow: *flow }, free_list, receiver, acts)
         }
         Role::Sends(_, _) | Role::Routes(_) => Ok(Decision::Leave),
     }
@@ -93,7 +105,7 @@ pub(crate) fn decide_delayed(
 #[inline(always)]
 pub(crate) fn decide_arrival(
     alloc: Global,
-    spares: &mut Spares,
+    free_list: &mut FreeList,
     role: &mut Role,
     packet: Packet,
     key: Key,
@@ -102,7 +114,7 @@ pub(crate) fn decide_arrival(
     requires moment { IsMoment key.time }
     requires takes { EndTakes role.old key.time packet }
     requires room { 1 ≤ acts.old.room }
-    ensures decided { (links : List LinkState) → HasItsLink role.old links → Takes (part role.old links) role.old key.time packet → IfOk result (IsDecided role.old role.new links key (Arrive packet) acts.new.room) }
+    ensures decided { (links : List LinkState) → HasItsLink role.old links → CanTakePacket (part role.old links) role.old key.time packet → IfOk result (IsDecided role.old role.new links key (Arrive packet) acts.new.room) }
     ensures same { OnErr result (role.new ≡ role.old) }
     ensures acts { acts.new.acts ≡ acts.old.acts }
 {
@@ -110,7 +122,7 @@ pub(crate) fn decide_arrival(
         Role::Sends(flow, sender) => match packet.kind {
             Kind::Ack => {
                 let origin = Origin { alloc, flow: *flow };
-                send_for_ack(origin, spares, sender, packet.number, key.time, acts)
+                send_for_ack(origin, free_list, sender, packet.number, key.time, acts)
             }
             Kind::Data => Ok(Decision::Leave),
         },
@@ -129,7 +141,7 @@ pub(crate) fn decide_arrival(
 #[inline(always)]
 pub(crate) fn decide(
     alloc: Global,
-    spares: &mut Spares,
+    free_list: &mut FreeList,
     role: &mut Role,
     links: &Vec<Link>,
     line: &mut Line,
@@ -144,10 +156,10 @@ pub(crate) fn decide(
     let key = line.key;
     let acts = &mut line.acts;
     match &line.event {
-        Event::Start(_) => decide_start(alloc, spares, role, key, acts),
-        Event::Rto(_) => decide_timeout(alloc, spares, role, key, acts),
-        Event::DelAck(_) => decide_delayed(alloc, spares, role, acts),
+        Event::Start(_) => decide_start(alloc, free_list, role, key, acts),
+        Event::Rto(_) => decide_timeout(alloc, free_list, role, key, acts),
+        Event::DelAck(_) => decide_delayed(alloc, free_list, role, acts),
         Event::Free(_) => Ok(Decision::TakeNext(free_link(links, key, acts)?)),
-        Event::Arrive(packet) => decide_arrival(alloc, spares, role, *packet, key, acts),
+        Event::Arrive(packet) => decide_arrival(alloc, free_list, role, *packet, key, acts),
     }
 }

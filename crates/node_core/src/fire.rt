@@ -1,13 +1,13 @@
 //! Running the event of a node's least key: it is decided, and then carried out.
 ghost use Rattle.std.specs.Prelude.{◌≤◌, OnErr, IfOk};
-ghost use Rattle.node_core.specs.CarriedOut.{CanFire, IsNext, IsCarriedOut, IsRun};
+ghost use Rattle.node_core.specs.CarriedOut.{CanFire, IsNextEvent, IsCarriedOut, EventIsRun};
 ghost use Rattle.node_core.specs.Decided.{CanDo};
 ghost use Rattle.node_core.specs.Running.{IsAsBefore};
 ghost use Rattle.node_core.specs.TraceLine.{IsSameEvent};
 
-use crate::agenda::Agenda;
 use crate::decision::Decision;
 use crate::event::Event;
+use crate::event_queue::EventQueue;
 use crate::events::decide;
 use crate::line::Line;
 use crate::link::Link;
@@ -24,23 +24,23 @@ use std::alloc::AllocError;
 pub(crate) fn carry_out(
     decision: Decision,
     links: &mut Vec<Link>,
-    agenda: &mut Agenda,
+    event_queue: &mut EventQueue,
     line: &mut Line,
     out: &mut Outbox,
 ) -> Option<u16>
-    requires next { IsNext line.old.key line.old.event links.old.items agenda.old out.old }
+    requires next { IsNextEvent line.old.key line.old.event links.old.items event_queue.old out.old }
     requires can { CanDo line.old.key line.old.event links.old.items line.old.acts.room decision }
-    ensures done { IsCarriedOut line.old.key line.old.event decision links.old.items links.new.items agenda.old agenda.new out.old out.new line.old.acts.acts line.new.acts.acts result }
+    ensures done { IsCarriedOut line.old.key line.old.event decision links.old.items links.new.items event_queue.old event_queue.new out.old out.new line.old.acts.acts line.new.acts.acts result }
     ensures same_event { IsSameEvent line.old.key line.new.key line.old.event line.new.event }
 {
     match decision {
         Decision::Leave => {
-            out.spares.keep(agenda.take(line.key));
+            out.free_list.keep(event_queue.take(line.key));
             None
         }
-        Decision::PassOn(index) => pass_on(index, links, agenda, line, out),
-        Decision::TakeNext(index) => take_next(index, links, agenda, line, out),
-        Decision::Send(sending) => send(sending, links, agenda, line, out),
+        Decision::PassOn(index) => pass_on(index, links, event_queue, line, out),
+        Decision::TakeNext(index) => take_next(index, links, event_queue, line, out),
+        Decision::Send(sending) => send(sending, links, event_queue, line, out),
     }
 }
 
@@ -49,17 +49,17 @@ pub(crate) fn carry_out(
 fn run_decided(
     role: &mut Role,
     links: &mut Vec<Link>,
-    agenda: &mut Agenda,
+    event_queue: &mut EventQueue,
     line: &mut Line,
     out: &mut Outbox,
 ) -> Result<Option<u16>, AllocError>
-    requires can { CanFire role.old links.old.items agenda.old line.old.key line.old.event out.old }
+    requires can { CanFire role.old links.old.items event_queue.old line.old.key line.old.event out.old }
     requires room { 1 ≤ line.old.acts.room }
-    ensures ran { IfOk result (IsRun role.old role.new links.old.items links.new.items agenda.old agenda.new out.old out.new line.old line.new) }
-    ensures same { OnErr result (IsAsBefore role.old role.new links.old.items links.new.items agenda.old agenda.new out.old out.new) }
+    ensures ran { IfOk result (EventIsRun role.old role.new links.old.items links.new.items event_queue.old event_queue.new out.old out.new line.old line.new) }
+    ensures same { OnErr result (IsAsBefore role.old role.new links.old.items links.new.items event_queue.old event_queue.new out.old out.new) }
 {
-    let decision = decide(agenda.alloc(), &mut out.spares, role, links, line)?;
-    Ok(carry_out(decision, links, agenda, line, out))
+    let decision = decide(event_queue.alloc(), &mut out.free_list, role, links, line)?;
+    Ok(carry_out(decision, links, event_queue, line, out))
 }
 
 // The same by a function of its own also in the program: most events are of links, and the places that an end
@@ -68,16 +68,16 @@ fn run_decided(
 fn run_apart(
     role: &mut Role,
     links: &mut Vec<Link>,
-    agenda: &mut Agenda,
+    event_queue: &mut EventQueue,
     line: &mut Line,
     out: &mut Outbox,
 ) -> Result<Option<u16>, AllocError>
-    requires can { CanFire role.old links.old.items agenda.old line.old.key line.old.event out.old }
+    requires can { CanFire role.old links.old.items event_queue.old line.old.key line.old.event out.old }
     requires room { 1 ≤ line.old.acts.room }
-    ensures ran { IfOk result (IsRun role.old role.new links.old.items links.new.items agenda.old agenda.new out.old out.new line.old line.new) }
-    ensures same { OnErr result (IsAsBefore role.old role.new links.old.items links.new.items agenda.old agenda.new out.old out.new) }
+    ensures ran { IfOk result (EventIsRun role.old role.new links.old.items links.new.items event_queue.old event_queue.new out.old out.new line.old line.new) }
+    ensures same { OnErr result (IsAsBefore role.old role.new links.old.items links.new.items event_queue.old event_queue.new out.old out.new) }
 {
-    run_decided(role, links, agenda, line, out)
+    run_decided(role, links, event_queue, line, out)
 }
 
 // The same where nearly always a segment has come to a receiver: only what that needs is in the program's function.
@@ -85,19 +85,19 @@ fn run_apart(
 fn run_data(
     role: &mut Role,
     links: &mut Vec<Link>,
-    agenda: &mut Agenda,
+    event_queue: &mut EventQueue,
     line: &mut Line,
     out: &mut Outbox,
 ) -> Result<Option<u16>, AllocError>
-    requires can { CanFire role.old links.old.items agenda.old line.old.key line.old.event out.old }
+    requires can { CanFire role.old links.old.items event_queue.old line.old.key line.old.event out.old }
     requires room { 1 ≤ line.old.acts.room }
-    ensures ran { IfOk result (IsRun role.old role.new links.old.items links.new.items agenda.old agenda.new out.old out.new line.old line.new) }
-    ensures same { OnErr result (IsAsBefore role.old role.new links.old.items links.new.items agenda.old agenda.new out.old out.new) }
+    ensures ran { IfOk result (EventIsRun role.old role.new links.old.items links.new.items event_queue.old event_queue.new out.old out.new line.old line.new) }
+    ensures same { OnErr result (IsAsBefore role.old role.new links.old.items links.new.items event_queue.old event_queue.new out.old out.new) }
 {
     if role.answers(&line.event) {
-        run_decided(role, links, agenda, line, out)
+        run_decided(role, links, event_queue, line, out)
     } else {
-        run_apart(role, links, agenda, line, out)
+        run_apart(role, links, event_queue, line, out)
     }
 }
 
@@ -106,19 +106,19 @@ fn run_data(
 fn run_ack(
     role: &mut Role,
     links: &mut Vec<Link>,
-    agenda: &mut Agenda,
+    event_queue: &mut EventQueue,
     line: &mut Line,
     out: &mut Outbox,
 ) -> Result<Option<u16>, AllocError>
-    requires can { CanFire role.old links.old.items agenda.old line.old.key line.old.event out.old }
+    requires can { CanFire role.old links.old.items event_queue.old line.old.key line.old.event out.old }
     requires room { 1 ≤ line.old.acts.room }
-    ensures ran { IfOk result (IsRun role.old role.new links.old.items links.new.items agenda.old agenda.new out.old out.new line.old line.new) }
-    ensures same { OnErr result (IsAsBefore role.old role.new links.old.items links.new.items agenda.old agenda.new out.old out.new) }
+    ensures ran { IfOk result (EventIsRun role.old role.new links.old.items links.new.items event_queue.old event_queue.new out.old out.new line.old line.new) }
+    ensures same { OnErr result (IsAsBefore role.old role.new links.old.items links.new.items event_queue.old event_queue.new out.old out.new) }
 {
     if role.is_answered(&line.event) {
-        run_decided(role, links, agenda, line, out)
+        run_decided(role, links, event_queue, line, out)
     } else {
-        run_apart(role, links, agenda, line, out)
+        run_apart(role, links, event_queue, line, out)
     }
 }
 
@@ -127,29 +127,29 @@ fn run_ack(
 pub(crate) fn run(
     role: &mut Role,
     links: &mut Vec<Link>,
-    agenda: &mut Agenda,
+    event_queue: &mut EventQueue,
     line: &mut Line,
     out: &mut Outbox,
 ) -> Result<Option<u16>, AllocError>
-    requires can { CanFire role.old links.old.items agenda.old line.old.key line.old.event out.old }
+    requires can { CanFire role.old links.old.items event_queue.old line.old.key line.old.event out.old }
     requires room { 1 ≤ line.old.acts.room }
-    ensures ran { IfOk result (IsRun role.old role.new links.old.items links.new.items agenda.old agenda.new out.old out.new line.old line.new) }
-    ensures same { OnErr result (IsAsBefore role.old role.new links.old.items links.new.items agenda.old agenda.new out.old out.new) }
+    ensures ran { IfOk result (EventIsRun role.old role.new links.old.items links.new.items event_queue.old event_queue.new out.old out.new line.old line.new) }
+    ensures same { OnErr result (IsAsBefore role.old role.new links.old.items links.new.items event_queue.old event_queue.new out.old out.new) }
 {
     match &line.event {
         Event::Free(_) => {
             let index = free_link(links, line.key, &mut line.acts)?;
-            Ok(take_next(index, links, agenda, line, out))
+            Ok(take_next(index, links, event_queue, line, out))
         }
         Event::Arrive(packet) => match role.route(packet) {
-            Some(index) => Ok(pass_on(index, links, agenda, line, out)),
+            Some(index) => Ok(pass_on(index, links, event_queue, line, out)),
             None => match packet.kind {
-                Kind::Data => run_data(role, links, agenda, line, out),
-                Kind::Ack => run_ack(role, links, agenda, line, out),
+                Kind::Data => run_data(role, links, event_queue, line, out),
+                Kind::Ack => run_ack(role, links, event_queue, line, out),
             },
         },
         Event::Start(_) | Event::Rto(_) | Event::DelAck(_) => {
-            run_apart(role, links, agenda, line, out)
+            run_apart(role, links, event_queue, line, out)
         }
     }
 }

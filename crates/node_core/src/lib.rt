@@ -2,17 +2,17 @@
 //! pending at it, and what each of its events does.
 #![tactic(auto)]
 
-mod agenda;
-pub mod alarm;
 mod cells;
 mod decision;
 pub mod event;
+mod event_queue;
 mod events;
 mod fire;
+mod free_list;
+pub mod initial;
 pub mod line;
 pub mod link;
 mod node;
-pub mod opening;
 pub mod outbox;
 mod passing;
 mod pending;
@@ -22,14 +22,14 @@ mod router_node;
 pub mod routes;
 mod sender_node;
 pub mod shown;
-mod spares;
+pub mod timer;
 pub mod wire;
 
-pub use alarm::Alarm;
 pub use event::Event;
 pub use line::{After, Line};
 pub use node::Node;
 pub use outbox::Outbox;
 pub use port::{Act, Acts, DropReason, TakeDrop};
 pub use shown::SenderShown;
+pub use timer::Timer;
 pub use wire::Wire;

@@ -4,7 +4,7 @@ ghost use Rattle.sim_time.specs.Moment.{IsMoment};
 ghost use Rattle.port.specs.Laws.{NothingWaitsWhereIdle};
 ghost use Rattle.port.specs.Port.{IsPort, offered_one, offered_all, taken, departed};
 ghost use Rattle.port.specs.Room.{drops_at};
-ghost use Rattle.node_core.specs.Links.{packets_of, all_of};
+ghost use Rattle.node_core.specs.Links.{packets_of, packets_with};
 ghost use Rattle.node_core.specs.Passing.{HasStepped};
 ghost use Rattle.node_core.specs.Ready.{CanOffer};
 
@@ -115,9 +115,9 @@ impl Link {
         out: &mut PacketChain,
     )
         requires can { CanOffer now self.old out.old }
-        requires room { length (all_of cells last) ≤ acts.old.room }
+        requires room { length (packets_with cells last) ≤ acts.old.room }
         requires few { length cells ≤ 2 ^ 40 }
-        ensures { HasStepped (offered_all now self.old.port (all_of cells last)) self.old self.new out.old out.new acts.old.acts acts.new.acts }
+        ensures { HasStepped (offered_all now self.old.port (packets_with cells last)) self.old self.new out.old out.new acts.old.acts acts.new.acts }
     {
         let Some(cell) = last else {
             self.offer(cells, now, acts, out);

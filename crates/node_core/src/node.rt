@@ -6,24 +6,24 @@ ghost use Rattle.std.specs.List.Sorted.{IsStrictlyIncreasing};
 ghost use Rattle.std.specs.FinMap as map;
 ghost use Rattle.sim_time.specs.declared.key.Key.{Key};
 ghost use Rattle.packet_chain.specs.Stamped.{Stamped};
-ghost use Rattle.ranking.specs.Keyed.{least, next_key, EachKey};
-ghost use Rattle.ranking.specs.Timed.{time_of};
+ghost use Rattle.tournament.specs.Keyed.{least, next_key, EachKey};
+ghost use Rattle.tournament.specs.Timed.{time_of};
 ghost use Rattle.node_core.specs.declared.event.Event.{Event};
-ghost use Rattle.node_core.specs.AgendaState.{incoming_at, entry_of};
+ghost use Rattle.node_core.specs.EventQueueState.{incoming_at, incoming_index};
 ghost use Rattle.node_core.specs.WireState.{stamps_of};
 ghost use Rattle.node_core.specs.Part.{link_at, sender_in, receiver_in};
 ghost use Rattle.node_core.specs.Row.{Leaving, row};
 ghost use Rattle.node_core.specs.Ready.{IsRunnable};
 ghost use Rattle.node_core.specs.TraceLine.{shown};
-ghost use Rattle.node_core.specs.Node.{delivered, opening_node, HasFired};
-ghost use Rattle.node_core.specs.Opening.{node_kind};
+ghost use Rattle.node_core.specs.Node.{delivered, initial_node, HasFired};
+ghost use Rattle.node_core.specs.Initial.{node_kind};
 
-use crate::agenda::Agenda;
 use crate::event::Event;
+use crate::event_queue::EventQueue;
 use crate::fire::run;
+use crate::initial::{initial_event_queue, initial_links, initial_role, leaving_numbers};
 use crate::line::Line;
 use crate::link::Link;
-use crate::opening::{leaving_numbers, opening_agenda, opening_links, opening_role};
 use crate::outbox::Outbox;
 use crate::pending::in_order;
 use crate::role::Role;
@@ -42,8 +42,8 @@ pub struct Node {
     role: Role,
     /// Its outgoing links, in rising number.
     links: Vec<Link>,
-    /// What is pending at it: its alarms and what comes over its incoming links.
-    agenda: Agenda,
+    /// What is pending at it: its timers and what comes over its incoming links.
+    event_queue: EventQueue,
     /// What its packets and its copies take their memory from.
     alloc: Global,
 }
@@ -79,17 +79,17 @@ impl Node {
     /// The node of a number of a scenario, before anything is sent.
     pub fn new(alloc: Global, scenario: &Scenario, number: u16) -> Result<Node, AllocError>
         requires { number < length scenario.now.nodes }
-        ensures { IfOk result (λ node. node ≡ opening_node scenario.now (number, node_kind scenario.now number)) }
+        ensures { IfOk result (λ node. node ≡ initial_node scenario.now (number, node_kind scenario.now number)) }
     {
         let parts = scenario.parts();
         let leaving = leaving_numbers(alloc, parts.links.as_slice(), number)?;
-        let role = opening_role(alloc, parts, &leaving, number)?;
-        let links = opening_links(alloc, parts, number)?;
-        let agenda = opening_agenda(alloc, parts, number, role.flow(), leaving)?;
+        let role = initial_role(alloc, parts, &leaving, number)?;
+        let links = initial_links(alloc, parts, number)?;
+        let event_queue = initial_event_queue(alloc, parts, number, role.flow(), leaving)?;
         Ok(Node {
             role,
             links,
-            agenda,
+            event_queue,
             alloc,
         })
     }
@@ -98,14 +98,14 @@ impl Node {
     pub fn number(&self) -> u16
         ensures { result ≡ self.now.number }
     {
-        self.agenda.node()
+        self.event_queue.node()
     }
 
     /// The least key of the events that are pending at it.
     pub fn least(&self) -> Option<Key>
         ensures { result ≡ next_key self.now.pending }
     {
-        self.agenda.next_key()
+        self.event_queue.next_key()
     }
 
     /// The time of the least key.
@@ -113,7 +113,7 @@ impl Node {
     pub fn next_time(&self) -> Option<Time>
         ensures { result ≡ time_of (next_key self.now.pending) }
     {
-        self.agenda.next_time()
+        self.event_queue.next_time()
     }
 
     /// How many outgoing links it has.
@@ -143,7 +143,7 @@ impl Node {
     pub fn incoming_count(&self) -> usize
         ensures { result ≡ length self.now.incoming }
     {
-        self.agenda.incoming_count()
+        self.event_queue.incoming_count()
     }
 
     /// The number of an incoming link.
@@ -151,7 +151,7 @@ impl Node {
         requires { index < length self.now.incoming }
         ensures { result ≡ (incoming_at self.now.incoming index).link }
     {
-        self.agenda.incoming_link(index)
+        self.event_queue.incoming_link(index)
     }
 
     /// Its sender, with the flow's number; none at other nodes.
@@ -185,20 +185,20 @@ impl Node {
     pub fn pending(&self) -> Result<Vec<(Key, Event)>, AllocError>
         ensures { IfOk result (λ all. all.items ≡ map.entries self.now.pending) }
     {
-        in_order(self.alloc, &self.agenda)
+        in_order(self.alloc, &self.event_queue)
     }
 
     /// Packets come over an incoming link, after all that came over it before; the chain is then
     /// empty. It takes no memory.
     pub fn deliver(&mut self, link: u16, chain: &mut PacketChain)
-        requires ends_here { entry_of self.old.incoming link < length self.old.incoming }
+        requires ends_here { incoming_index self.old.incoming link < length self.old.incoming }
         requires rising { IsStrictlyIncreasing (stamps_of chain.old) }
         requires later { All (λ stamp. EachKey (λ k. k.source ≡ link + 1 → k.time < stamp) self.old.pending) (stamps_of chain.old) }
-        requires few { (incoming_at self.old.incoming (entry_of self.old.incoming link)).came + length chain.old ≤ 2 ^ 50 }
-        ensures node { self.new ≡ delivered self.old (entry_of self.old.incoming link) chain.old }
+        requires few { (incoming_at self.old.incoming (incoming_index self.old.incoming link)).came + length chain.old ≤ 2 ^ 50 }
+        ensures node { self.new ≡ delivered self.old (incoming_index self.old.incoming link) chain.old }
         ensures emptied { chain.new ≡ [] }
     {
-        let index = self.agenda.entry(link);
+        let index = self.event_queue.entry(link);
         self.deliver_at(index, chain);
     }
 
@@ -212,7 +212,7 @@ impl Node {
         ensures node { self.new ≡ delivered self.old index chain.old }
         ensures emptied { chain.new ≡ [] }
     {
-        let _behind = self.agenda.append_behind(index, chain);
+        let _behind = self.event_queue.append_behind(index, chain);
     }
 
     /// The same. The answer is whether others are under way before them: then the least key stays.
@@ -226,7 +226,7 @@ impl Node {
         ensures emptied { chain.new ≡ [] }
         ensures stays { result ≡ true → next_key self.new.pending ≡ next_key self.old.pending }
     {
-        self.agenda.append_behind(index, chain)
+        self.event_queue.append_behind(index, chain)
     }
 
     /// Runs the event of the least key: `line` tells what it was and did, and a packet that
@@ -248,8 +248,14 @@ impl Node {
     {
         line.acts.reset();
         // Told last, so that what it is need not be asked again to run it.
-        self.agenda.tell_least(&mut line.key, &mut line.event);
-        let left = run(&mut self.role, &mut self.links, &mut self.agenda, line, out)?;
+        self.event_queue.tell_least(&mut line.key, &mut line.event);
+        let left = run(
+            &mut self.role,
+            &mut self.links,
+            &mut self.event_queue,
+            line,
+            out,
+        )?;
         self.role.show(&mut line.after);
         Ok(left)
     }
@@ -275,11 +281,11 @@ impl Node {
     {
         let role = self.role.copy()?;
         let links = copies_of(self.alloc, &self.links)?;
-        let agenda = self.agenda.copy()?;
+        let event_queue = self.event_queue.copy()?;
         Ok(Node {
             role,
             links,
-            agenda,
+            event_queue,
             alloc: self.alloc,
         })
     }

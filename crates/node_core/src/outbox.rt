@@ -2,7 +2,7 @@
 ghost use Rattle.std.specs.Prelude.{◌≡◌, ◌==◌, ◌<◌, [], IfOk, length, replicate, slice_index_or};
 ghost use Rattle.std.specs.Borrow.{sem};
 
-use crate::spares::Spares;
+use crate::free_list::FreeList;
 use packet_chain::PacketChain;
 use std::alloc::{AllocError, Global};
 use std::marker::Model;
@@ -14,7 +14,7 @@ use std::marker::Model;
 pub struct Outbox {
     chains: Vec<PacketChain>,
     /// What the next packets take before they ask for memory.
-    pub(crate) spares: Spares,
+    pub(crate) free_list: FreeList,
 }
 
 impl Model for Outbox {
@@ -37,8 +37,8 @@ impl Outbox {
         for _link in 0..ports {
             chains.push(PacketChain::new(alloc))?;
         }
-        let spares = Spares::new(alloc)?;
-        Ok(Outbox { chains, spares })
+        let free_list = FreeList::new(alloc)?;
+        Ok(Outbox { chains, free_list })
     }
 
     /// For how many links.

@@ -11,10 +11,10 @@ ghost use Rattle.node_core.specs.Part.{LinkState};
 ghost use Rattle.node_core.specs.Ready.{IsExit, IsOfLink};
 ghost use Rattle.node_core.specs.RouteTable.{exit_for};
 
-use crate::alarm::FIRST_FREE;
 use crate::decision::Decision;
 use crate::link::Link;
 use crate::routes::RouteTable;
+use crate::timer::FIRST_FREE;
 use packet_chain::Packet;
 use port::Acts;
 use sim_time::Key;

@@ -4,14 +4,14 @@ ghost use Rattle.sim_time.specs.Moment.{IsMoment};
 ghost use Rattle.reno_sender.specs.Laws.{IsAckFor};
 ghost use Rattle.reno_sender.specs.PlanView.{IsPlanOf, sent_of};
 ghost use Rattle.reno_sender.specs.Table.{acknowledged};
-ghost use Rattle.node_core.specs.declared.alarm.Alarm.TheVariants.{Retransmission};
+ghost use Rattle.node_core.specs.declared.timer.Timer.TheVariants.{Retransmission};
 ghost use Rattle.node_core.specs.Decided.{IsSent, OnSend};
 ghost use Rattle.node_core.specs.Row.{data_packet};
 
-use crate::alarm::Alarm;
 use crate::cells::{Origin, but_last, run_but_last, segments};
 use crate::decision::{Decision, Sending};
-use crate::spares::Spares;
+use crate::free_list::FreeList;
+use crate::timer::Timer;
 use port::Acts;
 use reno_sender::{Plan, Sender};
 use sim_time::Time;
@@ -21,7 +21,7 @@ use std::alloc::AllocError;
 /// taken before the sender takes the event.
 pub(crate) fn send_plan(
     origin: Origin,
-    spares: &mut Spares,
+    free_list: &mut FreeList,
     sender: &mut Sender,
     plan: &Plan,
     acts: &mut Acts,
@@ -36,7 +36,7 @@ pub(crate) fn send_plan(
     let mss = plan.as_fields().mss;
     let cells = segments(
         origin,
-        spares,
+        free_list,
         mss,
         plan.resent(),
         plan.first(),
@@ -46,7 +46,7 @@ pub(crate) fn send_plan(
     Ok(Decision::Send(Sending {
         cells,
         last: None,
-        alarm: Alarm::Retransmission,
+        timer: Timer::Retransmission,
         time: plan.as_fields().deadline,
     }))
 }
@@ -54,7 +54,7 @@ pub(crate) fn send_plan(
 // A row at which a packet arrives: the last segment of its plan takes that packet's cell.
 fn send_behind(
     origin: Origin,
-    spares: &mut Spares,
+    free_list: &mut FreeList,
     sender: &mut Sender,
     plan: &Plan,
     acts: &mut Acts,
@@ -66,12 +66,12 @@ fn send_behind(
     ensures acts { acts.new.acts ≡ acts.old.acts }
 {
     acts.reserve(plan.count() as usize + 1)?;
-    let (cells, last) = but_last(origin, spares, plan)?;
+    let (cells, last) = but_last(origin, free_list, plan)?;
     sender.commit_lent(plan);
     Ok(Decision::Send(Sending {
         cells,
         last,
-        alarm: Alarm::Retransmission,
+        timer: Timer::Retransmission,
         time: plan.as_fields().deadline,
     }))
 }
@@ -80,7 +80,7 @@ fn send_behind(
 #[inline(always)]
 pub(crate) fn send_for_ack(
     origin: Origin,
-    spares: &mut Spares,
+    free_list: &mut FreeList,
     sender: &mut Sender,
     number: u64,
     now: Time,
@@ -95,16 +95,16 @@ pub(crate) fn send_for_ack(
 {
     let Some(run) = sender.run_for(number) else {
         let plan = sender.on_ack(number, now);
-        return send_behind(origin, spares, sender, &plan, acts);
+        return send_behind(origin, free_list, sender, &plan, acts);
     };
     let mss = sender.as_fields().mss;
     acts.reserve(run.count as usize)?;
-    let (cells, last) = run_but_last(origin, spares, mss, run)?;
+    let (cells, last) = run_but_last(origin, free_list, mss, run)?;
     sender.take_run(number, now, run);
     Ok(Decision::Send(Sending {
         cells,
         last,
-        alarm: Alarm::Retransmission,
+        timer: Timer::Retransmission,
         time: sender.deadline(),
     }))
 }

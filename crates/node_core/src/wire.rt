@@ -9,8 +9,8 @@ ghost use Rattle.std.specs.Iterator.Runs.{YieldsInOrder};
 ghost use Rattle.std.specs.List.Sorted.{IsStrictlyIncreasing};
 ghost use Rattle.sim_time.specs.declared.key.Key.{Key};
 ghost use Rattle.packet_chain.specs.Stamped.{Stamped};
-ghost use Rattle.ranking.specs.Keyed.{least, next_key, apply, entering, EachKey};
-ghost use Rattle.ranking.specs.Timed.{time_of};
+ghost use Rattle.tournament.specs.Keyed.{least, next_key, apply, entering, EachKey};
+ghost use Rattle.tournament.specs.Timed.{time_of};
 ghost use Rattle.node_core.specs.WireState.{IsWire, arrivals, arrivals_on, pending_on, came_over, stamps_of, after_pop};
 
 use crate::event::Event;

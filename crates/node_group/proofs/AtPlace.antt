@@ -7,7 +7,7 @@ use Rattle.packet_chain.specs.Stamped.{Stamped}
 use Rattle.node_core.specs.TraceLine.{TraceLine}
 use Rattle.node_core.specs.Node.{NodeState, delivered, HasFired}
 use Rattle.net_machine.specs.Nodes.{no_node, node_at, IsPlaced}
-use Rattle.node_group.specs.Seats.{Seats, seated, taken, number_at}
+use Rattle.node_group.specs.Seats.{Seats, seated, taken_nodes, number_at}
 use Rattle.node_group.specs.Numbered.{seats_of, AreMembers}
 use Rattle.node_group.proofs.Seated.{seated_set, taken_set}
 use Rattle.node_group.proofs.AtSeats.{set_at, placed_fired, placed_come}
@@ -62,8 +62,8 @@ module _ (nodes : List NodeState) (index : List ℕ) (is : AreMembers nodes inde
     pub same_count : length (seated (seats_of new index)) ≡ length (seated now)
     same_count = ap (λ (s : Seats). length (seated s)) seats_new ∙ ap length (seated_set now number x) ∙ length-set (seated now) number x
 
-    pub same_seats : taken (seats_of new index) ≡ taken now
-    same_seats = ap taken seats_new ∙ taken_set now number x (node_at nodes at) taken_by
+    pub same_seats : taken_nodes (seats_of new index) ≡ taken_nodes now
+    same_seats = ap taken_nodes seats_new ∙ taken_set now number x (node_at nodes at) taken_by
 
     -- its members, where each node then sits at its number
     members_new : IsPlaced (set (seated (seats_of nodes index)) number x) → AreMembers new index

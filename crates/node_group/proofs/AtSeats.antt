@@ -1,8 +1,8 @@
 -- What a change at one seat does to all that are seated.
 use Rattle.std.proofs.Common.{◌≡◌, ℕ, ◌<◌, List, length, set, get_or, sym, ap, subst, ◌∙◌, Some, None, Option, arith}
 use Rattle.std.proofs.lemmas.List.{get_or-set_same}
-use Rattle.ranking.specs.Keyed.{next_key}
-use Rattle.ranking.proofs.Gathered.{next_empty}
+use Rattle.tournament.specs.Keyed.{next_key}
+use Rattle.tournament.proofs.Gathered.{next_empty}
 use Rattle.packet_chain.specs.Stamped.{Stamped}
 use Rattle.node_core.specs.declared.event.Event.{Event}
 use Rattle.node_core.specs.TraceLine.{TraceLine}

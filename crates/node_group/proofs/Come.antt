@@ -3,10 +3,10 @@ use Rattle.std.proofs.Common.{◌≡◌, ◌≢◌, ℕ, ◌+◌, ◌<◌, ◌�
 use Rattle.std.specs.List.Sorted.{IsStrictlyIncreasing}
 use Rattle.std.specs.List.{AllByRecursion}
 use Rattle.packet_chain.specs.Stamped.{Stamped}
-use Rattle.ranking.specs.Keyed.{apply, entering, EachKey}
-use Rattle.ranking.proofs.Maps.{each_apply}
-use Rattle.node_core.specs.Pending.{Change}
-use Rattle.node_core.specs.AgendaState.{incoming_at}
+use Rattle.tournament.specs.Keyed.{apply, entering, EachKey}
+use Rattle.tournament.proofs.Maps.{each_apply}
+use Rattle.node_core.specs.Pending.{EventChange}
+use Rattle.node_core.specs.EventQueueState.{incoming_at}
 use Rattle.node_core.specs.WireState.{arrivals, stamps_of}
 use Rattle.node_core.specs.Part.{PartState, link_at}
 use Rattle.node_core.specs.Node.{NodeState, delivered}
@@ -18,7 +18,7 @@ use Rattle.net_machine.specs.Wiring.{place_at}
 use Rattle.net_machine.proofs.AtNodes.{node_key}
 use Rattle.net_machine.proofs.Home.{come_pending}
 use Rattle.net_partition.specs.Partition.{group_in}
-use Rattle.node_group.specs.Seats.{Seats, seated, taken}
+use Rattle.node_group.specs.Seats.{Seats, seated, taken_nodes}
 use Rattle.node_group.specs.declared.area.Area.{Area}
 use Rattle.node_group.specs.Passing.{is_seated, CanPass, HasCome, HasPassed}
 use Rattle.node_group.specs.Group.{GroupValue, group_from, group_to, member, exit_at, came_in, IsGroup}
@@ -34,10 +34,10 @@ came_at links nodes link = (incoming_at (node_at nodes (place_at links link).nod
 abbrev pub AreCounted : List LinkEnds → List NodeState → Type 0
 AreCounted links nodes = (link : ℕ) → link < length links → EachKey (λ k. k.source ≡ link + 1 → k.number ≤ came_at links nodes link) (net_pending nodes)
 
-numbers : (node link before : ℕ) (q : List Stamped) → AllByRecursion (λ (c : Change). (c.0.source ≡ link + 1) × (c.0.number ≤ before + length q)) (entering (arrivals node link before q))
+numbers : (node link before : ℕ) (q : List Stamped) → AllByRecursion (λ (c : EventChange). (c.0.source ≡ link + 1) × (c.0.number ≤ before + length q)) (entering (arrivals node link before q))
 numbers node link before [] = tt
 numbers node link before (x ∷ q) =
-    ((refl, omega arith), all_map (λ (c : Change). (c.0.source ≡ link + 1) × (c.0.number ≤ before + 1 + length q)) (λ (c : Change). (c.0.source ≡ link + 1) × (c.0.number ≤ before + length (x ∷ q))) (λ c h. (h.0, let most = h.1 in omega (arith, most))) (entering (arrivals node link (before + 1) q)) (numbers node link (before + 1) q))
+    ((refl, omega arith), all_map (λ (c : EventChange). (c.0.source ≡ link + 1) × (c.0.number ≤ before + 1 + length q)) (λ (c : EventChange). (c.0.source ≡ link + 1) × (c.0.number ≤ before + length (x ∷ q))) (λ c h. (h.0, let most = h.1 in omega (arith, most))) (entering (arrivals node link (before + 1) q)) (numbers node link (before + 1) q))
 
 module _ (links : List LinkEnds) (nodes after : List NodeState) (placed : IsPlaced nodes) (link : ℕ) (packets : List Stamped) (inside : (place_at links link).node < length nodes) (within : (place_at links link).index < length (node_at nodes (place_at links link).node).incoming)
     (over : (incoming_at (node_at nodes (place_at links link).node).incoming (place_at links link).index).link ≡ link)
@@ -53,9 +53,9 @@ module _ (links : List LinkEnds) (nodes after : List NodeState) (placed : IsPlac
       ap net_pending come ∙ come_pending nodes placed node inside index packets (delivered (node_at nodes node) index packets) refl
       ∙ ap (λ n. apply (entering (arrivals node n (came_at links nodes link) packets)) (net_pending nodes)) over
 
-  counted_new : (other : ℕ) → AllByRecursion (λ (c : Change). c.0.source ≡ other + 1 → c.0.number ≤ came_at links after other) (entering (arrivals node link (came_at links nodes link) packets))
+  counted_new : (other : ℕ) → AllByRecursion (λ (c : EventChange). c.0.source ≡ other + 1 → c.0.number ≤ came_at links after other) (entering (arrivals node link (came_at links nodes link) packets))
   counted_new other =
-      all_map (λ (c : Change). (c.0.source ≡ link + 1) × (c.0.number ≤ came_at links nodes link + length packets)) (λ (c : Change). c.0.source ≡ other + 1 → c.0.number ≤ came_at links after other)
+      all_map (λ (c : EventChange). (c.0.source ≡ link + 1) × (c.0.number ≤ came_at links nodes link + length packets)) (λ (c : EventChange). c.0.source ≡ other + 1 → c.0.number ≤ came_at links after other)
       (λ c h source.
       let same : other ≡ link = (let a = h.0 in omega (arith, a, source)) in
       let here = ap (came_at links after) same ∙ coming_here nodes after node index packets inside within come in
@@ -71,7 +71,7 @@ module _ (links : List LinkEnds) (nodes after : List NodeState) (placed : IsPlac
 
 -- from another group
 module _ (g : GroupValue) (is : IsGroup g) (link : ℕ) (known : link < length g.links) (from_another : group_from g link ≢ g.number) (to_this : group_to g link ≡ g.number) (packets : List Stamped) (seats : Seats) (inside : (place_at g.links link).node < length (seated g.seats))
-    (come : seated seats ≡ set (seated g.seats) (place_at g.links link).node (delivered (member g (place_at g.links link).node) (place_at g.links link).index packets)) (placed : IsPlaced (seated seats)) (same_seats : taken seats ≡ taken g.seats) where
+    (come : seated seats ≡ set (seated g.seats) (place_at g.links link).node (delivered (member g (place_at g.links link).node) (place_at g.links link).index packets)) (placed : IsPlaced (seated seats)) (same_seats : taken_nodes seats ≡ taken_nodes g.seats) where
   abbrev within : (place_at g.links link).index < length (member g (place_at g.links link).node).incoming
   within = (is.entries_are link known to_this).within
 

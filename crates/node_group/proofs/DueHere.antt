@@ -10,7 +10,7 @@ use Rattle.node_core.specs.Ready.{IsRunnable}
 use Rattle.node_core.specs.Row.{Effect, Leaving, row}
 use Rattle.node_core.specs.Node.{NodeState}
 use Rattle.node_core.specs.TraceLine.{TraceLine}
-use Rattle.table_run.specs.State.{opening, part_at, due, effect_of}
+use Rattle.table_run.specs.State.{initial, part_at, due, effect_of}
 use Rattle.table_run.specs.Sound.{lines_at}
 use Rattle.table_run.specs.Laws.{ComesTo}
 use Rattle.table_run.proofs.Runs.{run_add, run_length}
@@ -36,13 +36,13 @@ module _ (g : GroupValue) (on : IsOnRun g) (k : Key) (v : Event) (is_due : due (
 
   -- the run up to it
   pub comes : ComesTo on.scenario (g.position + in_run.steps) (on.before ++ in_run.lines) in_run.state
-  comes = run_add (opening on.scenario) on.edge in_run.state g.position in_run.steps on.before in_run.lines on.is_group.in_run.comes in_run.is_run
+  comes = run_add (initial on.scenario) on.edge in_run.state g.position in_run.steps on.before in_run.lines on.is_group.in_run.comes in_run.is_run
 
   few : lines_at k.node (on.before ++ in_run.lines) ≤ g.position + length g.lines
   few =
       let both = lines_both k.node on.before in_run.lines in
       let most = count_by-le-length (λ (line : TraceLine). line.key.node == k.node) on.before in
-      let long = run_length g.position (opening on.scenario) on.edge on.before on.is_group.in_run.comes in
+      let long = run_length g.position (initial on.scenario) on.edge on.before on.is_group.in_run.comes in
       let fewer = fewer_lines (group_in g.entries) g.number k.node in_run.its_own in_run.lines in
       let mine = ap length in_run.lines_are in
       omega (arith, both, most, long, fewer, mine)

@@ -1,7 +1,7 @@
 -- How a firing of a group ends: nothing left the node, or a packet came to a node of the group, or it waits for another.
 use Rattle.std.proofs.Common.{◌≡◌, ℕ, Bool, true, false, List, [], ◌∷◌, ◌++◌, refl, sym, ap, subst, ◌∙◌, Some, None, Option}
 use Rattle.sim_time.specs.declared.key.Key.{Key}
-use Rattle.ranking.specs.Keyed.{least}
+use Rattle.tournament.specs.Keyed.{least}
 use Rattle.node_core.specs.declared.event.Event.{Event}
 use Rattle.node_core.specs.Row.{Leaving}
 use Rattle.node_core.specs.TraceLine.{TraceLine}
@@ -64,5 +64,5 @@ module _ {g : GroupValue} {end place : ℕ} (d : IsDueBelow end g place) where
     -- the group has fired, and the line is told behind the others
     pub has_fired : (lines : List TraceLine) → lines ≡ g.lines ++ line ∷ [] → IsFiring end g (record g { seats = new.members; held = new.exits; lines = lines })
     has_fired lines same =
-        subst (λ (all : List TraceLine). IsFiring end g (record g { seats = new.members; held = new.exits; lines = all })) (sym (same ∙ ap (λ (x : TraceLine). g.lines ++ x ∷ []) has.told))
+        subst (λ (all : List TraceLine). IsFiring end g (record g { seats = new.members; held = new.exits; lines = all })) (sym (same ∙ ap (λ (x : TraceLine). g.lines ++ x ∷ []) has.reported))
         (by_leaving (effect_at (seated g.seats) place line.key line.event).leaving refl)

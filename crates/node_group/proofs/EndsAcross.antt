@@ -4,9 +4,9 @@ use Rattle.std.proofs.lemmas.Bool.{cases_eq, eqb-false}
 use Rattle.std.proofs.lemmas.List.{get_or-set_same, get_or-set_other, length-set}
 use Rattle.std.proofs.Math.Seq.{map-set_same}
 use Rattle.sim_time.specs.declared.key.Key.{Key}
-use Rattle.ranking.specs.Keyed.{apply, entering}
-use Rattle.node_core.specs.Pending.{Change}
-use Rattle.node_core.specs.AgendaState.{Incoming, incoming_at}
+use Rattle.tournament.specs.Keyed.{apply, entering}
+use Rattle.node_core.specs.Pending.{EventChange}
+use Rattle.node_core.specs.EventQueueState.{Incoming, incoming_at}
 use Rattle.node_core.specs.Part.{LinkState, link_at}
 use Rattle.node_core.specs.declared.event.Event.{Event}
 use Rattle.node_core.specs.Row.{Leaving}
@@ -20,7 +20,7 @@ use Rattle.node_group.specs.Group.{GroupValue, bare, group_to, member, exit_at, 
 use Rattle.node_group.proofs.Made.{own_none, others_all}
 use Rattle.node_group.proofs.GroupKept.{IsBalanced, kept}
 use Rattle.node_group.proofs.Firing.{parts_ns, fires_by, on_run_new, one_firing}
-use Rattle.node_group.proofs.EventRun.{HasRun, next, ran, ns, told, placed, seats_stay, away, group, links_stay, count_stays, comes_same, came_same, counted, fits_more}
+use Rattle.node_group.proofs.EventRun.{HasRun, next, ran, ns, reported, placed, seats_stay, away, group, links_stay, count_stays, comes_same, came_same, counted, fits_more}
 use Rattle.node_group.proofs.SentOn.{IsSending, exit, link, its, sent_here, sent_else, packets, away_is, seat_there, apart, which}
 
 module _ {g : GroupValue} {end place : ℕ} {k : Key} {v : Event} {e : HasRun g end place k v} {l : Leaving} (s : IsSending e l) (off : is_seated (ran e) (place_at g.links (link s)).node ≡ false) (held : List WireState) (waits : Waits g.held held (link s) (packets s)) where
@@ -43,13 +43,13 @@ module _ {g : GroupValue} {end place : ℕ} {k : Key} {v : Event} {e : HasRun g 
   others_away_all = ap (others_of (group e) g.number) (away_is s) ∙ others_all (group e) g.number (entering (arrivals (place_at g.links (link s)).node (link s) (exit s).port.sent (packets s))) (other_group, tt)
 
   pending_same : net_pending (ns e) ≡ apply (own_of (group e) g.number (away e)) (net_pending (ns e))
-  pending_same = sym (ap (λ (cs : List Change). apply cs (net_pending (ns e))) own_away_none)
+  pending_same = sym (ap (λ (cs : List EventChange). apply cs (net_pending (ns e))) own_away_none)
 
   waits_more : held_on held ≡ apply (others_of (group e) g.number (away e)) (held_on g.held)
   waits_more =
       waits.pending
       ∙ (λ i. apply (entering (arrivals (e.is.ends_there (link s) (its s).known i) (link s) ((its s).across other_group i) (packets s))) (held_on g.held))
-      ∙ ap (λ (cs : List Change). apply cs (held_on g.held)) (sym others_away_all)
+      ∙ ap (λ (cs : List EventChange). apply cs (held_on g.held)) (sym others_away_all)
 
   wire_here : wire_at held (link s) ≡ longer
   wire_here = ap (λ (all : List WireState). wire_at all (link s)) waits.wires ∙ get_or-set_same g.held (link s) longer no_wire under_held
@@ -65,7 +65,7 @@ module _ {g : GroupValue} {end place : ℕ} {k : Key} {v : Event} {e : HasRun g 
       (λ (different : other ≢ (link s)). subst (P (wire_at g.held other)) (sym (wire_else other different)) (there (wire_at g.held other)))
       (cases_eq other (link s))
 
-  balanced_waits : (i j : ℕ) → j < length (member g i).part.links → IsBalanced g e.is (ran e) held (g.lines ++ told e ∷ []) i j
+  balanced_waits : (i j : ℕ) → j < length (member g i).part.links → IsBalanced g e.is (ran e) held (g.lines ++ reported e ∷ []) i j
   balanced_waits i j under =
       ⊎_elim
       (λ (this : (i ≡ place) × (j ≡ l.index)).
@@ -92,7 +92,7 @@ module _ {g : GroupValue} {end place : ℕ} {k : Key} {v : Event} {e : HasRun g 
   pub ends_across : IsFiring end g (next e (ran e) held)
   ends_across = record {
     fires = fires_by g e.is e.on end e.below place e.first k v e.here e.early (ran e) held (parts_ns g e.is e.on end e.below place e.first k v e.here e.early) pending_same waits_more end e.early;
-    is_group = kept g e.is (ran e) held (g.lines ++ told e ∷ []) record {
+    is_group = kept g e.is (ran e) held (g.lines ++ reported e ∷ []) record {
       same_seats = seats_stay e;
       placed = placed e;
       count = (count_stays e);

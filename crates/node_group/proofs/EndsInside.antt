@@ -3,9 +3,9 @@ use Rattle.std.proofs.Common.{◌≡◌, ◌≢◌, ℕ, ◌+◌, ◌<◌, true,
 use Rattle.std.proofs.lemmas.List.{length-set, map-set, set-get_or}
 use Rattle.std.proofs.Math.ListN.{get_or-map}
 use Rattle.sim_time.specs.declared.key.Key.{Key}
-use Rattle.ranking.specs.Keyed.{apply, entering}
-use Rattle.node_core.specs.Pending.{Change}
-use Rattle.node_core.specs.AgendaState.{Incoming, incoming_at}
+use Rattle.tournament.specs.Keyed.{apply, entering}
+use Rattle.node_core.specs.Pending.{EventChange}
+use Rattle.node_core.specs.EventQueueState.{Incoming, incoming_at}
 use Rattle.node_core.specs.Part.{LinkState, PartState, link_at}
 use Rattle.node_core.specs.declared.event.Event.{Event}
 use Rattle.node_core.specs.Row.{Leaving}
@@ -24,7 +24,7 @@ use Rattle.net_machine.proofs.AfterEvent.{same_part, coming_count, coming_link, 
 use Rattle.node_group.proofs.GroupKept.{same_entry, IsBalanced, kept}
 use Rattle.node_group.proofs.Come.{came_at, pending_come, counted_come, end_seated}
 use Rattle.node_group.proofs.Firing.{parts_ns, fires_by, on_run_new, one_firing}
-use Rattle.node_group.proofs.EventRun.{HasRun, effect, next, nodes, ran, ns, told, placed, seats_stay, others_stay, away, group, links_stay, count_stays, comes_same, came_same, counted, mine, fits_more}
+use Rattle.node_group.proofs.EventRun.{HasRun, effect, next, nodes, ran, ns, reported, placed, seats_stay, others_stay, away, group, links_stay, count_stays, comes_same, came_same, counted, mine, fits_more}
 use Rattle.node_group.proofs.SentOn.{IsSending, exit, link, its, same_there, sent_here, sent_else, packets, away_is, seat_there, apart, which}
 
 module _ {g : GroupValue} {end place : ℕ} {k : Key} {v : Event} {e : HasRun g end place k v} {l : Leaving} (s : IsSending e l) (here : is_seated (ran e) (place_at g.links (link s)).node ≡ true) (last : Seats) (come : HasCome g.links (ran e) last (link s) (packets s)) where
@@ -68,15 +68,15 @@ module _ {g : GroupValue} {end place : ℕ} {k : Key} {v : Event} {e : HasRun g 
   pending_last =
       pending_come g.links (ns e) (seated last) (placed e) (link s) (packets s) inside_ns within_ns over_ns come.nodes
       ∙ ap (λ n. apply (entering (arrivals (place_at g.links (link s)).node (link s) n (packets s))) (net_pending (ns e))) ((came_same e) (link s) ∙ (its s).inside own)
-      ∙ ap (λ (cs : List Change). apply cs (net_pending (ns e))) (sym own_away)
+      ∙ ap (λ (cs : List EventChange). apply cs (net_pending (ns e))) (sym own_away)
 
   waits_same : held_on g.held ≡ apply (others_of (group e) g.number (away e)) (held_on g.held)
-  waits_same = sym (ap (λ (cs : List Change). apply cs (held_on g.held)) others_away)
+  waits_same = sym (ap (λ (cs : List EventChange). apply cs (held_on g.held)) others_away)
 
   sent_last : (i j : ℕ) → (link_at (node_at (seated last) i).part.links j).port.sent ≡ (link_at (node_at (ns e) i).part.links j).port.sent
   sent_last i j = ap (λ (p : PartState). (link_at p.links j).port.sent) (part_stays i)
 
-  balanced_last : (i j : ℕ) → j < length (member g i).part.links → IsBalanced g e.is last g.held (g.lines ++ told e ∷ []) i j
+  balanced_last : (i j : ℕ) → j < length (member g i).part.links → IsBalanced g e.is last g.held (g.lines ++ reported e ∷ []) i j
   balanced_last i j under =
       ⊎_elim
       (λ (this : (i ≡ place) × (j ≡ l.index)).
@@ -99,7 +99,7 @@ module _ {g : GroupValue} {end place : ℕ} {k : Key} {v : Event} {e : HasRun g 
   pub ends_inside : IsFiring end g (next e last g.held)
   ends_inside = record {
     fires = fires_by g e.is e.on end e.below place e.first k v e.here e.early last g.held parts_last pending_last waits_same end e.early;
-    is_group = kept g e.is last g.held (g.lines ++ told e ∷ []) record {
+    is_group = kept g e.is last g.held (g.lines ++ reported e ∷ []) record {
       same_seats = come.same_seats ∙ seats_stay e;
       placed = come.placed;
       count = λ i. ap (λ (p : PartState). length p.links) (part_stays i) ∙ (count_stays e) i;

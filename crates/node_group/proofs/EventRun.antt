@@ -1,11 +1,11 @@
 -- An event of a group: what it leaves as it was, and how it ends where nothing leaves the node.
 use Rattle.std.proofs.Common.{◌≡◌, ◌≢◌, ℕ, ◌+◌, ◌<◌, ◌≤◌, List, [], ◌∷◌, ◌++◌, length, set, refl, sym, ap, subst, ◌∙◌, Some, None, Option, arith, length-append}
 use Rattle.sim_time.specs.declared.key.Key.{Key}
-use Rattle.ranking.specs.Keyed.{apply, least}
-use Rattle.ranking.proofs.Maps.{not_some}
+use Rattle.tournament.specs.Keyed.{apply, least}
+use Rattle.tournament.proofs.Maps.{not_some}
 use Rattle.node_core.specs.declared.event.Event.{Event}
-use Rattle.node_core.specs.Pending.{Change}
-use Rattle.node_core.specs.AgendaState.{Incoming, incoming_at}
+use Rattle.node_core.specs.Pending.{EventChange}
+use Rattle.node_core.specs.EventQueueState.{Incoming, incoming_at}
 use Rattle.node_core.specs.Part.{link_at}
 use Rattle.node_core.specs.Row.{Leaving, sent_away}
 use Rattle.node_core.specs.TraceLine.{TraceLine}
@@ -17,7 +17,7 @@ use Rattle.net_machine.specs.Wiring.{place_at}
 use Rattle.net_machine.specs.Region.{node_after}
 use Rattle.node_group.proofs.Seated.{seated_set}
 use Rattle.net_partition.specs.Partition.{group_in}
-use Rattle.node_group.specs.Seats.{Seats, seated, taken}
+use Rattle.node_group.specs.Seats.{Seats, seated, taken_nodes}
 use Rattle.node_group.specs.Held.{held_on}
 use Rattle.window_law.specs.Groups.{own_of, others_of}
 use Rattle.node_group.specs.Group.{GroupValue, member, exit_at, came_in, IsGroup, IsOnRun, IsFiring}
@@ -66,13 +66,13 @@ module _ {g : GroupValue} {end place : ℕ} {k : Key} {v : Event} (e : HasRun g 
   abbrev pub after : NodeState
   after = node_after nodes place k v
 
-  abbrev pub told : TraceLine
-  told = line g e.is e.on end e.below place e.first k v e.here e.early
+  abbrev pub reported : TraceLine
+  reported = line g e.is e.on end e.below place e.first k v e.here e.early
 
   pub placed : IsPlaced ns
   placed = placed_ns g e.is e.on end e.below place e.first k v e.here e.early
 
-  pub seats_stay : taken ran ≡ taken g.seats
+  pub seats_stay : taken_nodes ran ≡ taken_nodes g.seats
   seats_stay = same_seats g e.is e.on end e.below place e.first k v e.here e.early
 
   pub others_stay : ns ≡ set nodes place (node_at ns place)
@@ -81,7 +81,7 @@ module _ {g : GroupValue} {end place : ℕ} {k : Key} {v : Event} (e : HasRun g 
   abbrev pub left : Option Leaving
   left = effect.leaving
 
-  abbrev pub away : List Change
+  abbrev pub away : List EventChange
   away = sent_away effect.part.links left
 
   abbrev pub group : ℕ → ℕ
@@ -108,8 +108,8 @@ module _ {g : GroupValue} {end place : ℕ} {k : Key} {v : Event} (e : HasRun g 
   pub mine : group place ≡ g.number
   mine = own_place g e.is e.on end e.below place e.first k v e.here e.early
 
-  pub fits_more : g.position + length (g.lines ++ told ∷ []) ≤ 1000000000000000
-  fits_more = let more = length-append g.lines (told ∷ []) in omega (arith, e.fits, more)
+  pub fits_more : g.position + length (g.lines ++ reported ∷ []) ≤ 1000000000000000
+  fits_more = let more = length-append g.lines (reported ∷ []) in omega (arith, e.fits, more)
 
   -- NOTHING LEFT
 
@@ -125,12 +125,12 @@ module _ {g : GroupValue} {end place : ℕ} {k : Key} {v : Event} (e : HasRun g 
 
     pub ends_quiet : IsFiring end g (next ran g.held)
     ends_quiet =
-        let pending : net_pending ns ≡ apply (own_of group g.number away) (net_pending ns) = sym (ap (λ (cs : List Change). apply cs (net_pending ns)) none_away) in
-        let waits : held_on g.held ≡ apply (others_of group g.number away) (held_on g.held) = sym (ap (λ (cs : List Change). apply cs (held_on g.held)) none_others) in
+        let pending : net_pending ns ≡ apply (own_of group g.number away) (net_pending ns) = sym (ap (λ (cs : List EventChange). apply cs (net_pending ns)) none_away) in
+        let waits : held_on g.held ≡ apply (others_of group g.number away) (held_on g.held) = sym (ap (λ (cs : List EventChange). apply cs (held_on g.held)) none_others) in
         let parts = parts_ns g e.is e.on end e.below place e.first k v e.here e.early in
         record {
           fires = fires_by g e.is e.on end e.below place e.first k v e.here e.early ran g.held parts pending waits end e.early;
-          is_group = kept g e.is ran g.held (g.lines ++ told ∷ []) record {
+          is_group = kept g e.is ran g.held (g.lines ++ reported ∷ []) record {
             same_seats = seats_stay;
             placed = placed;
             count = count_stays;

@@ -11,10 +11,10 @@ use Rattle.scenario_image.specs.declared.parts.ScenarioParts.{ScenarioParts}
 use Rattle.scenario_image.specs.declared.parts.LinkPart.{LinkPart}
 use Rattle.scenario_image.specs.Scenario.{IsScenario}
 use Rattle.scenario_image.proofs.Courses.{all_at}
-use Rattle.ranking.specs.Keyed.{apply, changed, least, EachKey}
-use Rattle.ranking.proofs.Maps.{not_some, each_apply, least_is}
+use Rattle.tournament.specs.Keyed.{apply, changed, least, EachKey}
+use Rattle.tournament.proofs.Maps.{not_some, each_apply, least_is}
 use Rattle.node_core.specs.declared.event.Event.{Event}
-use Rattle.node_core.specs.Pending.{Events, Change}
+use Rattle.node_core.specs.Pending.{Events, EventChange}
 use Rattle.node_core.specs.Part.{PartState}
 use Rattle.node_core.specs.Row.{Effect, Leaving, row, home_changes, sent_away, changes_of}
 use Rattle.node_core.specs.Ready.{IsRunnable}
@@ -31,9 +31,9 @@ use Rattle.net_machine.specs.Region.{effect_at, node_after}
 use Rattle.net_machine.proofs.AtNodes.{node_key}
 use Rattle.net_machine.proofs.Home.{its_node, fired_placed, fired_pending}
 use Rattle.net_partition.specs.Partition.{group_in}
-use Rattle.node_group.specs.Seats.{Seats, seated, taken}
+use Rattle.node_group.specs.Seats.{Seats, seated, taken_nodes}
 use Rattle.node_group.specs.Held.{held_on}
-use Rattle.window_law.specs.Groups.{GroupState, group_at, own_of, others_of, up_to, fire, fire_on, fired}
+use Rattle.window_law.specs.Groups.{GroupState, group_at, own_of, others_of, up_to, fire, fire_on, group_fired}
 use Rattle.window_law.specs.Windows.{setting_of}
 use Rattle.window_law.specs.Calls.{IsOpenFrom}
 use Rattle.node_group.specs.Group.{GroupValue, state_of, member, IsGroup, IsOnRun}
@@ -46,20 +46,20 @@ use Rattle.node_group.proofs.Come.{came_at, AreCounted}
 use Rattle.node_group.proofs.Seated.{length-seated, seated_set, taken_set, is_seated}
 use Rattle.node_group.proofs.AtSeats.{with_event, set_at, set_others}
 
-pub apply_both : (cs ds : List Change) (m : Events) → apply (cs ++ ds) m ≡ apply ds (apply cs m)
+pub apply_both : (cs ds : List EventChange) (m : Events) → apply (cs ++ ds) m ≡ apply ds (apply cs m)
 apply_both [] ds m = refl
 apply_both (c ∷ cs) ds m = apply_both cs ds (changed m c.0 c.1)
 
--- of what an event makes, what is at its own node are alarms
-alarms : (p : ScenarioParts) → IsScenario p → (k : Key) (cs : List Change) → AllByRecursion (IsMadeAt p k) cs → AllByRecursion (λ (c : Change). c.0.node ≡ k.node) cs → AllByRecursion (λ (c : Change). c.0.source ≡ 0) cs
-alarms p is_scenario k [] made here = tt
-alarms p is_scenario k (c ∷ cs) made here = (
+-- of what an event makes, what is at its own node are timers
+timers : (p : ScenarioParts) → IsScenario p → (k : Key) (cs : List EventChange) → AllByRecursion (IsMadeAt p k) cs → AllByRecursion (λ (c : EventChange). c.0.node ≡ k.node) cs → AllByRecursion (λ (c : EventChange). c.0.source ≡ 0) cs
+timers p is_scenario k [] made here = tt
+timers p is_scenario k (c ∷ cs) made here = (
   ⊎_elim
-      (λ (alarm : (c.0.node ≡ k.node) × (c.0.source ≡ 0)). alarm.1)
+      (λ (timer : (c.0.node ≡ k.node) × (c.0.source ≡ 0)). timer.1)
       (λ (over : ComesOver p k.node k.time c.0).
       absurd (all_at (λ (l : LinkPart). l.from ≢ l.to) p.links over.number over.link is_scenario.kinds.each_link over.its_link (over.leaves ∙ sym here.0 ∙ sym over.ends)))
       made.0,
-  alarms p is_scenario k cs made.1 here.1,
+  timers p is_scenario k cs made.1 here.1,
 )
 
 module _ (g : GroupValue) (is : IsGroup g) (on : IsOnRun g) (end : ℕ) (below : end ≤ g.until) (place : ℕ) (first : IsFirst (seated g.seats) place) where
@@ -88,13 +88,13 @@ module _ (g : GroupValue) (is : IsGroup g) (on : IsOnRun g) (end : ℕ) (below :
     pub part_here : part_at (in_run g on k v is_due).state k.node ≡ (member g place).part
     part_here = part_links g on k v is_due ∙ ap (λ n. (member g n).part) node_is
 
-    -- what is made at home are alarms
-    alarms_here : AllByRecursion (λ (c : Change). c.0.source ≡ 0) (home_changes k.node (row (member g place).part k v))
-    alarms_here =
+    -- what is made at home are timers
+    timers_here : AllByRecursion (λ (c : EventChange). c.0.source ≡ 0) (home_changes k.node (row (member g place).part k v))
+    timers_here =
         let r = in_run g on k v is_due in
         let effect : effect_of r.state (k, v) ≡ row (member g place).part k v = effect_is g on k v is_due ∙ ap (λ n. row (member g n).part k v) node_is in
         let made = effects_are_local on.scenario (g.position + r.steps) (on.before ++ r.lines) r.state on.is_group.in_run.is_scenario (comes g on k v is_due) k v r.is_due in
-        alarms on.scenario on.is_group.in_run.is_scenario k (home_changes k.node (row (member g place).part k v))
+        timers on.scenario on.is_group.in_run.is_scenario k (home_changes k.node (row (member g place).part k v))
         (all_left (IsMadeAt on.scenario k) (home_changes k.node (row (member g place).part k v)) (sent_away (row (member g place).part k v).part.links (row (member g place).part k v).leaving)
         (subst (λ (e : Effect). AllByRecursion (IsMadeAt on.scenario k) (changes_of k.node e)) effect made))
         (home_at (member g place).part k v)
@@ -124,7 +124,7 @@ module _ (g : GroupValue) (is : IsGroup g) (on : IsOnRun g) (end : ℕ) (below :
     pub placed_ns : IsPlaced (seated seats)
     placed_ns = subst IsPlaced (sym (seated_set g.seats place node)) (fired_placed (seated g.seats) is.placed place first.within k v here node refl)
 
-    pub same_seats : taken seats ≡ taken g.seats
+    pub same_seats : taken_nodes seats ≡ taken_nodes g.seats
     same_seats = taken_set g.seats place node (there.0) there.1.0
       where
         there : (x : NodeState) × ((get_or g.seats place None ≡ Some x) × (node_at (seated g.seats) place ≡ x))
@@ -140,7 +140,7 @@ module _ (g : GroupValue) (is : IsGroup g) (on : IsOnRun g) (end : ℕ) (below :
     coming_ns = same_coming (seated g.seats) (seated seats) place first.within node (seated_set g.seats place node) refl eff.leaving stay_here
 
     pub came_ns : (link : ℕ) → came_at g.links (seated seats) link ≡ came_at g.links (seated g.seats) link
-    came_ns link = ap (λ (all : List Rattle.node_core.specs.AgendaState.Incoming). (Rattle.node_core.specs.AgendaState.incoming_at all (Rattle.net_machine.specs.Wiring.place_at g.links link).index).came) (coming_ns (Rattle.net_machine.specs.Wiring.place_at g.links link).node)
+    came_ns link = ap (λ (all : List Rattle.node_core.specs.EventQueueState.Incoming). (Rattle.node_core.specs.EventQueueState.incoming_at all (Rattle.net_machine.specs.Wiring.place_at g.links link).index).came) (coming_ns (Rattle.net_machine.specs.Wiring.place_at g.links link).node)
 
     pub counted_ns : AreCounted g.links (seated seats)
     counted_ns link under =
@@ -148,7 +148,7 @@ module _ (g : GroupValue) (is : IsGroup g) (on : IsOnRun g) (end : ℕ) (below :
         (subst (λ n. EachKey (λ k. k.source ≡ link + 1 → k.number ≤ n) (apply (home_changes k.node eff) (fin.remove (net_pending (seated g.seats)) k))) (sym (came_ns link))
         (each_apply (λ k. k.source ≡ link + 1 → k.number ≤ came_at g.links (seated g.seats) link) ((k, None) ∷ home_changes k.node eff) (net_pending (seated g.seats)) (
           is.counted link under k v (node_key (seated g.seats) is.placed place k v (least_is (member g place).pending k v here).pending),
-          all_map (λ (c : Change). c.0.source ≡ 0) (λ (c : Change). c.0.source ≡ link + 1 → c.0.number ≤ came_at g.links (seated g.seats) link) (λ c alarm source. absurd (let no : ⊥ = omega (arith, alarm, source) in no)) (home_changes k.node eff) (alarms_here),
+          all_map (λ (c : EventChange). c.0.source ≡ 0) (λ (c : EventChange). c.0.source ≡ link + 1 → c.0.number ≤ came_at g.links (seated g.seats) link) (λ c timer source. absurd (let no : ⊥ = omega (arith, timer, source) in no)) (home_changes k.node eff) (timers_here),
         )
         (is.counted link under)))
 
@@ -159,36 +159,36 @@ module _ (g : GroupValue) (is : IsGroup g) (on : IsOnRun g) (end : ℕ) (below :
 
       module _ (parts : parts_of (seated last) ≡ set (parts_of (seated g.seats)) k.node eff.part) (pending : net_pending (seated last) ≡ apply (own_of (group_in g.entries) g.number (sent_away eff.part.links eff.leaving)) (net_pending (seated seats)))
           (waits : held_on held ≡ apply (others_of (group_in g.entries) g.number (sent_away eff.part.links eff.leaving)) (held_on g.held)) where
-        home_own : AllByRecursion (λ (c : Change). group_in g.entries c.0.node ≡ g.number) (home_changes k.node eff)
-        home_own = all_map (λ (c : Change). c.0.node ≡ k.node) (λ (c : Change). group_in g.entries c.0.node ≡ g.number)
+        home_own : AllByRecursion (λ (c : EventChange). group_in g.entries c.0.node ≡ g.number) (home_changes k.node eff)
+        home_own = all_map (λ (c : EventChange). c.0.node ≡ k.node) (λ (c : EventChange). group_in g.entries c.0.node ≡ g.number)
             (λ c at. ap (group_in g.entries) (at ∙ node_is) ∙ own_place) (home_changes k.node eff) (home_at (member g place).part k v)
 
         mine : own_of (group_in g.entries) g.number (changes_of k.node eff) ≡ home_changes k.node eff ++ own_of (group_in g.entries) g.number (sent_away eff.part.links eff.leaving)
         mine = own_both (group_in g.entries) g.number (home_changes k.node eff) (sent_away eff.part.links eff.leaving)
-            ∙ ap (λ (cs : List Change). cs ++ own_of (group_in g.entries) g.number (sent_away eff.part.links eff.leaving)) (own_all (group_in g.entries) g.number (home_changes k.node eff) home_own)
+            ∙ ap (λ (cs : List EventChange). cs ++ own_of (group_in g.entries) g.number (sent_away eff.part.links eff.leaving)) (own_all (group_in g.entries) g.number (home_changes k.node eff) home_own)
 
         theirs : others_of (group_in g.entries) g.number (changes_of k.node eff) ≡ others_of (group_in g.entries) g.number (sent_away eff.part.links eff.leaving)
         theirs = others_both (group_in g.entries) g.number (home_changes k.node eff) (sent_away eff.part.links eff.leaving)
-            ∙ ap (λ (cs : List Change). cs ++ others_of (group_in g.entries) g.number (sent_away eff.part.links eff.leaving)) (others_none (group_in g.entries) g.number (home_changes k.node eff) home_own)
+            ∙ ap (λ (cs : List EventChange). cs ++ others_of (group_in g.entries) g.number (sent_away eff.part.links eff.leaving)) (others_none (group_in g.entries) g.number (home_changes k.node eff) home_own)
 
         pending_all : apply (own_of (group_in g.entries) g.number (changes_of k.node eff)) (fin.remove (net_pending (seated g.seats)) k) ≡ net_pending (seated last)
         pending_all =
-            ap (λ (cs : List Change). apply cs (fin.remove (net_pending (seated g.seats)) k)) mine
+            ap (λ (cs : List EventChange). apply cs (fin.remove (net_pending (seated g.seats)) k)) mine
             ∙ apply_both (home_changes k.node eff) (own_of (group_in g.entries) g.number (sent_away eff.part.links eff.leaving)) (fin.remove (net_pending (seated g.seats)) k)
             ∙ ap (apply (own_of (group_in g.entries) g.number (sent_away eff.part.links eff.leaving))) (sym pending_ns)
             ∙ sym pending
 
         held_all : apply (others_of (group_in g.entries) g.number (changes_of k.node eff)) (held_on g.held) ≡ held_on held
-        held_all = ap (λ (cs : List Change). apply cs (held_on g.held)) theirs ∙ sym waits
+        held_all = ap (λ (cs : List EventChange). apply cs (held_on g.held)) theirs ∙ sym waits
 
         effect_here : (moment : ℕ) → effect_of (up_to moment (state_of g)) (k, v) ≡ eff
         effect_here moment = ap (λ (p : PartState). row p k v) (get_or-map (λ (n : NodeState). n.part) (seated g.seats) k.node no_node ∙ ap (λ n. (member g n).part) (node_is))
 
-        fired_is : fired (group_in g.entries) g.number (state_of g) (k, v) eff ≡ state_of new
+        fired_is : group_fired (group_in g.entries) g.number (state_of g) (k, v) eff ≡ state_of new
         fired_is = λ i. record { parts = sym parts i; pending = pending_all i; held = held_all i; lines = g.lines ++ line ∷ [] }
 
         fire_on_is : (moment : ℕ) → fire_on (group_in g.entries) g.number moment (state_of g) (k, v) ≡ state_of new
-        fire_on_is moment = ap (fired (group_in g.entries) g.number (state_of g) (k, v)) (effect_here moment) ∙ fired_is
+        fire_on_is moment = ap (group_fired (group_in g.entries) g.number (state_of g) (k, v)) (effect_here moment) ∙ fired_is
 
         pub fires_by : (moment : ℕ) → k.time < moment → fire (group_in g.entries) g.number moment (state_of g) ≡ Some (state_of new)
         fires_by moment l = ap (option_map (fire_on (group_in g.entries) g.number moment (state_of g))) (due_by moment l) ∙ ap (λ (s : GroupState). Some s) (fire_on_is moment)

@@ -2,7 +2,7 @@
 use Rattle.std.proofs.Common.{◌≡◌, ◌≢◌, ℕ, ◌+◌, ◌<◌, ◌≤◌, ◌==◌, Bool, true, List, length, get_or, refl, sym, ap, subst, ◌∙◌, Some, None, Option, is_some, ⊎_elim, arith, eqb-true}
 use Rattle.std.proofs.lemmas.Bool.{cases_lt}
 use Rattle.std.proofs.lemmas.List.{length-map, get_or_past, get_or-map}
-use Rattle.ranking.specs.Keyed.{EachKey}
+use Rattle.tournament.specs.Keyed.{EachKey}
 use Rattle.node_core.specs.Node.{NodeState}
 use Rattle.node_core.specs.TraceLine.{TraceLine}
 use Rattle.node_core.specs.WireState.{WireState, came_over}
@@ -10,7 +10,7 @@ use Rattle.net_machine.specs.Nodes.{no_node, net_pending, IsPlaced}
 use Rattle.net_machine.specs.Wiring.{ends_at, place_at}
 use Rattle.table_run.proofs.Ready.{IsSameLink}
 use Rattle.net_partition.specs.Partition.{group_in}
-use Rattle.node_group.specs.Seats.{Seats, seated, taken}
+use Rattle.node_group.specs.Seats.{Seats, seated, taken_nodes}
 use Rattle.node_group.specs.Held.{wire_at, AreByLink}
 use Rattle.node_group.specs.Group.{GroupValue, group_to, member, exit_at, came_in, IsOwnEntry, IsGroup}
 use Rattle.node_group.proofs.Seated.{length-seated}
@@ -54,7 +54,7 @@ module _ (g : GroupValue) (is : IsGroup g) where
   pub same_entry : (a b : ℕ) → a < length g.links → b < length g.links → group_to g a ≡ g.number → group_to g b ≡ g.number → (place_at g.links a).node ≡ (place_at g.links b).node → (place_at g.links a).index ≡ (place_at g.links b).index → a ≡ b
   same_entry a b under_a under_b own_a own_b node index =
       sym (is.entries_are a under_a own_a).over
-      ∙ (λ i. (Rattle.node_core.specs.AgendaState.incoming_at (member g (node i)).incoming (index i)).link)
+      ∙ (λ i. (Rattle.node_core.specs.EventQueueState.incoming_at (member g (node i)).incoming (index i)).link)
       ∙ (is.entries_are b under_b own_b).over
 
   module _ (seats : Seats) (held : List WireState) (lines : List TraceLine) where
@@ -67,7 +67,7 @@ module _ (g : GroupValue) (is : IsGroup g) where
       pub across : group_to g (exit_at g node index).port.link ≢ g.number → came_over (wire_at held (exit_at g node index).port.link) ≡ (exit_at new node index).port.sent
 
     pub record AreKept : Type 0 where
-      pub same_seats : taken seats ≡ taken g.seats
+      pub same_seats : taken_nodes seats ≡ taken_nodes g.seats
       pub placed : IsPlaced (seated seats)
       pub count : (node : ℕ) → length (member new node).part.links ≡ length (member g node).part.links
       pub same : (node index : ℕ) → IsSameLink (exit_at g node index) (exit_at new node index)

@@ -6,12 +6,12 @@ use Rattle.std.specs.FinMap.{get, get-empty}
 use Rattle.std.specs.List.{AllByRecursion}
 use Rattle.sim_time.specs.declared.key.Key.{Key}
 use Rattle.packet_chain.specs.Stamped.{Stamped}
-use Rattle.ranking.specs.Keyed.{apply, entering, nothing_due, EachKey}
-use Rattle.ranking.specs.Gathered.{gathered, map_at, AtHome}
-use Rattle.ranking.proofs.Gathered.{gathered-apply}
-use Rattle.ranking.proofs.Maps.{not_some}
+use Rattle.tournament.specs.Keyed.{apply, entering, nothing_due, EachKey}
+use Rattle.tournament.specs.Gathered.{gathered, map_at, AtHome}
+use Rattle.tournament.proofs.Gathered.{gathered-apply}
+use Rattle.tournament.proofs.Maps.{not_some}
 use Rattle.node_core.specs.declared.event.Event.{Event}
-use Rattle.node_core.specs.Pending.{Events, Change}
+use Rattle.node_core.specs.Pending.{Events, EventChange}
 use Rattle.node_core.specs.WireState.{WireState, arrivals, pending_on, came_over}
 use Rattle.node_core.proofs.Wires.{each_on, entering_sources}
 use Rattle.table_run.proofs.Lists.{all_map}
@@ -41,11 +41,11 @@ module _ (wires : List WireState) (by_link : AreByLink wires) where
   -- packets join what is held back of a link
   module _ (link : ℕ) (within : link < length wires) (sent : List Stamped) (new : WireState)
       (change : pending_on new ≡ apply (entering (arrivals (wire_at wires link).node (wire_at wires link).link (came_over (wire_at wires link)) sent)) (pending_on (wire_at wires link))) where
-    abbrev cs : List Change
+    abbrev cs : List EventChange
     cs = entering (arrivals (wire_at wires link).node link (came_over (wire_at wires link)) sent)
 
-    over_it : AllByRecursion (λ (c : Change). over_link c.0 ≡ link) cs
-    over_it = all_map (λ (c : Change). c.0.source ≡ link + 1) (λ (c : Change). over_link c.0 ≡ link) (λ c source. omega (arith, source)) cs (entering_sources (wire_at wires link).node link (came_over (wire_at wires link)) sent)
+    over_it : AllByRecursion (λ (c : EventChange). over_link c.0 ≡ link) cs
+    over_it = all_map (λ (c : EventChange). c.0.source ≡ link + 1) (λ (c : EventChange). over_link c.0 ≡ link) (λ c source. omega (arith, source)) cs (entering_sources (wire_at wires link).node link (came_over (wire_at wires link)) sent)
 
     changed_here : pending_on new ≡ apply cs (map_at (map pending_on wires) link)
     changed_here = change ∙ ap (λ number. apply (entering (arrivals (wire_at wires link).node number (came_over (wire_at wires link)) sent)) (pending_on (wire_at wires link))) (by_link link within)

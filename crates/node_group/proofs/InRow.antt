@@ -5,13 +5,13 @@ use Rattle.std.proofs.lemmas.List.{get_or_read}
 use Rattle.std.proofs.lemmas.Option.{slice_get-get_or, slice_get_past}
 use Rattle.std.specs.Option.{MatchOption, option_map}
 use Rattle.sim_time.specs.declared.key.Key.{Key}
-use Rattle.ranking.specs.Leading.{rank_at}
-use Rattle.ranking.specs.Keyed.{least, next_key}
-use Rattle.ranking.specs.Timed.{time_of}
+use Rattle.tournament.specs.Leading.{rank_at}
+use Rattle.tournament.specs.Keyed.{least, next_key}
+use Rattle.tournament.specs.Timed.{time_of}
 use Rattle.node_core.specs.declared.event.Event.{Event}
 use Rattle.node_core.specs.Node.{NodeState}
 use Rattle.net_machine.specs.Nodes.{no_node, node_at, next_keys, net_pending, IsFirst, LeadsAt}
-use Rattle.node_group.specs.Seats.{Seats, seated, taken, nth_taken, number_at}
+use Rattle.node_group.specs.Seats.{Seats, seated, taken_nodes, nth_taken, number_at}
 use Rattle.node_group.specs.Numbered.{seats_of, AreMembers}
 use Rattle.node_group.proofs.Numbered.{many, seat_at, number_among, number_in, first_within, first_member, first_time_of, none_pending}
 
@@ -94,7 +94,7 @@ module _ (nodes : List NodeState) (index : List ℕ) (is : AreMembers nodes inde
     past_all : count ≤ past + off → n + nth_taken bits off ≡ length index
 
   abbrev bits_of : List ℕ → List Bool
-  bits_of rest = taken (seats_of nodes rest)
+  bits_of rest = taken_nodes (seats_of nodes rest)
 
   -- a seat that is not taken, and one that is
   free : (n past off : ℕ) (bits : List Bool) → Stands (n + 1) past off bits → Stands n past off (false ∷ bits)

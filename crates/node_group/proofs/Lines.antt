@@ -4,9 +4,9 @@ use Rattle.std.specs.Option.{option_map}
 use Rattle.std.specs.Result.{OnOk, is_err}
 use Rattle.std.proofs.lemmas.List.{length-map, length-take-le, map-append, take_more_set, take-set}
 use Rattle.sim_time.specs.declared.key.Key.{Key}
-use Rattle.ranking.specs.Keyed.{next_key}
-use Rattle.ranking.specs.Timed.{time_of}
-use Rattle.ranking.proofs.Maps.{not_some, same_some}
+use Rattle.tournament.specs.Keyed.{next_key}
+use Rattle.tournament.specs.Timed.{time_of}
+use Rattle.tournament.proofs.Maps.{not_some, same_some}
 use Rattle.node_core.specs.declared.event.Event.{Event}
 use Rattle.node_core.specs.declared.line.Line.{Line}
 use Rattle.node_core.specs.TraceLine.{shown}
@@ -19,16 +19,16 @@ use Rattle.node_group.specs.Passing.{nodes_of, with_node, HasPassed}
 use Rattle.node_group.specs.ShareOf.{group_of, IsShare}
 use Rattle.node_group.proofs.Endings.{has_fired}
 
-pub told_count : (lines : List Line) (count : ℕ) → count ≤ length lines → length (map shown (take count lines)) ≡ count
-told_count lines count within = length-map (take count lines) shown ∙ length-take-le count lines within
+pub reported_count : (lines : List Line) (count : ℕ) → count ≤ length lines → length (map shown (take count lines)) ≡ count
+reported_count lines count within = length-map (take count lines) shown ∙ length-take-le count lines within
 
 -- one line more
-pub told_more : (old lines : List Line) (count : ℕ) (line : Line) → count < length lines → take count lines ≡ take count old → map shown (take (count + 1) (set lines count line)) ≡ map shown (take count old) ++ shown line ∷ []
-told_more old lines count line within kept =
+pub reported_more : (old lines : List Line) (count : ℕ) (line : Line) → count < length lines → take count lines ≡ take count old → map shown (take (count + 1) (set lines count line)) ≡ map shown (take count old) ++ shown line ∷ []
+reported_more old lines count line within kept =
     ap (map shown) (take_more_set lines count line within ∙ ap (λ (all : List Line). all ++ line ∷ []) kept) ∙ map-append shown (take count old) (line ∷ [])
 
-pub told_same : (old lines : List Line) (count : ℕ) (line : Line) → take count lines ≡ take count old → map shown (take count (set lines count line)) ≡ map shown (take count old)
-told_same old lines count line kept = ap (map shown) (take-set lines count line ∙ kept)
+pub reported_same : (old lines : List Line) (count : ℕ) (line : Line) → take count lines ≡ take count old → map shown (take count (set lines count line)) ≡ map shown (take count old)
+reported_same old lines count line kept = ap (map shown) (take-set lines count line ∙ kept)
 
 -- a group after no firing
 pub no_firing : (end : ℕ) (g : GroupValue) → AfterFirings end g g
@@ -42,18 +42,18 @@ on_ok (Err x) h e = absurd (true≢false e)
 -- a share's group has fired: with a line more among those that there is memory for
 pub has_fired_into : (s : Inside) (end place : ℕ) → s.count ≤ length s.lines.items → IsDueBelow end (group_of s) place → (made : List Line) → s.count < length made → take s.count made ≡ take s.count s.lines.items → (line : Line) (new : Area)
     → HasHappened nodes_of with_node (HasPassed s.links.items) s.area new place (shown line) → IsFiring end (group_of s) (record (group_of s) { seats = new.members; held = new.exits; lines = map shown (take (s.count + 1) (set made s.count line)) })
-has_fired_into s end place within d made room kept line new has = has_fired d (shown line) new has (map shown (take (s.count + 1) (set made s.count line))) (told_more s.lines.items made s.count line room kept)
+has_fired_into s end place within d made room kept line new has = has_fired d (shown line) new has (map shown (take (s.count + 1) (set made s.count line))) (reported_more s.lines.items made s.count line room kept)
 
 -- the least event of a share is below a moment
 pub due_below : (s : Inside) → IsShare s → (g : GroupValue) → group_of s ≡ g → IsOnRun g → (end : ℕ) → end ≤ g.until → (place time : ℕ) → IsFirst (nodes_of s.area) place → Some time ≡ time_of (next_key (net_pending (nodes_of s.area))) → time < end → s.position + s.count < 1000000000000000 → IsDueBelow end (group_of s) place
 due_below s is g same on end below place time first next soon few =
-    let told = told_count s.lines.items s.count is.count in
+    let reported = reported_count s.lines.items s.count is.count in
     record {
       is = is.is_group;
       on = subst IsOnRun (sym same) on;
       below = subst (λ (v : GroupValue). end ≤ v.until) (sym same) below;
       first = first;
-      fits = omega (arith, told, few);
+      fits = omega (arith, reported, few);
       soon = λ k v here. subst (λ t. t < end) (same_some time k.time (next ∙ ap (λ (o : Option (Key × Event)). time_of (option_map (λ (entry : Key × Event). entry.0) o)) (first.same ∙ here))) soon;
       pending = λ none. not_some (sym (next ∙ ap (λ (o : Option (Key × Event)). time_of (option_map (λ (entry : Key × Event). entry.0) o)) first.same ∙ ap time_of none));
     }

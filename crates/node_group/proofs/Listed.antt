@@ -7,7 +7,7 @@ use Rattle.std.proofs.lemmas.List.Sums.{sum_by-set}
 use Rattle.std.specs.List.{Contains, count_by}
 use Rattle.packet_chain.specs.Stamped.{Stamped}
 use Rattle.node_core.specs.WireState.{WireState}
-use Rattle.node_group.specs.Held.{no_wire, wire_at, is_idle, AreByLink, AreListed, HoldsNothing}
+use Rattle.node_group.specs.Held.{no_wire, wire_at, is_idle, AreByLink, AreListed, WiresAreEmpty}
 
 -- ANOTHER WIRE FOR A LINK
 
@@ -97,7 +97,7 @@ module _ (wires : List WireState) (links : List ℕ) (link room : ℕ) (is : Are
 
 -- NO LINK
 
-pub none_listed : (wires : List WireState) (links : List ℕ) (room : ℕ) → links ≡ [] → AreListed wires links room → HoldsNothing wires
+pub none_listed : (wires : List WireState) (links : List ℕ) (room : ℕ) → links ≡ [] → AreListed wires links room → WiresAreEmpty wires
 none_listed wires links room empty is link under = ⊎_elim
     (λ (idle : is_idle (wire_at wires link) ≡ true). idle)
     (λ (busy : is_idle (wire_at wires link) ≡ false). let there = subst (λ ls. Contains ls link) empty (is.listed link under busy) in let below = there.1 in absurd (omega (arith, below)))

@@ -5,7 +5,7 @@ use Rattle.std.proofs.lemmas.List.Elements.{filter-append}
 use Rattle.std.proofs.lemmas.List.Sums.{length-filter}
 use Rattle.std.specs.List.{AllByRecursion}
 use Rattle.sim_time.specs.declared.key.Key.{Key}
-use Rattle.node_core.specs.Pending.{Change}
+use Rattle.node_core.specs.Pending.{EventChange}
 use Rattle.node_core.specs.TraceLine.{TraceLine}
 use Rattle.table_run.specs.Sound.{lines_at}
 use Rattle.window_law.specs.Groups.{is_own, own_of, others_of}
@@ -20,28 +20,28 @@ module _ (group : ℕ → ℕ) (number : ℕ) where
   own_false k off = ne_eqb (group k.node) number off
 
   -- what is at the group's own nodes
-  pub own_all : (cs : List Change) → AllByRecursion (λ (c : Change). group c.0.node ≡ number) cs → own_of group number cs ≡ cs
+  pub own_all : (cs : List EventChange) → AllByRecursion (λ (c : EventChange). group c.0.node ≡ number) cs → own_of group number cs ≡ cs
   own_all [] all = refl
-  own_all (c ∷ cs) all = ap (λ b. cond b (c ∷ own_of group number cs) (own_of group number cs)) (own_true c.0 all.0) ∙ ap (λ (rest : List Change). c ∷ rest) (own_all cs all.1)
+  own_all (c ∷ cs) all = ap (λ b. cond b (c ∷ own_of group number cs) (own_of group number cs)) (own_true c.0 all.0) ∙ ap (λ (rest : List EventChange). c ∷ rest) (own_all cs all.1)
 
-  pub others_none : (cs : List Change) → AllByRecursion (λ (c : Change). group c.0.node ≡ number) cs → others_of group number cs ≡ []
+  pub others_none : (cs : List EventChange) → AllByRecursion (λ (c : EventChange). group c.0.node ≡ number) cs → others_of group number cs ≡ []
   others_none [] all = refl
   others_none (c ∷ cs) all = ap (λ b. cond (not b) (c ∷ others_of group number cs) (others_of group number cs)) (own_true c.0 all.0) ∙ others_none cs all.1
 
   -- and what is at others
-  pub own_none : (cs : List Change) → AllByRecursion (λ (c : Change). group c.0.node ≢ number) cs → own_of group number cs ≡ []
+  pub own_none : (cs : List EventChange) → AllByRecursion (λ (c : EventChange). group c.0.node ≢ number) cs → own_of group number cs ≡ []
   own_none [] all = refl
   own_none (c ∷ cs) all = ap (λ b. cond b (c ∷ own_of group number cs) (own_of group number cs)) (own_false c.0 all.0) ∙ own_none cs all.1
 
-  pub others_all : (cs : List Change) → AllByRecursion (λ (c : Change). group c.0.node ≢ number) cs → others_of group number cs ≡ cs
+  pub others_all : (cs : List EventChange) → AllByRecursion (λ (c : EventChange). group c.0.node ≢ number) cs → others_of group number cs ≡ cs
   others_all [] all = refl
-  others_all (c ∷ cs) all = ap (λ b. cond (not b) (c ∷ others_of group number cs) (others_of group number cs)) (own_false c.0 all.0) ∙ ap (λ (rest : List Change). c ∷ rest) (others_all cs all.1)
+  others_all (c ∷ cs) all = ap (λ b. cond (not b) (c ∷ others_of group number cs) (others_of group number cs)) (own_false c.0 all.0) ∙ ap (λ (rest : List EventChange). c ∷ rest) (others_all cs all.1)
 
-  pub own_both : (cs ds : List Change) → own_of group number (cs ++ ds) ≡ own_of group number cs ++ own_of group number ds
-  own_both cs ds = filter-append (λ (c : Change). is_own group number c.0) cs ds
+  pub own_both : (cs ds : List EventChange) → own_of group number (cs ++ ds) ≡ own_of group number cs ++ own_of group number ds
+  own_both cs ds = filter-append (λ (c : EventChange). is_own group number c.0) cs ds
 
-  pub others_both : (cs ds : List Change) → others_of group number (cs ++ ds) ≡ others_of group number cs ++ others_of group number ds
-  others_both cs ds = filter-append (λ (c : Change). not (is_own group number c.0)) cs ds
+  pub others_both : (cs ds : List EventChange) → others_of group number (cs ++ ds) ≡ others_of group number cs ++ others_of group number ds
+  others_both cs ds = filter-append (λ (c : EventChange). not (is_own group number c.0)) cs ds
 
   -- the lines at a node of the group are among the group's
   fewer : (node : ℕ) → group node ≡ number → (lines : List TraceLine) → length (filter (λ (l : TraceLine). l.key.node == node) lines) ≤ length (filter (λ (l : TraceLine). group l.key.node == number) lines)

@@ -8,11 +8,11 @@ use Rattle.std.specs.List.{slice_get}
 use Rattle.std.specs.FinMap as fin
 use Rattle.std.specs.Option.{unwrap_or}
 use Rattle.sim_time.specs.declared.key.Key.{Key}
-use Rattle.ranking.specs.Leading.{rank_at, Leads}
-use Rattle.ranking.specs.Keyed.{least, next_key, EachKey}
-use Rattle.ranking.specs.Timed.{time_of, AreInPlace}
-use Rattle.ranking.proofs.Maps.{not_some, least_is, next_some}
-use Rattle.ranking.proofs.Gathered.{next_empty}
+use Rattle.tournament.specs.Leading.{rank_at, Leads}
+use Rattle.tournament.specs.Keyed.{least, next_key, EachKey}
+use Rattle.tournament.specs.Timed.{time_of, AreInPlace}
+use Rattle.tournament.proofs.Maps.{not_some, least_is, next_some}
+use Rattle.tournament.proofs.Gathered.{next_empty}
 use Rattle.node_core.specs.declared.event.Event.{Event}
 use Rattle.node_core.specs.Pending.{Events}
 use Rattle.node_core.specs.Node.{NodeState}

@@ -8,12 +8,12 @@ use Rattle.std.specs.FinMap.{get, get-empty}
 use Rattle.sim_time.specs.declared.key.Key.{Key}
 use Rattle.scenario_image.specs.declared.parts.LinkPart.{LinkPart}
 use Rattle.scenario_image.specs.declared.parts.ScenarioParts.{ScenarioParts}
-use Rattle.ranking.specs.Keyed.{nothing_due, EachKey}
-use Rattle.ranking.proofs.Gathered.{get-gathered, none-gathered}
-use Rattle.ranking.proofs.Maps.{not_some}
+use Rattle.tournament.specs.Keyed.{nothing_due, EachKey}
+use Rattle.tournament.proofs.Gathered.{get-gathered, none-gathered}
+use Rattle.tournament.proofs.Maps.{not_some}
 use Rattle.node_core.specs.declared.event.Event.{Event}
 use Rattle.node_core.specs.Pending.{Events}
-use Rattle.node_core.specs.AgendaState.{Incoming, incoming_at}
+use Rattle.node_core.specs.EventQueueState.{Incoming, incoming_at}
 use Rattle.node_core.specs.Part.{LinkState, PartState, link_at}
 use Rattle.node_core.specs.Node.{NodeState}
 use Rattle.node_core.specs.WireState.{WireState, pending_on, came_over}
@@ -25,12 +25,12 @@ use Rattle.table_run.proofs.RunLaws.{sound_run}
 use Rattle.std.proofs.lemmas.Option.{get_or_from_slice_get}
 use Rattle.net_machine.specs.declared.places.LinkEnds.{LinkEnds}
 use Rattle.net_machine.specs.Nodes.{no_node, node_at, net_pending, pendings, net_state, IsPlaced}
-use Rattle.net_machine.specs.Wiring.{no_link_part, link_part, from_of, exit_of, leaving_at, coming_at, link_ends, ends_at, place_at, IsWire}
+use Rattle.net_machine.specs.Wiring.{no_link_part, link_part, from_of, exit_of, leaving_at, coming_at, link_ends, ends_at, place_at, IsNetWire}
 use Rattle.net_machine.specs.NetOf.{IsNet, AreNetParts}
 use Rattle.net_machine.proofs.Joined.{net_of}
 use Rattle.net_machine.proofs.AtNodes.{pending_at}
 use Rattle.net_partition.specs.Partition.{group_in}
-use Rattle.node_group.specs.Seats.{Seats, absent, seated, taken}
+use Rattle.node_group.specs.Seats.{Seats, absent, seated, taken_nodes}
 use Rattle.node_group.specs.Held.{no_wire, held_on}
 use Rattle.node_group.specs.Group.{GroupValue, group_to, member, exit_at, entry_at, came_in, IsGroup, IsOwnExit}
 use Rattle.node_group.specs.Shares.{AreSeatsOf, AreIdle, idle_wire}
@@ -63,9 +63,9 @@ module _ (entries : List ℕ) (number : ℕ) (nodes : List NodeState) (seats : S
       (λ (past : length entries ≤ i). subst (P i) (sym (past_seats i past)) (beyond i past))
       (cases_lt i (length entries))
 
-  pub seats_taken : taken seats ≡ map (λ entry. entry == number) entries
+  pub seats_taken : taken_nodes seats ≡ map (λ entry. entry == number) entries
   seats_taken =
-      ext_get_or false (taken seats) (map (λ entry. entry == number) entries)
+      ext_get_or false (taken_nodes seats) (map (λ entry. entry == number) entries)
       (length-map seats (λ (s : Option NodeState). is_some s) ∙ are.count ∙ sym (length-map entries (λ entry. entry == number)))
       (λ i under.
       let size = are.count in
@@ -147,7 +147,7 @@ module _ (nodes : List NodeState) (links : List LinkEnds) (end position : ℕ) (
   pub coming_is : (link : ℕ) → link < length links → incoming_at (node_at nodes (place_at links link).node).incoming (place_at links link).index ≡ coming_at parts nodes link
   coming_is link under = ap (λ (e : LinkEnds). incoming_at (node_at nodes e.to.node).incoming e.to.index) (ends_are link under)
 
-  pub wire : (link : ℕ) → link < length links → IsWire parts nodes link
+  pub wire : (link : ℕ) → link < length links → IsNetWire parts nodes link
   wire link under = is_net.wired.wires link (known link under)
 
   pub end_inside : (link : ℕ) → link < length links → (place_at links link).node < length entries
@@ -178,9 +178,9 @@ module _ (nodes : List NodeState) (links : List LinkEnds) (end position : ℕ) (
 
       by : (w : Event) → Belongs scenario state sound.moment k w → IsComing k link
       by (Start j) h = zero_source (ap (λ (q : Key). q.source) h.is_key)
-      by (Rto j) h = zero_source (ap (λ (q : Key). q.source) h.alarm.is_key)
-      by (DelAck j) h = zero_source (ap (λ (q : Key). q.source) h.alarm.is_key)
-      by (Free j) h = zero_source (ap (λ (q : Key). q.source) h.alarm.is_key)
+      by (Rto j) h = zero_source (ap (λ (q : Key). q.source) h.timer.is_key)
+      by (DelAck j) h = zero_source (ap (λ (q : Key). q.source) h.timer.is_key)
+      by (Free j) h = zero_source (ap (λ (q : Key). q.source) h.timer.is_key)
       by (Arrive x) h =
           let number : h.number ≡ link = (let over = h.comes_over in omega (arith, over, source)) in
           let within : h.index < length (node_at nodes h.link.from).part.links = subst (λ (p : PartState). h.index < length p.links) (part_is h.link.from) h.leaves.within in

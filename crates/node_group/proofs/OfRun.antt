@@ -4,7 +4,7 @@ use Rattle.std.proofs.lemmas.Bool.{cases_lt}
 use Rattle.std.proofs.lemmas.List.{get_or_past}
 use Rattle.std.specs.List.{count_by, slice_get}
 use Rattle.scenario_image.specs.declared.parts.LinkPart.{LinkPart}
-use Rattle.node_core.specs.AgendaState.{Incoming}
+use Rattle.node_core.specs.EventQueueState.{Incoming}
 use Rattle.node_core.specs.Part.{LinkState, PartState, link_at, no_link}
 use Rattle.node_core.specs.Node.{NodeState}
 use Rattle.table_run.specs.State.{State, part_at}
@@ -60,7 +60,7 @@ module _ (nodes : List NodeState) (links : List LinkEnds) (end position : ℕ) (
       (subst (λ (q : PartState). Rattle.std.specs.List.AllByRecursion (λ (l : LinkState). IsSoundLink run.scenario (net_state nodes end) (lines_at node run.lines) l.port) q.links) p here) in
       let most = one.sent_most in
       let few = count_by-le-length (λ (line : Rattle.node_core.specs.TraceLine.TraceLine). line.key.node == node) run.lines in
-      let long = run_length position (Rattle.table_run.specs.State.opening run.scenario) (net_state nodes end) run.lines run.is in
+      let long = run_length position (Rattle.table_run.specs.State.initial run.scenario) (net_state nodes end) run.lines run.is in
       omega (arith, most, few, long))
       (λ (past : length (node_at nodes node).part.links ≤ index).
       let none : (link_at (node_at nodes node).part.links index).port.sent ≡ 0 = ap (λ (l : LinkState). l.port.sent) (get_or_past (node_at nodes node).part.links index no_link past) in

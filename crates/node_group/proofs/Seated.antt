@@ -3,7 +3,7 @@ use Rattle.std.proofs.Common.{◌≡◌, ℕ, zero, suc, ◌+◌, ◌<◌, [], �
 use Rattle.std.specs.Option.{unwrap_or}
 use Rattle.node_core.specs.Node.{NodeState}
 use Rattle.net_machine.specs.Nodes.{node_at}
-use Rattle.node_group.specs.Seats.{Seats, absent, seated_from, seated, taken}
+use Rattle.node_group.specs.Seats.{Seats, absent, seated_from, seated, taken_nodes}
 
 pub length-seated_from : (n : ℕ) (seats : Seats) → length (seated_from n seats) ≡ length seats
 length-seated_from n [] = refl
@@ -31,9 +31,9 @@ pub seated_set : (seats : Seats) (i : ℕ) (x : NodeState) → seated (set seats
 seated_set seats i x = seated_from_set 0 seats i x
 
 -- a seat that is taken stays so
-pub taken_set : (seats : Seats) (i : ℕ) (x y : NodeState) → get_or seats i None ≡ Some y → taken (set seats i (Some x)) ≡ taken seats
+pub taken_set : (seats : Seats) (i : ℕ) (x y : NodeState) → get_or seats i None ≡ Some y → taken_nodes (set seats i (Some x)) ≡ taken_nodes seats
 taken_set [] i x y e = refl
-taken_set (s ∷ seats) zero x y e = ap (λ (o : Option NodeState). is_some o ∷ taken seats) (sym e)
+taken_set (s ∷ seats) zero x y e = ap (λ (o : Option NodeState). is_some o ∷ taken_nodes seats) (sym e)
 taken_set (s ∷ seats) (suc i) x y e = ap (λ rest. is_some s ∷ rest) (taken_set seats i x y e)
 
 -- who is seated where there is not nobody

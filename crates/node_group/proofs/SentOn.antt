@@ -6,14 +6,14 @@ use Rattle.std.proofs.Math.ListN.{get_or-map}
 use Rattle.std.specs.FinMap as fin
 use Rattle.sim_time.specs.declared.key.Key.{Key}
 use Rattle.packet_chain.specs.Stamped.{Stamped}
-use Rattle.ranking.specs.Keyed.{entering, EachKey}
-use Rattle.ranking.proofs.Maps.{same_some}
-use Rattle.ranking.proofs.Gathered.{gathered_has}
+use Rattle.tournament.specs.Keyed.{entering, EachKey}
+use Rattle.tournament.proofs.Maps.{same_some}
+use Rattle.tournament.proofs.Gathered.{gathered_has}
 use Rattle.node_core.specs.declared.event.Event.{Event}
 use Rattle.node_core.specs.declared.event.Event.TheVariants.{Arrive}
-use Rattle.node_core.specs.Alarms.{arrival_key}
+use Rattle.node_core.specs.Timers.{arrival_key}
 use Rattle.node_core.specs.Pending.{Events}
-use Rattle.node_core.specs.AgendaState.{incoming_at}
+use Rattle.node_core.specs.EventQueueState.{incoming_at}
 use Rattle.node_core.specs.Part.{LinkState, PartState, link_at}
 use Rattle.node_core.specs.Row.{Leaving, sent_away}
 use Rattle.node_core.specs.Node.{NodeState}

@@ -2,9 +2,9 @@
 use Rattle.std.specs.Prelude.{◌≡◌, ◌≢◌, ◌<◌, ◌≤◌, ◌+◌, ◌==◌, ℕ, Bool, true, false, List, [], map as each, length, Some, None}
 use Rattle.scenario_image.specs.declared.parts.ScenarioParts.{ScenarioParts}
 use Rattle.sim_time.specs.declared.key.Key.{Key}
-use Rattle.ranking.specs.Keyed.{least, next_key, EachKey}
+use Rattle.tournament.specs.Keyed.{least, next_key, EachKey}
 use Rattle.node_core.specs.declared.event.Event.{Event}
-use Rattle.node_core.specs.AgendaState.{Incoming, incoming_at}
+use Rattle.node_core.specs.EventQueueState.{Incoming, incoming_at}
 use Rattle.node_core.specs.Node.{NodeState}
 use Rattle.node_core.specs.Part.{LinkState, link_at}
 use Rattle.node_core.specs.TraceLine.{TraceLine}
@@ -14,7 +14,7 @@ use Rattle.net_machine.specs.declared.places.LinkEnds.{LinkEnds}
 use Rattle.net_machine.specs.Nodes.{node_at, net_pending, parts_of, IsPlaced, IsFirst}
 use Rattle.net_machine.specs.Wiring.{AreEnds, ends_at, place_at}
 use Rattle.net_partition.specs.Partition.{group_in}
-use Rattle.node_group.specs.Seats.{Seats, seated, taken}
+use Rattle.node_group.specs.Seats.{Seats, seated, taken_nodes}
 use Rattle.node_group.specs.Held.{wire_at, held_on, AreByLink}
 use Rattle.window_law.specs.Groups.{GroupState, group_at, up_to, fire, fire_times}
 use Rattle.window_law.specs.Windows.{WindowState}
@@ -73,7 +73,7 @@ pub record IsOwnEntry (g : GroupValue) (link : ℕ) : Type 0 where
 
 -- a group of a net: it has just the nodes of its number, joined by the net's links, and a wire for each link; of the packets that come over a link it counts those that came
 pub record IsGroup (g : GroupValue) : Type 0 where
-  pub seats_are : taken g.seats ≡ each (λ entry. entry == g.number) g.entries
+  pub seats_are : taken_nodes g.seats ≡ each (λ entry. entry == g.number) g.entries
   pub placed : IsPlaced (seated g.seats)
   pub few : (node : ℕ) → length (member g node).part.links ≤ 16
   pub ends_known : (link : ℕ) → link < length g.links → (place_at g.links link).node < length g.entries
@@ -110,7 +110,7 @@ pub record AfterFirings (end : ℕ) (old new : GroupValue) : Type 0 where
   pub times : ℕ
   pub state : state_of new ≡ fire_times (group_in old.entries) old.number end times (state_of old)
   pub rest : new ≡ record old { seats = new.seats; held = new.held; lines = new.lines }
-  pub seats_stay : taken new.seats ≡ taken old.seats
+  pub seats_stay : taken_nodes new.seats ≡ taken_nodes old.seats
   pub from_others : (link : ℕ) → link < length old.links → group_from old link ≢ old.number → came_in new link ≡ came_in old link
   pub wires_stay : each bare new.held ≡ each bare old.held
 

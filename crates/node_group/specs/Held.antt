@@ -3,7 +3,7 @@ use Rattle.std.specs.Prelude.{◌≡◌, ◌==◌, ◌<◌, ◌≤◌, ◌+◌, 
 use Rattle.std.specs.List.{Contains}
 use Rattle.std.specs.List.Sorted.{IsStrictlyIncreasing}
 use Rattle.packet_chain.specs.Stamped.{Stamped}
-use Rattle.ranking.specs.Gathered.{gathered}
+use Rattle.tournament.specs.Gathered.{gathered}
 use Rattle.node_core.specs.Pending.{Events}
 use Rattle.node_core.specs.WireState.{WireState, came_over, pending_on, stamps_of}
 
@@ -33,8 +33,8 @@ pub record AreListed (wires : List WireState) (links : List ℕ) (room : ℕ) : 
   pub fits : length links + count_by is_idle wires ≤ room
 
 -- nothing is under way over any wire
-abbrev pub HoldsNothing : List WireState → Type 0
-HoldsNothing wires = (link : ℕ) → link < length wires → is_idle (wire_at wires link) ≡ true
+abbrev pub WiresAreEmpty : List WireState → Type 0
+WiresAreEmpty wires = (link : ℕ) → link < length wires → is_idle (wire_at wires link) ≡ true
 
 -- these packets were under way over a link, and now nothing is
 pub record IsReleased (old new : List WireState) (link : ℕ) (packets : List Stamped) : Type 0 where

@@ -2,7 +2,7 @@
 use Rattle.std.specs.Prelude.{◌≡◌, ◌<◌, ◌≤◌, ◌+◌, ◌^◌, ◌++◌, ℕ, Bool, true, false, List, All, length, slice_index_or, slice_set, is_some, Some, None}
 use Rattle.std.specs.List.Sorted.{IsStrictlyIncreasing}
 use Rattle.packet_chain.specs.Stamped.{Stamped}
-use Rattle.ranking.specs.Keyed.{apply, entering, EachKey}
+use Rattle.tournament.specs.Keyed.{apply, entering, EachKey}
 use Rattle.node_core.specs.Node.{NodeState, delivered}
 use Rattle.node_core.specs.WireState.{WireState, arrivals, came_over, pending_on, stamps_of}
 use Rattle.net_machine.specs.declared.places.LinkEnds.{LinkEnds}
@@ -10,7 +10,7 @@ use Rattle.net_machine.specs.Nodes.{node_at, IsPlaced}
 use Rattle.net_machine.specs.Wiring.{place_at}
 use Rattle.net_machine.specs.Region.{CanCome}
 use Rattle.node_group.specs.declared.area.Area.{Area}
-use Rattle.node_group.specs.Seats.{Seats, seated, taken, number_at}
+use Rattle.node_group.specs.Seats.{Seats, seated, taken_nodes, number_at}
 use Rattle.node_group.specs.Held.{wire_at, held_on}
 
 -- whether a node is the group's
@@ -44,7 +44,7 @@ pub record CanPass (links : List LinkEnds) (a : Area) (link : ℕ) (packets : Li
 pub record HasCome (links : List LinkEnds) (seats new : Seats) (link : ℕ) (packets : List Stamped) : Type 0 where
   pub nodes : seated new ≡ slice_set (seated seats) (place_at links link).node (delivered (node_at (seated seats) (place_at links link).node) (place_at links link).index packets)
   pub placed : IsPlaced (seated new)
-  pub same_seats : taken new ≡ taken seats
+  pub same_seats : taken_nodes new ≡ taken_nodes seats
 
 -- packets are held back behind the others of a link
 pub record Waits (held new : List WireState) (link : ℕ) (packets : List Stamped) : Type 0 where

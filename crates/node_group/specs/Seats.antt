@@ -2,7 +2,7 @@
 use Rattle.std.specs.Prelude.{ℕ, zero, suc, ◌+◌, Bool, true, false, List, [], ◌∷◌, map as each, is_some, Option}
 use Rattle.std.specs.Coded.{Coded, coded_list, coded_option}
 use Rattle.std.specs.Option.{unwrap_or}
-use Rattle.ranking.specs.Keyed.{nothing_due}
+use Rattle.tournament.specs.Keyed.{nothing_due}
 use Rattle.node_core.specs.declared.event.Event.{Event}
 use Rattle.node_core.specs.Node.{NodeState}
 use Rattle.node_core.specs.NodeCode.{node_code}
@@ -28,8 +28,8 @@ abbrev pub seated : Seats → List NodeState
 seated seats = seated_from 0 seats
 
 -- which nodes are the group's
-abbrev pub taken : Seats → List Bool
-taken seats = each (λ (seat : Option NodeState). is_some seat) seats
+abbrev pub taken_nodes : Seats → List Bool
+taken_nodes seats = each (λ (seat : Option NodeState). is_some seat) seats
 
 -- the number of the seat that is taken after so many others; past the last taken one the count of all seats
 abbrev pub nth_taken : List Bool → ℕ → ℕ
@@ -40,4 +40,4 @@ nth_taken (false ∷ rest) others = 1 + nth_taken rest others
 
 -- a group's nodes stand in a row, in rising number: the number of the one at a place
 abbrev pub number_at : Seats → ℕ → ℕ
-number_at seats at = nth_taken (taken seats) at
+number_at seats at = nth_taken (taken_nodes seats) at

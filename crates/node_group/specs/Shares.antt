@@ -2,7 +2,7 @@
 use Rattle.std.specs.Prelude.{◌≡◌, ◌≢◌, ◌<◌, ◌≤◌, ◌==◌, ◌^◌, ℕ, if◌then◌else◌, List, [], length, count_by, take, replicate, slice_index_or, vec_capacity, Some, None}
 use Rattle.std.specs.List.{slice_get}
 use Rattle.node_core.specs.Node.{NodeState}
-use Rattle.node_core.specs.AgendaState.{incoming_at}
+use Rattle.node_core.specs.EventQueueState.{incoming_at}
 use Rattle.node_core.specs.Part.{link_at}
 use Rattle.node_core.specs.WireState.{WireState}
 use Rattle.net_machine.specs.declared.places.LinkEnds.{LinkEnds}

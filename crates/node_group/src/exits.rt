@@ -2,11 +2,11 @@
 ghost use Rattle.std.specs.Prelude.{◌≡◌, ◌+◌, ◌<◌, ◌≤◌, ◌^◌, ◌++◌, ◌∷◌, [], length, slice_set, All, OnOk, OnErr, IfSome, None, true};
 ghost use Rattle.std.specs.List.Sorted.{IsStrictlyIncreasing};
 ghost use Rattle.sim_time.specs.declared.key.Key.{Key};
-ghost use Rattle.ranking.specs.Keyed.{apply, entering, EachKey};
+ghost use Rattle.tournament.specs.Keyed.{apply, entering, EachKey};
 ghost use Rattle.node_core.specs.WireState.{WireState, arrivals, pending_on, came_over, stamps_of};
-ghost use Rattle.node_group.specs.Held.{wire_at, held_on, HoldsNothing, IsReleased};
+ghost use Rattle.node_group.specs.Held.{wire_at, held_on, WiresAreEmpty, IsReleased};
 
-use crate::held::Held;
+use crate::held::HeldPackets;
 use packet_chain::PacketChain;
 use std::alloc::{AllocError, Global};
 use std::marker::Model;
@@ -14,7 +14,7 @@ use std::marker::Model;
 /// For each link of the net, by its number, what a group holds back of it.
 #[derive(Drop)]
 pub struct Exits {
-    held: Vec<Held>,
+    held: Vec<HeldPackets>,
     /// The links of which something is held back, with room for each other one.
     busy: Vec<usize>,
 }
@@ -44,7 +44,7 @@ impl Exits {
     }
 
     /// The next link, of which nothing is held back.
-    pub(crate) fn push(&mut self, held: Held) -> Result<(), AllocError>
+    pub(crate) fn push(&mut self, held: HeldPackets) -> Result<(), AllocError>
         requires link { held.link ≡ length self.old }
         requires idle { held.under_way ≡ [] }
         ensures ok { OnOk result (self.new ≡ self.old ++ held ∷ []) }
@@ -75,7 +75,7 @@ impl Exits {
     /// Whether it is known that nothing is held back of any link.
     #[inline(always)]
     pub(crate) fn holds_nothing(&self) -> bool
-        ensures { result ≡ true → HoldsNothing self.now }
+        ensures { result ≡ true → WiresAreEmpty self.now }
     {
         self.busy.is_empty()
     }
@@ -85,7 +85,7 @@ impl Exits {
     pub(crate) fn release_next(&mut self, packets: &mut PacketChain) -> Option<usize>
         requires { packets.old ≡ [] }
         ensures some { IfSome result (λ link. IsReleased self.old self.new link packets.new) }
-        ensures none { result ≡ None → HoldsNothing self.old × (self.new ≡ self.old) × (packets.new ≡ []) }
+        ensures none { result ≡ None → WiresAreEmpty self.old × (self.new ≡ self.old) × (packets.new ≡ []) }
     {
         while let Some(link) = self.busy.pop() {
             if !self.held[link].is_idle() {

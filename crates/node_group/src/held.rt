@@ -2,7 +2,7 @@
 ghost use Rattle.std.specs.Prelude.{◌≡◌, ◌+◌, ◌<◌, ◌≤◌, ◌^◌, ◌++◌, [], length, All};
 ghost use Rattle.std.specs.List.Sorted.{IsStrictlyIncreasing};
 ghost use Rattle.sim_time.specs.declared.key.Key.{Key};
-ghost use Rattle.ranking.specs.Keyed.{apply, entering, EachKey};
+ghost use Rattle.tournament.specs.Keyed.{apply, entering, EachKey};
 ghost use Rattle.node_core.specs.WireState.{arrivals, pending_on, came_over, stamps_of};
 ghost use Rattle.node_group.specs.Held.{is_idle};
 
@@ -13,7 +13,7 @@ use std::marker::Model;
 /// The packets that left a group over a link and that its end has not got yet, each stamped with
 /// the nanoseconds at which it arrives.
 #[derive(Drop)]
-pub(crate) struct Held {
+pub(crate) struct HeldPackets {
     /// The node at the link's end.
     node: u16,
     /// The link's number.
@@ -23,7 +23,7 @@ pub(crate) struct Held {
     packets: PacketChain,
 }
 
-impl Model for Held {
+impl Model for HeldPackets {
     ghost use Rattle.node_core.specs.WireState.{WireState, IsWire};
 
     ghost Value = { WireState };
@@ -33,14 +33,14 @@ impl Model for Held {
     ghost invariant = { λ h. IsWire (record { node = h.node; link = h.link; taken = h.before; under_way = h.packets }) };
 }
 
-impl Held {
+impl HeldPackets {
     /// Nothing is held back of a link over which so many packets came.
-    pub(crate) fn new(alloc: Global, node: u16, link: u16, before: u64) -> Held
+    pub(crate) fn new(alloc: Global, node: u16, link: u16, before: u64) -> HeldPackets
         requires link { link < 65535 }
         requires few { before ≤ 2 ^ 50 }
         ensures { result ≡ record { node = node; link = link; taken = before; under_way = [] } }
     {
-        Held {
+        HeldPackets {
             node,
             link,
             before,

@@ -3,10 +3,10 @@ ghost use Rattle.std.specs.Prelude.{◌≡◌, ◌≢◌, ◌==◌, ◌+◌, ◌
 ghost use Rattle.std.specs.Option.{option_map, option_copied};
 ghost use Rattle.std.specs.List.Sorted.{IsStrictlyIncreasing};
 ghost use Rattle.sim_time.specs.declared.key.Key.{Key};
-ghost use Rattle.ranking.specs.Keyed.{least, next_key, EachKey};
-ghost use Rattle.ranking.specs.Timed.{time_of};
+ghost use Rattle.tournament.specs.Keyed.{least, next_key, EachKey};
+ghost use Rattle.tournament.specs.Timed.{time_of};
 ghost use Rattle.node_core.specs.declared.event.Event.{Event};
-ghost use Rattle.node_core.specs.AgendaState.{incoming_at};
+ghost use Rattle.node_core.specs.EventQueueState.{incoming_at};
 ghost use Rattle.node_core.specs.WireState.{stamps_of};
 ghost use Rattle.node_core.specs.Part.{link_at};
 ghost use Rattle.node_core.specs.Row.{Leaving, row};
@@ -14,17 +14,17 @@ ghost use Rattle.node_core.specs.Ready.{IsRunnable};
 ghost use Rattle.node_core.specs.TraceLine.{shown};
 ghost use Rattle.node_core.specs.Node.{NodeState, delivered, HasFired};
 ghost use Rattle.net_machine.specs.Nodes.{node_at, net_pending, IsPlaced, IsFirst};
-ghost use Rattle.node_group.specs.Seats.{seated, taken, number_at};
+ghost use Rattle.node_group.specs.Seats.{seated, taken_nodes, number_at};
 ghost use Rattle.node_group.specs.Numbered.{seats_of, AreFound, AreRising};
 
 use net_machine::Nodes;
 use net_partition::Partition;
 use node_core::{Line, Node, Outbox};
 use packet_chain::PacketChain;
-use ranking::Timetable;
 use sim_time::Time;
 use std::alloc::{AllocError, Global};
 use std::marker::Model;
+use tournament::Timetable;
 
 /// Where a node is that is not among those of a group.
 const NOWHERE: u32 = u32::MAX;
@@ -179,7 +179,7 @@ impl Members {
         ensures fired { let number = number_at self.old at in OnOk result (HasFired (node_at (seated self.old) number) (node_at (seated self.new) number) out.old out.new (shown line.new)) }
         ensures put { let number = number_at self.old at in OnOk result (self.new ≡ slice_set self.old number (Some (node_at (seated self.new) number))) }
         ensures count { OnOk result (length (seated self.new) ≡ length (seated self.old)) }
-        ensures taken { OnOk result (taken self.new ≡ taken self.old) }
+        ensures taken { OnOk result (taken_nodes self.new ≡ taken_nodes self.old) }
         ensures leaving { IfOk result (λ index. index ≡ option_map (λ (leaving : Leaving). leaving.index) (row (node_at (seated self.old) (number_at self.old at)).part line.new.key line.new.event).leaving) }
         ensures same { OnErr result (self.new ≡ self.old) }
         ensures same_out { OnErr result (out.new ≡ out.old) }
@@ -207,7 +207,7 @@ impl Members {
         requires few { (incoming_at (node_at (seated self.old) (number_at self.old at)).incoming index).came + length chain.old ≤ 2 ^ 50 }
         ensures nodes { let number = number_at self.old at in seated self.new ≡ slice_set (seated self.old) number (delivered (node_at (seated self.old) number) index chain.old) }
         ensures placed { IsPlaced (seated self.new) }
-        ensures taken { taken self.new ≡ taken self.old }
+        ensures taken { taken_nodes self.new ≡ taken_nodes self.old }
         ensures emptied { chain.new ≡ [] }
     {
         self.nodes.deliver(at, index, chain);

@@ -3,7 +3,7 @@ ghost use Rattle.std.specs.Prelude.{◌≡◌, ◌≢◌, ◌+◌, ◌<◌, ◌�
 ghost use Rattle.std.specs.List.Sorted.{IsStrictlyIncreasing};
 ghost use Rattle.std.specs.Option.{option_copied};
 ghost use Rattle.sim_time.specs.declared.key.Key.{Key};
-ghost use Rattle.ranking.specs.Keyed.{EachKey};
+ghost use Rattle.tournament.specs.Keyed.{EachKey};
 ghost use Rattle.node_core.specs.Node.{delivered};
 ghost use Rattle.node_core.specs.TraceLine.{shown};
 ghost use Rattle.node_core.specs.WireState.{came_over, stamps_of};
@@ -12,8 +12,8 @@ ghost use Rattle.net_machine.specs.Nodes.{net_pending};
 ghost use Rattle.net_machine.specs.Wiring.{place_at};
 ghost use Rattle.window_law.specs.Groups.{up_to};
 ghost use Rattle.window_law.specs.Windows.{first_time};
-ghost use Rattle.node_group.specs.Held.{HoldsNothing, IsReleased};
-ghost use Rattle.node_group.specs.Seats.{seated, taken, number_at};
+ghost use Rattle.node_group.specs.Held.{WiresAreEmpty, IsReleased};
+ghost use Rattle.node_group.specs.Seats.{seated, taken_nodes, number_at};
 ghost use Rattle.node_group.specs.Numbered.{seats_of, AreFound, AreRising};
 ghost use Rattle.node_group.specs.Group.{GroupValue, state_of, group_from, group_to, member, came_in, IsGroup, IsOnRun, AfterFirings, Fired, IsDueBelow, IsFiring};
 ghost use Rattle.node_group.specs.Faults.{IsFaultAt};
@@ -143,7 +143,7 @@ impl Share {
     }
 
     /// How many lines were told since the last turn.
-    pub fn told(&self) -> usize
+    pub fn reported(&self) -> usize
         ensures count { result ≡ length self.now.lines }
     {
         self.count
@@ -196,7 +196,7 @@ impl Share {
     /// Whether it is known that nothing is held back.
     #[inline(always)]
     pub fn holds_nothing(&self) -> bool
-        ensures { result ≡ true → HoldsNothing self.now.held }
+        ensures { result ≡ true → WiresAreEmpty self.now.held }
     {
         self.area.exits.holds_nothing()
     }
@@ -216,7 +216,7 @@ impl Share {
         requires { packets.old ≡ [] }
         ensures rest { self.new ≡ record self.old { held = self.new.held } }
         ensures some { IfSome result (λ link. IsReleased self.old.held self.new.held link packets.new) }
-        ensures none { result ≡ None → HoldsNothing self.old.held × (self.new ≡ self.old) × (packets.new ≡ []) }
+        ensures none { result ≡ None → WiresAreEmpty self.old.held × (self.new ≡ self.old) × (packets.new ≡ []) }
     {
         self.area.exits.release_next(packets)
     }
@@ -232,7 +232,7 @@ impl Share {
         requires few { came_in self.old link + length packets.old ≤ 2 ^ 50 }
         ensures rest { self.new ≡ record self.old { seats = self.new.seats } }
         ensures nodes { let end = place_at self.old.links link in seated self.new.seats ≡ slice_set (seated self.old.seats) end.node (delivered (member self.old end.node) end.index packets.old) }
-        ensures seats_stay { taken self.new.seats ≡ taken self.old.seats }
+        ensures seats_stay { taken_nodes self.new.seats ≡ taken_nodes self.old.seats }
         ensures emptied { packets.new ≡ [] }
     {
         self.area.pass_on(&self.links, link, packets);

@@ -8,7 +8,7 @@ ghost use Rattle.net_partition.specs.Partition.{groups_of};
 ghost use Rattle.node_group.specs.Shares.{AreJoined, AreIdle, IsRoom, AreRooms, AreSeatedBelow, AreSharesOf, HaveSent};
 
 use crate::exits::Exits;
-use crate::held::Held;
+use crate::held::HeldPackets;
 use crate::members::MemberParts;
 use crate::share::{Share, ShareParts};
 use net_machine::LinkEnds;
@@ -62,7 +62,7 @@ fn idle_exits(
 {
     let mut exits = Exits::new(alloc);
     for (link, ends) in links.iter().enumerate() {
-        exits.push(Held::new(alloc, ends.to.node, link as u16, sent[link]))?;
+        exits.push(HeldPackets::new(alloc, ends.to.node, link as u16, sent[link]))?;
     }
     Ok(exits)
 }

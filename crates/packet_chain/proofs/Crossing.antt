@@ -9,10 +9,10 @@ use denote.Struct.Owning.{shape, fields, to}
 use denote.Param.Send.{IsSend, IsSync, Common, AllSend, owning_send, struct_send, struct_sync, sendable}
 use Rattle.std.proofs.Crossing as heap
 use Rattle.std_alloc.proofs.SendSync.{quiet, lies, seen}
-use Rattle.packet_chain.specs.contracts.node.Node.{the_row as N}
+use Rattle.packet_chain.specs.contracts.node.ChainNode.{the_row as N}
 use Rattle.std_heap.proofs.Global.TheSendSync as handle
 use Rattle.packet_chain.specs.contracts.loose.Loose as Loose
-use Rattle.packet_chain.specs.contracts.nodes.Nodes as Nodes
+use Rattle.packet_chain.specs.contracts.nodes.ChainNodes as Nodes
 use Rattle.packet_chain.specs.Links.{Link}
 use Rattle.packet_chain.specs.Ownership.{link_owns, nodes_own, nodes_lent}
 

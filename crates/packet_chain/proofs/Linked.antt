@@ -4,7 +4,7 @@ use Rattle.std.proofs.lemmas.Bool.{false≢true}
 use Rattle.std.specs.Prelude.{slice_get, drop, unwrap_or, is_some}
 use base.Stored.{Coded-set}
 use denote.RawPtr.{Ptr, null_ptr, coded_ptr}
-use Rattle.packet_chain.specs.declared.node.Node.{Node}
+use Rattle.packet_chain.specs.declared.node.ChainNode.{ChainNode}
 use Rattle.packet_chain.specs.Links.{Link, stamped_of, stamped_in, place_of, IsLinked}
 use mathlib.Core.Logic.{∥∥₁_elim}
 
@@ -80,13 +80,13 @@ some_is : {X : Type 0} (x y : X) → Some x ≡ Some y → x ≡ y
 some_is x y e = ap (λ o. unwrap_or o x) e
 
 -- what is left from the i-th node on begins with what that node holds
-pub held_from : (ls : List Link) (i : ℕ) (p : Ptr) (n : Node) → slice_get ls i ≡ Some (p, n) → drop i (stamped_of ls) ≡ (n.packet, n.stamp) ∷ drop (suc i) (stamped_of ls)
+pub held_from : (ls : List Link) (i : ℕ) (p : Ptr) (n : ChainNode) → slice_get ls i ≡ Some (p, n) → drop i (stamped_of ls) ≡ (n.packet, n.stamp) ∷ drop (suc i) (stamped_of ls)
 held_from [] i p n e = absurd (false≢true (ap is_some e))
 held_from (l ∷ ls) zero p n e = ap (λ k. stamped_in k ∷ stamped_of ls) (some_is l (p, n) e)
 held_from (l ∷ ls) (suc i) p n e = held_from ls i p n e
 
 -- the i-th node leads to the one behind it
-pub next_is : (h t : Ptr) (ls : List Link) (i : ℕ) (p : Ptr) (n : Node) → IsLinked h t ls → slice_get ls i ≡ Some (p, n) → suc i < length ls → n.next ≡ place_of ls (suc i)
+pub next_is : (h t : Ptr) (ls : List Link) (i : ℕ) (p : Ptr) (n : ChainNode) → IsLinked h t ls → slice_get ls i ≡ Some (p, n) → suc i < length ls → n.next ≡ place_of ls (suc i)
 next_is h t [] i p n c e more = absurd (omega arith)
 next_is h t (l ∷ []) i p n c e more = absurd (omega arith)
 next_is h t (l ∷ m ∷ ls) zero p n c e more = ap (λ k. k.1.next) (sym (some_is l (p, n) e)) ∙ head_is l.1.next t (m ∷ ls) c.1

@@ -12,8 +12,8 @@ use denote.Sharing.{ShrLaws}
 use denote.SharingLaws.{beside_shr_laws, nothing_shr_laws}
 use denote.Shares.{Shares-less}
 use denote.Struct.Lending.{lent_at, lent_at_shr_laws, Lends-lies, Lends-first, Lends, Lends-both, Lends-nothing}
-use Rattle.packet_chain.specs.contracts.node.Node.{the_row as N}
-use Rattle.packet_chain.proofs.node.Node.TheLaws.{the_row_laws as L}
+use Rattle.packet_chain.specs.contracts.node.ChainNode.{the_row as N}
+use Rattle.packet_chain.proofs.node.ChainNode.TheLaws.{the_row_laws as L}
 use Rattle.packet_chain.specs.Links.{Link}
 use Rattle.packet_chain.specs.Ownership.{freeing, link_owns, link_lent, nodes_own, nodes_lent}
 

@@ -29,15 +29,15 @@ use Rattle.std_alloc.specs.Box.Ownership.{box_owns}
 use Rattle.std_heap.specs.contracts.Global as Heap
 use Rattle.std_heap.specs.contracts.GlobalAllocator.TheImpl.{ghosts, dict}
 use Rattle.std_heap.proofs.Global.TheLaws as heap_laws
-use Rattle.packet_chain.specs.declared.node.Node.{Node}
-use Rattle.packet_chain.specs.contracts.node.Node as N
-use Rattle.packet_chain.proofs.node.Node.TheLaws as node
-use Rattle.packet_chain.specs.declared.node.Place.{Place}
-use Rattle.packet_chain.specs.contracts.node.Place as Pl
+use Rattle.packet_chain.specs.declared.node.ChainNode.{ChainNode}
+use Rattle.packet_chain.specs.contracts.node.ChainNode as N
+use Rattle.packet_chain.proofs.node.ChainNode.TheLaws as node
+use Rattle.packet_chain.specs.declared.node.NodePointer.{NodePointer}
+use Rattle.packet_chain.specs.contracts.node.NodePointer as Pl
 use Rattle.packet_chain.specs.declared.loose.Loose.{Loose}
 use Rattle.packet_chain.specs.contracts.loose.Loose as Lo
-use Rattle.packet_chain.specs.declared.nodes.Nodes.{Nodes}
-use Rattle.packet_chain.specs.contracts.nodes.Nodes as Ns
+use Rattle.packet_chain.specs.declared.nodes.ChainNodes.{ChainNodes}
+use Rattle.packet_chain.specs.contracts.nodes.ChainNodes as Ns
 use Rattle.packet_chain.specs.Links.{Link}
 use Rattle.packet_chain.specs.Ownership.{freeing, link_owns, nodes_own, nodes_lent}
 use Rattle.packet_chain.proofs.Linked.{link_at}
@@ -50,7 +50,7 @@ heap = record { row = Heap.the_row; laws = heap_laws.the_row_laws; g = ghosts; d
 abbrev pub nodes_val : Ptr → Ptr → Val
 nodes_val h t = vstruct (vcons (ptr_val h) (vcons (ptr_val t) vnil))
 
-abbrev pub node_val : Node → Val
+abbrev pub node_val : ChainNode → Val
 node_val = val N.the_type node.the_laws
 
 abbrev pub loose_val : Ptr → Val → Val
@@ -60,16 +60,16 @@ abbrev pub place_val : Ptr → Val
 place_val p = vstruct (vcons (ptr_val p) vnil)
 
 -- the machine's value is one of the node's
-abbrev pub Fits : Node → Type 0
+abbrev pub Fits : ChainNode → Type 0
 Fits n = Is N.the_row n (node_val n ∷ [])
 
-pub Fits-leading : (n : Node) (p : Ptr) → Fits n → Fits (record n { next = p })
+pub Fits-leading : (n : ChainNode) (p : Ptr) → Fits n → Fits (record n { next = p })
 Fits-leading n p f = owes N.the_type node.the_laws (record n { next = p }) (refl, (owed N.the_type node.the_laws n (node_val n ∷ []) f).1)
 
-pub Fits-stamped : (n : Node) (t : ℕ) → t < 2 ^ 64 → Fits n → Fits (record n { stamp = t })
+pub Fits-stamped : (n : ChainNode) (t : ℕ) → t < 2 ^ 64 → Fits n → Fits (record n { stamp = t })
 Fits-stamped n t small f = let o = owed N.the_type node.the_laws n (node_val n ∷ []) f in owes N.the_type node.the_laws (record n { stamp = t }) (o.0, (o.1.0, ((refl, small), tt)))
 
-abbrev pub node_at : ℕ → ℕ → Node → Fml
+abbrev pub node_at : ℕ → ℕ → ChainNode → Fml
 node_at b o n = fat full_share (lone N.the_row.mir) b o (node_val n)
 
 -- the type of a block
@@ -87,13 +87,13 @@ place_typed p = as_fields (ty_ptr ∷ []) (ptr_val p ∷ []) (Ptr-Good p, tt)
 
 module _ {M : Type 1} {𝓤 : Ura M} {𝓛 : Logic 𝓤} {K : Type 0} {Γ : List (Item 𝓤)} {G : Goal 𝓤 𝓛.H} where
   -- the two pointers are taken apart
-  pub nodes_had : K → (d : Nodes) (vs : List Val) → (vs ≡ nodes_val d.head d.tail ∷ [] → Seq K 𝓛 (‵ (nodes_own d.links) ∷ Γ) G) → Seq K 𝓛 (‵ (Ns.the_row.own_val d vs) ∷ Γ) G
+  pub nodes_had : K → (d : ChainNodes) (vs : List Val) → (vs ≡ nodes_val d.head d.tail ∷ [] → Seq K 𝓛 (‵ (nodes_own d.links) ∷ Γ) G) → Seq K 𝓛 (‵ (Ns.the_row.own_val d vs) ∷ Γ) G
   nodes_had t d vs k =
       fsplit t $ fpick t (λ vss. fsplit t $ feq_l t (λ all. fsplit t $ feq_l t (λ e. fsplit t $ feq_l t (λ f. drop t $
       k (all ∙ (λ i. vstruct (of_list (e i ++ (f i ++ []))) ∷ []))))))
 
   -- and put together
-  pub nodes_made : K → (d : Nodes) → Step K 𝓛 (‵ (Ns.the_row.own_val d (nodes_val d.head d.tail ∷ [])) ∷ Γ) G (‵ (nodes_own d.links) ∷ Γ) G
+  pub nodes_made : K → (d : ChainNodes) → Step K 𝓛 (‵ (Ns.the_row.own_val d (nodes_val d.head d.tail ∷ [])) ∷ Γ) G (‵ (nodes_own d.links) ∷ Γ) G
   nodes_made t d = step (λ s.
       let v = nodes_val d.head d.tail in
       nothing t $ feq_i t (List Val) (ptr_val d.tail ∷ []) (ptr_val d.tail ∷ []) refl $ fjoin t $
@@ -101,20 +101,20 @@ module _ {M : Type 1} {𝓤 : Ura M} {𝓛 : Logic 𝓤} {K : Type 0} {Γ : List
       fpack t (Valss (shape Ns.the_type).fields) (within (shape Ns.the_type) (d.head, (d.tail, tt)) (v ∷ [])) (ptr_val d.head ∷ [], (ptr_val d.tail ∷ [], tt)) $ fjoin t $ s)
 
   -- a node's memory, with its value in it
-  pub node_out : K → (n : Node) (b o : ℕ) → (Fits n → Seq K 𝓛 (‵ (node_at b o n) ∷ Γ) G) → Seq K 𝓛 (‵ (part_at N.the_row full_share n b o) ∷ Γ) G
+  pub node_out : K → (n : ChainNode) (b o : ℕ) → (Fits n → Seq K 𝓛 (‵ (node_at b o n) ∷ Γ) G) → Seq K 𝓛 (‵ (part_at N.the_row full_share n b o) ∷ Γ) G
   node_out t n b o k =
       use1 𝓛 (some (λ (v : Val). ‵ (fat full_share (lone N.the_row.mir) b o v) ⊛ ‵ (N.the_row.own_val n (v ∷ [])))) (part_out 𝓛 N.the_row refl full_share n b o) $ pick t (λ v. split t $ move t (1 ∷ []) $
       facts t N.the_row (Is N.the_row) (shows 𝓛 N.the_row) n (v ∷ []) (λ is.
       let e = tells N.the_type node.the_laws n (v ∷ []) is in
       rewrite t 0 (λ (u : Val). ‵ (fat full_share (lone N.the_row.mir) b o u)) (ap only e) refl $ k (subst (Is N.the_row n) e is)))
 
-  pub node_in : K → (n : Node) (b o : ℕ) → Fits n → Step K 𝓛 (‵ (part_at N.the_row full_share n b o) ∷ Γ) G (‵ (node_at b o n) ∷ Γ) G
+  pub node_in : K → (n : ChainNode) (b o : ℕ) → Fits n → Step K 𝓛 (‵ (part_at N.the_row full_share n b o) ∷ Γ) G (‵ (node_at b o n) ∷ Γ) G
   node_in t n b o f = step (λ s.
       owned t N.the_row (Is N.the_row) (makes N.the_type node.the_plain 𝓛) n (node_val n ∷ []) f $ move t (1 ∷ 0 ∷ []) $
       use2 𝓛 (‵ (part_at N.the_row full_share n b o)) (part_in 𝓛 N.the_row refl full_share n b o (node_val n)) $ s)
 
   -- the node is given up, and its memory is empty
-  pub emptied : K → (n : Node) (b o : ℕ) → Step K 𝓛 (‵ (froom (bare (lone N.the_row.mir)) b o) ∷ Γ) G (‵ (node_at b o n) ∷ Γ) G
+  pub emptied : K → (n : ChainNode) (b o : ℕ) → Step K 𝓛 (‵ (froom (bare (lone N.the_row.mir)) b o) ∷ Γ) G (‵ (node_at b o n) ∷ Γ) G
   emptied t n b o = step (λ s.
       use1 𝓛 (‵ (froom (lone N.the_row.mir) b o)) (𝓛.laws.at_room (lone N.the_row.mir) b o (node_val n)) $ as_raw t (lone N.the_row.mir) b o $ s)
 
@@ -148,21 +148,21 @@ module _ {M : Type 1} {𝓤 : Ura M} {𝓛 : Logic 𝓤} {K : Type 0} {Γ : List
       node_in t l.1 b o f $ fjoin t $ rewrite t 0 (λ (p : Ptr). ‵ (box_owns freeing N.the_row p l.1)) (sym at) refl $ s)
 
   -- a place is its pointer
-  pub place_had : K → (d : Place) (vs : List Val) → (vs ≡ place_val d.at ∷ [] → Seq K 𝓛 Γ G) → Seq K 𝓛 (‵ (Pl.the_row.own_val d vs) ∷ Γ) G
+  pub place_had : K → (d : NodePointer) (vs : List Val) → (vs ≡ place_val d.at ∷ [] → Seq K 𝓛 Γ G) → Seq K 𝓛 (‵ (Pl.the_row.own_val d vs) ∷ Γ) G
   place_had t d vs k = fpick t (λ vss. fsplit t $ feq_l t (λ all. fsplit t $ feq_l t (λ e. drop t $ k (all ∙ (λ i. vstruct (of_list (e i ++ [])) ∷ [])))))
 
-  pub place_made : K → (d : Place) → Step K 𝓛 (‵ (Pl.the_row.own_val d (place_val d.at ∷ [])) ∷ Γ) G Γ G
+  pub place_made : K → (d : NodePointer) → Step K 𝓛 (‵ (Pl.the_row.own_val d (place_val d.at ∷ [])) ∷ Γ) G Γ G
   place_made t d = step (λ s.
       let v = place_val d.at in
       nothing t $ feq_i t (List Val) (ptr_val d.at ∷ []) (ptr_val d.at ∷ []) refl $ fjoin t $ feq_i t (List Val) (v ∷ []) (v ∷ []) refl $ fjoin t $
       fpack t (Valss (declared.shape Pl.the_type).fields) (within (declared.shape Pl.the_type) (d.at, tt) (v ∷ [])) (ptr_val d.at ∷ [], tt) $ s)
 
   -- what a `&` to the nodes shows: the first pointer
-  pub head_shown : K → {κ : Lft} (d : Nodes) (b o : ℕ) → Step K 𝓛 (‵ (hidden_shr RawPtr κ d.head b (o + 0)) ∷ Γ) G (‵ (hidden_shr Ns.the_row κ d b o) ∷ Γ) G
+  pub head_shown : K → {κ : Lft} (d : ChainNodes) (b o : ℕ) → Step K 𝓛 (‵ (hidden_shr RawPtr κ d.head b (o + 0)) ∷ Γ) G (‵ (hidden_shr Ns.the_row κ d b o) ∷ Γ) G
   head_shown t d b o = step (λ s. unhide t $ fsplit t $ move t (1 ∷ []) $ drop t $ fsplit t $ move t (1 ∷ []) $ drop t $ fsplit t $ move t (1 ∷ []) $ drop t $ hide t $ s)
 
   -- and a node
-  pub node_shown : K → {κ : Lft} (d : Nodes) (b o i : ℕ) (p : i < length d.links)
+  pub node_shown : K → {κ : Lft} (d : ChainNodes) (b o i : ℕ) (p : i < length d.links)
       → ((nb no : ℕ) → (link_at d.links i p).0.0 ≡ block_ptr nb no → Seq K 𝓛 (‵ (hidden_shr N.the_row κ (link_at d.links i p).0.1 nb no) ∷ Γ) G) → Seq K 𝓛 (‵ (hidden_shr Ns.the_row κ d b o) ∷ Γ) G
   node_shown t {κ} d b o i p k =
       let l : Link = (link_at d.links i p).0 in

@@ -1,12 +1,12 @@
 -- How the nodes of a chain lead to one another.
 use Rattle.std.specs.Prelude.{◌≡◌, ℕ, List, [], ◌∷◌, map, slice_index_or}
 use denote.RawPtr.{Ptr, null_ptr}
-use Rattle.packet_chain.specs.declared.node.Node.{Node}
+use Rattle.packet_chain.specs.declared.node.ChainNode.{ChainNode}
 use Rattle.packet_chain.specs.Stamped.{Stamped}
 
 -- where a node lies, and the node
 abbrev pub Link : Type 0
-Link = Ptr × Node
+Link = Ptr × ChainNode
 
 -- the packet and the stamp in a node
 abbrev pub stamped_in : Link → Stamped

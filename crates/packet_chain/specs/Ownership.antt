@@ -7,7 +7,7 @@ use denote.Sharing.{nothing, beside}
 use denote.Struct.Lending.{lent_at}
 use Rattle.std_alloc.specs.Box.Ownership.{box_owns}
 use Rattle.std_heap.specs.contracts.GlobalAllocator.TheImpl.{ghosts}
-use Rattle.packet_chain.specs.contracts.node.Node.{the_row}
+use Rattle.packet_chain.specs.contracts.node.ChainNode.{the_row}
 use Rattle.packet_chain.specs.Links.{Link}
 
 -- the right to free a block of the heap

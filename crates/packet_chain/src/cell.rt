@@ -2,7 +2,7 @@
 ghost use Rattle.std.specs.Prelude.{◌≡◌, IfOk, IfErr};
 
 use crate::loose::Loose;
-use crate::node::Node;
+use crate::node::ChainNode;
 use crate::packet::Packet;
 use core::mem::replace_with;
 use std::alloc::{AllocFailed, Global};
@@ -40,7 +40,7 @@ impl PacketCell {
             Ok(room) => {
                 let next = ptr::null_mut();
                 let stamp = 0;
-                let node = Node {
+                let node = ChainNode {
                     next,
                     packet,
                     stamp,
@@ -113,7 +113,7 @@ fn repacked(cell: Loose, packet: Packet) -> (Loose, ())
 {
     let stamp = cell.node().stamp;
     let next = ptr::null_mut();
-    let node = Node {
+    let node = ChainNode {
         next,
         packet,
         stamp,

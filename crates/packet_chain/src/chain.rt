@@ -9,7 +9,7 @@ ghost use Rattle.packet_chain.specs.PacketBytes.{IsPacketBytes};
 
 use crate::cell::PacketCell;
 use crate::iter::Iter;
-use crate::nodes::Nodes;
+use crate::nodes::ChainNodes;
 use crate::packet::Packet;
 use std::alloc::{AllocError, Global};
 use std::marker::Model;
@@ -17,7 +17,7 @@ use std::mem::replace;
 
 /// Cells in a row, which come out in the order in which they went in. At most 2^50.
 pub struct PacketChain {
-    nodes: Nodes,
+    nodes: ChainNodes,
     len: usize,
     bytes: u64,
     alloc: Global,
@@ -64,7 +64,7 @@ impl PacketChain {
         ensures { result ≡ [] }
     {
         PacketChain {
-            nodes: Nodes::new(),
+            nodes: ChainNodes::new(),
             len: 0,
             bytes: 0,
             alloc,
@@ -92,7 +92,7 @@ impl PacketChain {
         ensures { self.new ≡ self.old ++ cell ∷ [] }
     {
         let bytes = bytes_in(cell.packet());
-        let one = Nodes::one(cell.into_node());
+        let one = ChainNodes::one(cell.into_node());
         self.attach(one, 1, bytes);
     }
 
@@ -103,7 +103,7 @@ impl PacketChain {
         if self.len == 0 {
             return None;
         }
-        let nodes = replace(&mut self.nodes, Nodes::new());
+        let nodes = replace(&mut self.nodes, ChainNodes::new());
         let (cell, behind) = nodes.pop(self.len, self.alloc);
         self.nodes = behind;
         self.len -= 1;
@@ -120,7 +120,7 @@ impl PacketChain {
         if other.len == 0 {
             return;
         }
-        let behind = replace(&mut other.nodes, Nodes::new());
+        let behind = replace(&mut other.nodes, ChainNodes::new());
         self.attach(behind, other.len, other.bytes);
         other.len = 0;
         other.bytes = 0;
@@ -156,7 +156,7 @@ impl PacketChain {
     }
 
     // Links the nodes in behind the last.
-    fn attach(&mut self, behind: Nodes, len: usize, bytes: u64)
+    fn attach(&mut self, behind: ChainNodes, len: usize, bytes: u64)
         requires some { 0 < len }
         requires counted { IsCounted len bytes (stamped_of behind.links) }
         requires room { length self.old + len ≤ 2 ^ 50 }
@@ -166,7 +166,7 @@ impl PacketChain {
         if empty {
             self.nodes = behind;
         } else {
-            let front = replace(&mut self.nodes, Nodes::new());
+            let front = replace(&mut self.nodes, ChainNodes::new());
             self.nodes = front.join(behind);
         }
         self.len += len;

@@ -3,16 +3,16 @@ ghost use Rattle.std.specs.Prelude.{◌≡◌, ◌+◌, ◌^◌, ◌<◌, ◌≤
 ghost use Rattle.std.specs.Iterator.{YieldsFirst, item_count};
 ghost use Rattle.packet_chain.specs.Links.{stamped_of};
 
-use crate::node::Place;
-use crate::nodes::Nodes;
+use crate::node::NodePointer;
+use crate::nodes::ChainNodes;
 use crate::packet::Packet;
 use std::marker::Model;
 
 /// The packets of a chain with their stamps, from the front, seen as the list of those that are left.
 #[derive(Drop)]
 pub struct Iter<'a> {
-    nodes: &'a Nodes,
-    next: Place,
+    nodes: &'a ChainNodes,
+    next: NodePointer,
     from: usize,
     left: usize,
 }
@@ -30,7 +30,7 @@ impl<'a> Model for Iter<'a> {
 }
 
 impl<'a> Iter<'a> {
-    pub(crate) fn all(nodes: &'a Nodes, len: usize) -> Iter<'a>
+    pub(crate) fn all(nodes: &'a ChainNodes, len: usize) -> Iter<'a>
         requires { (len ≡ length nodes.now.links) × (len ≤ 2 ^ 50) }
         ensures { result ≡ stamped_of nodes.now.links }
     {
@@ -55,7 +55,7 @@ impl<'a> Iterator for Iter<'a> {
             return None;
         }
         let node = *self.nodes.node(self.next, self.from);
-        self.next = Place { at: node.next };
+        self.next = NodePointer { at: node.next };
         self.from += 1;
         self.left -= 1;
         Some((node.packet, node.stamp))

@@ -1,18 +1,18 @@
 //! A node in a block of its own that is in no chain.
 ghost use Rattle.std.specs.Prelude.{◌≡◌};
-ghost use Rattle.packet_chain.specs.declared.node.Node.{Node};
+ghost use Rattle.packet_chain.specs.declared.node.ChainNode.{ChainNode};
 ghost use Rattle.packet_chain.specs.Ownership.{link_owns, link_lent};
 
-use crate::node::Node;
+use crate::node::ChainNode;
 use std::alloc::Global;
 use std::marker::{Model, Send, Sync};
 use std_alloc::room::Vacant;
 
 /// The node at `at`, and the right to free its block.
 pub struct Loose {
-    pub(crate) at: *mut Node,
+    pub(crate) at: *mut ChainNode,
     pub(crate) alloc: Global,
-    pub(crate) ghost node: { Node },
+    pub(crate) ghost node: { ChainNode },
 }
 
 impl Model for Loose {
@@ -27,7 +27,7 @@ unsafe impl Sync for Loose {}
 
 impl Loose {
     /// Puts the node into the block.
-    pub(crate) fn fill(room: Vacant<Node, Global>, node: Node) -> Loose
+    pub(crate) fn fill(room: Vacant<ChainNode, Global>, node: ChainNode) -> Loose
         ensures { result.node ≡ node }
     {
         let Vacant { ptr, alloc } = room;
@@ -38,7 +38,7 @@ impl Loose {
     }
 
     /// Gives the node up, and its block.
-    pub(crate) fn empty(self) -> Vacant<Node, Global> {
+    pub(crate) fn empty(self) -> Vacant<ChainNode, Global> {
         let Loose { at, alloc } = self;
         Vacant { ptr: at, alloc }
     }
@@ -54,7 +54,7 @@ impl Loose {
         Loose { at, alloc }
     }
 
-    pub(crate) fn node(&self) -> &Node
+    pub(crate) fn node(&self) -> &ChainNode
         ensures { result.now ≡ self.now.node }
     {
         unsafe { &*self.at }

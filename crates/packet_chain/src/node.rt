@@ -3,9 +3,9 @@ use crate::packet::Packet;
 
 /// A packet in a chain, and the way to the one behind it.
 #[derive(Clone, Copy)]
-pub struct Node {
+pub struct ChainNode {
     /// The node behind this one. Of a chain's last node it means nothing.
-    pub(crate) next: *mut Node,
+    pub(crate) next: *mut ChainNode,
     /// The packet.
     pub(crate) packet: Packet,
     /// Its stamp, a time in nanoseconds.
@@ -14,7 +14,7 @@ pub struct Node {
 
 /// Where a node lies. It owns nothing.
 #[derive(Clone, Copy)]
-pub struct Place {
+pub struct NodePointer {
     /// The node's address.
-    pub(crate) at: *mut Node,
+    pub(crate) at: *mut ChainNode,
 }

@@ -5,80 +5,80 @@ ghost use Rattle.packet_chain.specs.Ownership.{nodes_own, nodes_lent};
 
 use crate::cell::PacketCell;
 use crate::loose::Loose;
-use crate::node::{Node, Place};
+use crate::node::{ChainNode, NodePointer};
 use std::alloc::Global;
 use std::marker::{Model, Send, Sync};
 use std::ptr;
 
 /// The nodes from `head` to `tail`. With none, both are null.
-pub struct Nodes {
-    head: *mut Node,
-    tail: *mut Node,
+pub struct ChainNodes {
+    head: *mut ChainNode,
+    tail: *mut ChainNode,
     pub(crate) ghost links: { List Link },
     ghost linked: { ∥ IsLinked head tail links ∥₁ },
 }
 
-impl Model for Nodes {
+impl Model for ChainNodes {
     ghost also_owns = { λ n. nodes_own n.links };
 
     ghost also_shares = { λ n _ κ. nodes_lent n.links κ };
 }
 
 // It frees nothing, so each node is taken out first.
-impl Drop for Nodes {
+impl Drop for ChainNodes {
     fn drop(self)
         requires { self.links ≡ [] }
     {
-        let Nodes { head: _, tail: _ } = self;
+        let ChainNodes { head: _, tail: _ } = self;
     }
 }
 
-unsafe impl Send for Nodes {}
+unsafe impl Send for ChainNodes {}
 
-unsafe impl Sync for Nodes {}
+unsafe impl Sync for ChainNodes {}
 
-impl Nodes {
-    pub(crate) fn new() -> Nodes
+impl ChainNodes {
+    pub(crate) fn new() -> ChainNodes
         ensures { result.links ≡ [] }
     {
-        Nodes {
+        ChainNodes {
             head: ptr::null_mut(),
             tail: ptr::null_mut(),
         }
     }
 
     /// The node alone.
-    pub(crate) fn one(node: Loose) -> Nodes
+    pub(crate) fn one(node: Loose) -> ChainNodes
         ensures { result.links ≡ (node.at, node.node) ∷ [] }
     {
         let Loose { at, alloc: _ } = node;
-        Nodes { head: at, tail: at }
+        ChainNodes { head: at, tail: at }
     }
 
     /// Links the other's nodes in behind the last.
-    pub(crate) fn join(self, other: Nodes) -> Nodes
+    pub(crate) fn join(self, other: ChainNodes) -> ChainNodes
         requires { (0 < length self.links) × (0 < length other.links) }
         ensures { stamped_of result.links ≡ stamped_of self.links ++ stamped_of other.links }
     {
-        let Nodes { head, tail } = self;
-        let Nodes {
+        let ChainNodes { head, tail } = self;
+        let ChainNodes {
             head: behind,
             tail: end,
         } = other;
         unsafe {
             (*tail).next = behind;
         }
-        Nodes { head, tail: end }
+        ChainNodes { head, tail: end }
     }
 
     /// Takes the first of several nodes out, and gives it and the others.
-    pub(crate) fn cut_front(self, alloc: Global) -> (Loose, Nodes)
+    pub(crate) fn cut_front(self, alloc: Global) -> (Loose, ChainNodes)
         requires { 1 < length self.links }
         ensures { self.links ≡ (result.0.at, result.0.node) ∷ result.1.links }
     {
-        let Nodes { head, tail } = self;
+        let ChainNodes { head, tail } = self;
         let next = unsafe { (*head).next };
-        (Loose { at: head, alloc }, Nodes { head: next, tail })
+        (Loose { at: head, alloc }, ChainNodes { head: next, tail })
     }
 
     /// The only node.
@@ -86,18 +86,18 @@ impl Nodes {
         requires { length self.links ≡ 1 }
         ensures { self.links ≡ (result.at, result.node) ∷ [] }
     {
-        let Nodes { head, tail: _ } = self;
+        let ChainNodes { head, tail: _ } = self;
         Loose { at: head, alloc }
     }
 
-    pub(crate) fn head(&self) -> Place
+    pub(crate) fn head(&self) -> NodePointer
         ensures { result.at ≡ place_of self.now.links 0 }
     {
-        Place { at: self.head }
+        NodePointer { at: self.head }
     }
 
     /// The node at a place, which is that of the `i`-th. Only the proof needs `i`.
-    pub(crate) fn node(&self, place: Place, i: usize) -> &Node
+    pub(crate) fn node(&self, place: NodePointer, i: usize) -> &ChainNode
         requires { (i < length self.now.links) × (place.at ≡ place_of self.now.links i) }
         ensures { slice_get self.now.links i ≡ Some (place.at, result.now) }
     {
@@ -105,13 +105,13 @@ impl Nodes {
     }
 
     /// Takes the first of `len` nodes out, as a cell, and gives the others.
-    pub(crate) fn pop(self, len: usize, alloc: Global) -> (PacketCell, Nodes)
+    pub(crate) fn pop(self, len: usize, alloc: Global) -> (PacketCell, ChainNodes)
         requires { (len ≡ length self.links) × (0 < len) }
         ensures { stamped_of self.links ≡ result.0 ∷ stamped_of result.1.links }
     {
         if len == 1 {
             let front = self.into_only(alloc);
-            return (PacketCell { node: front }, Nodes::new());
+            return (PacketCell { node: front }, ChainNodes::new());
         }
         let (front, behind) = self.cut_front(alloc);
         (PacketCell { node: front }, behind)

@@ -22,13 +22,13 @@ use Rattle.port.specs.Laws.{queue_drop_in, DropTailDropsNothingThatEntered, Ever
 use Rattle.port.proofs.Cases.{counted_one, after_tests, offered_by_case, queue_stays}
 
 -- what is told to be dropped at a taking is what the queue drops
-drops_told : (now : ℕ) (port : PortState) (reason : TakeDrop) (dropped : List Stamped) (given : Option Stamped) → filter_map queue_drop_in (map (dropped_for port.link reason) dropped ++ (begun now port given).acts) ≡ map (λ cell. cell.0) dropped
-drops_told now port reason [] None = refl
-drops_told now port reason [] (Some cell) = refl
-drops_told now port reason (c ∷ dropped) given = ap (λ ps. c.0 ∷ ps) (drops_told now port reason dropped given)
+drops_reported : (now : ℕ) (port : PortState) (reason : TakeDrop) (dropped : List Stamped) (given : Option Stamped) → filter_map queue_drop_in (map (dropped_for port.link reason) dropped ++ (begun now port given).acts) ≡ map (λ cell. cell.0) dropped
+drops_reported now port reason [] None = refl
+drops_reported now port reason [] (Some cell) = refl
+drops_reported now port reason (c ∷ dropped) given = ap (λ ps. c.0 ∷ ps) (drops_reported now port reason dropped given)
 
 drops_of_taking : (now : ℕ) (port : PortState) → filter_map queue_drop_in (taken now port).acts ≡ map (λ cell. cell.0) (taken_from port.queue now).dropped
-drops_of_taking now port = let take = taken_from port.queue now in drops_told now (record port { queue = take.queue }) (take_reason port.queue) take.dropped take.given
+drops_of_taking now port = let take = taken_from port.queue now in drops_reported now (record port { queue = take.queue }) (take_reason port.queue) take.dropped take.given
 
 -- drop-tail: the queue stays one, and nothing that entered is dropped
 record IsDropTailStep (step : PortStep) : Type 0 where
@@ -91,8 +91,8 @@ codel_taking now i s =
 pub every_codel_drop_has_a_cause : EveryCodelDropHasACause
 every_codel_drop_has_a_cause now i port s is =
     let P : Packet → Type 0 = λ packet. IsSomeAnd (slice_get s.fifo.waiting i) (λ cell. (cell.0 ≡ packet) × IsForCause s now (bytes_of (drop (i + 1) s.fifo.waiting)) cell) in
-    let told : filter_map queue_drop_in (taken now port).acts ≡ map (λ cell. cell.0) (taken_from (Codel s) now).dropped = drops_of_taking now port ∙ ap (λ q. map (λ (cell : Stamped). cell.0) (taken_from q now).dropped) is in
-    subst (λ ps. IfSome (slice_get ps i) P) (sym told) (packet_at (taken_from (Codel s) now).dropped i P (codel_taking now i s))
+    let reported : filter_map queue_drop_in (taken now port).acts ≡ map (λ cell. cell.0) (taken_from (Codel s) now).dropped = drops_of_taking now port ∙ ap (λ q. map (λ (cell : Stamped). cell.0) (taken_from q now).dropped) is in
+    subst (λ ps. IfSome (slice_get ps i) P) (sym reported) (packet_at (taken_from (Codel s) now).dropped i P (codel_taking now i s))
 
 -- the last packet that waits is never dropped
 last_stays : (q : Queue) (now : ℕ) (cell : Stamped) (cells : List Stamped) → waiting_in q ≡ cell ∷ cells → length (taken_from q now).dropped ≤ length cells

@@ -17,14 +17,14 @@ abbrev pub AllEntered : List (Packet × Fate) → Type 0
 AllEntered = AllByRecursion (λ f. has_entered f ≡ true)
 
 -- those that waited at first and those that were offered, each list with its fates; of the first all have entered
-pub record IsTale (waiting offered : List Packet) (told : List (Packet × Fate)) : Type 0 where
+pub record IsTale (waiting offered : List Packet) (reported : List (Packet × Fate)) : Type 0 where
   pub firsts : List (Packet × Fate)
   pub others : List (Packet × Fate)
   pub waited : map packet_in firsts ≡ waiting
   pub came : map packet_in others ≡ offered
   pub in_before : AllEntered firsts
-  pub refused : filter was_refused others ≡ filter was_refused told
-  pub entered : firsts ++ filter has_entered others ≡ filter has_entered told
+  pub refused : filter was_refused others ≡ filter was_refused reported
+  pub entered : firsts ++ filter has_entered others ≡ filter has_entered reported
 
 pub all_kept : (fs : List (Packet × Fate)) → AllEntered fs → filter has_entered fs ≡ fs
 all_kept [] all = refl
@@ -51,27 +51,27 @@ ends fs all = record {
 }
 
 -- a packet is offered and refused
-pub refuses : (f : Packet × Fate) (waiting offered : List Packet) (told : List (Packet × Fate)) → has_entered f ≡ false → IsTale waiting offered told → IsTale waiting (f.0 ∷ offered) (f ∷ told)
-refuses f waiting offered told out tale = record {
+pub refuses : (f : Packet × Fate) (waiting offered : List Packet) (reported : List (Packet × Fate)) → has_entered f ≡ false → IsTale waiting offered reported → IsTale waiting (f.0 ∷ offered) (f ∷ reported)
+refuses f waiting offered reported out tale = record {
   firsts = tale.firsts;
   others = f ∷ tale.others;
   waited = tale.waited;
   came = ap (λ ps. f.0 ∷ ps) tale.came;
   in_before = tale.in_before;
-  refused = ap (λ b. cond (not b) (f ∷ filter was_refused tale.others) (filter was_refused tale.others)) out ∙ ap (λ fs. f ∷ fs) tale.refused ∙ sym (ap (λ b. cond (not b) (f ∷ filter was_refused told) (filter was_refused told)) out);
-  entered = ap (λ b. tale.firsts ++ cond b (f ∷ filter has_entered tale.others) (filter has_entered tale.others)) out ∙ tale.entered ∙ sym (ap (λ b. cond b (f ∷ filter has_entered told) (filter has_entered told)) out);
+  refused = ap (λ b. cond (not b) (f ∷ filter was_refused tale.others) (filter was_refused tale.others)) out ∙ ap (λ fs. f ∷ fs) tale.refused ∙ sym (ap (λ b. cond (not b) (f ∷ filter was_refused reported) (filter was_refused reported)) out);
+  entered = ap (λ b. tale.firsts ++ cond b (f ∷ filter has_entered tale.others) (filter has_entered tale.others)) out ∙ tale.entered ∙ sym (ap (λ b. cond b (f ∷ filter has_entered reported) (filter has_entered reported)) out);
 }
 
 -- some that waited leave
-pub leave : (fs : List (Packet × Fate)) (waiting offered : List Packet) (told : List (Packet × Fate)) → AllEntered fs → IsTale waiting offered told → IsTale (map packet_in fs ++ waiting) offered (fs ++ told)
-leave fs waiting offered told all tale = record {
+pub leave : (fs : List (Packet × Fate)) (waiting offered : List Packet) (reported : List (Packet × Fate)) → AllEntered fs → IsTale waiting offered reported → IsTale (map packet_in fs ++ waiting) offered (fs ++ reported)
+leave fs waiting offered reported all tale = record {
   firsts = fs ++ tale.firsts;
   others = tale.others;
   waited = map-append packet_in fs tale.firsts ∙ ap (λ ps. map packet_in fs ++ ps) tale.waited;
   came = tale.came;
   in_before = both_entered fs tale.firsts all tale.in_before;
-  refused = tale.refused ∙ sym (filter-append was_refused fs told ∙ ap (λ gs. gs ++ filter was_refused told) (none_refused fs all));
-  entered = append_assoc fs tale.firsts (filter has_entered tale.others) ∙ ap (λ gs. fs ++ gs) tale.entered ∙ sym (filter-append has_entered fs told ∙ ap (λ gs. gs ++ filter has_entered told) (all_kept fs all));
+  refused = tale.refused ∙ sym (filter-append was_refused fs reported ∙ ap (λ gs. gs ++ filter was_refused reported) (none_refused fs all));
+  entered = append_assoc fs tale.firsts (filter has_entered tale.others) ∙ ap (λ gs. fs ++ gs) tale.entered ∙ sym (filter-append has_entered fs reported ∙ ap (λ gs. gs ++ filter has_entered reported) (all_kept fs all));
 }
 
 -- the last of a list
@@ -106,8 +106,8 @@ split (f ∷ fs) (w ∷ waiting) packet e all =
     }
 
 -- a packet is offered and enters
-pub enters : (packet : Packet) (waiting offered : List Packet) (told : List (Packet × Fate)) → IsTale (waiting ++ packet ∷ []) offered told → IsTale waiting (packet ∷ offered) told
-enters packet waiting offered told tale =
+pub enters : (packet : Packet) (waiting offered : List Packet) (reported : List (Packet × Fate)) → IsTale (waiting ++ packet ∷ []) offered reported → IsTale waiting (packet ∷ offered) reported
+enters packet waiting offered reported tale =
     let s = split tale.firsts waiting packet tale.waited tale.in_before in
     record {
       firsts = s.front;

@@ -15,13 +15,13 @@ pub data Fate : Type 0 where
   Send : Fate
   Wait : Fate
 
-abbrev pub told_by : Act → Packet × Fate
-told_by (Tx link packet) = (packet, Send)
-told_by (Dropped link reason packet) = (packet, Drop reason)
+abbrev pub reported_by : Act → Packet × Fate
+reported_by (Tx link packet) = (packet, Send)
+reported_by (Dropped link reason packet) = (packet, Drop reason)
 
 -- what the acts tell, in their order, and then the queue
-abbrev pub told : History → List (Packet × Fate)
-told h = map told_by h.acts ++ map (λ cell. (cell.0, Wait)) (waiting_in h.port.queue)
+abbrev pub reported : History → List (Packet × Fate)
+reported h = map reported_by h.acts ++ map (λ cell. (cell.0, Wait)) (waiting_in h.port.queue)
 
 -- it was let into the queue: neither lost nor dropped as the queue was full
 abbrev pub has_entered : Packet × Fate → Bool
@@ -32,5 +32,5 @@ has_entered (packet, fate) = true
 -- these are the packets that waited and those that were offered, each with one fate; those that were refused are in the order in which the acts tell so, and those that entered are in the order in which they left, and then as they wait
 pub record AreFates (port : PortState) (calls : List Call) (fates : List (Packet × Fate)) : Type 0 where
   pub each_once : map (λ f. f.0) fates ≡ map (λ cell. cell.0) (waiting_in port.queue) ++ offered_in calls
-  pub refused : filter (λ f. not (has_entered f)) fates ≡ filter (λ f. not (has_entered f)) (told (history port calls))
-  pub entered : filter has_entered fates ≡ filter has_entered (told (history port calls))
+  pub refused : filter (λ f. not (has_entered f)) fates ≡ filter (λ f. not (has_entered f)) (reported (history port calls))
+  pub entered : filter has_entered fates ≡ filter has_entered (reported (history port calls))

@@ -44,8 +44,8 @@ pub record PortStep : Type 0 where
   pub acts : List Act
 
 -- before anything was offered to it a link is idle
-abbrev pub opening_port : ℕ → ℕ → ℕ → List ℕ → Queue → PortState
-opening_port link rate delay lose queue = record {
+abbrev pub initial_port : ℕ → ℕ → ℕ → List ℕ → Queue → PortState
+initial_port link rate delay lose queue = record {
   link = link;
   rate = rate;
   delay = delay;

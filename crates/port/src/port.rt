@@ -5,7 +5,7 @@ ghost use Rattle.sim_time.specs.Moment.{IsMoment};
 ghost use Rattle.packet_chain.specs.declared.packet.Packet.{Packet};
 ghost use Rattle.aqm.specs.DropTail.{is_full};
 ghost use Rattle.aqm.specs.Queue.{fifo_of, may_drop, waiting_in};
-ghost use Rattle.port.specs.Port.{IsPort, opening_port, offered_one, taken, departed};
+ghost use Rattle.port.specs.Port.{IsPort, initial_port, offered_one, taken, departed};
 ghost use Rattle.port.specs.Laws.{NothingWaitsWhereIdle};
 ghost use Rattle.port.specs.Room.{drops_at, drops_at_offer};
 
@@ -70,7 +70,7 @@ impl Port {
         requires delay_most { delay ≤ 10000000000 }
         requires lose_rises { IsStrictlyIncreasing lose.items }
         requires lose_counts { All (λ number. 1 ≤ number) lose.items }
-        ensures { result ≡ opening_port link rate delay lose.items queue }
+        ensures { result ≡ initial_port link rate delay lose.items queue }
     {
         Port {
             link,

@@ -13,7 +13,7 @@ use Rattle.std.proofs.Math.Nat.{mul-div_cancel, mul-le-mul_right, mul-mod_left}
 use Rattle.reno_receiver.specs.declared.receiver.Receiver.TheInside.{Inside}
 use Rattle.reno_receiver.specs.Received.{ReceiverState, next_of, held_of, gaining, may_wait, is_received, IsReceived, IsWellFormed}
 use Rattle.reno_receiver.specs.LeastMissing.{IsLeastMissing}
-use Rattle.reno_receiver.specs.Kept.{set_of, in_order, kept_state, IsKept}
+use Rattle.reno_receiver.specs.Kept.{set_of, multiples_below, kept_state, IsKept}
 use Rattle.reno_receiver.specs.Place.{IsPlaceOf}
 use Rattle.reno_receiver.proofs.Next.{IsNextAt, next_of_at}
 use Rattle.reno_receiver.proofs.Laws.{whole_multiple, least_missing}
@@ -43,11 +43,11 @@ module _ (r : Inside) (kept : IsKept r) where
   next_is : r.next ≡ r.next / r.mss * r.mss
   next_is = whole_multiple r.next r.mss kept.next_multiple
 
-  received_kept : (q : ℕ) → is_received (kept_state r) q ≡ (list_any (λ x. q == x) (in_order r.mss r.next) || list_any (λ x. q == x) r.held)
-  received_kept q = contains_key-set_of (in_order r.mss r.next ++ r.held) q ∙ list_any-append (λ x. q == x) (in_order r.mss r.next) r.held
+  received_kept : (q : ℕ) → is_received (kept_state r) q ≡ (list_any (λ x. q == x) (multiples_below r.mss r.next) || list_any (λ x. q == x) r.held)
+  received_kept q = contains_key-set_of (multiples_below r.mss r.next ++ r.held) q ∙ list_any-append (λ x. q == x) (multiples_below r.mss r.next) r.held
 
   -- what comes in order is a multiple of mss below next
-  in_order_member : (q : ℕ) → list_any (λ x. q == x) (in_order r.mss r.next) ≡ true → (q + r.mss ≤ r.next) × (q % r.mss ≡ 0)
+  in_order_member : (q : ℕ) → list_any (λ x. q == x) (multiples_below r.mss r.next) ≡ true → (q + r.mss ≤ r.next) × (q % r.mss ≡ 0)
   in_order_member q is =
       let at = member_from r.mss 0 (r.next / r.mss) q is in
       let up : at.0 + 1 ≤ r.next / r.mss = omega arith in
@@ -65,7 +65,7 @@ module _ (r : Inside) (kept : IsKept r) where
   below_received q whole lt =
       let is : q ≡ q / r.mss * r.mss = whole_multiple q r.mss whole in
       elim (cases_lt (q / r.mss) (r.next / r.mss)) [
-        | inl below ↦ received_kept q ∙ or_left _ _ (ap (λ n. list_any (λ x. n == x) (in_order r.mss r.next)) is ∙ any_from r.mss (r.next / r.mss) (q / r.mss) below)
+        | inl below ↦ received_kept q ∙ or_left _ _ (ap (λ n. list_any (λ x. n == x) (multiples_below r.mss r.next)) is ∙ any_from r.mss (r.next / r.mss) (q / r.mss) below)
         | inr above ↦ absurd (omega (arith, next_is, is, mul-le-mul_right r.mss above))
       ]
 
@@ -90,9 +90,9 @@ module _ (r : Inside) (kept : IsKept r) where
   pub least_kept : IsLeastMissing (kept_state r) r.next
   least_kept = subst (IsLeastMissing (kept_state r)) next_of_kept (least_missing (kept_state r) kept.mss_least)
 
-  keys_kept : map.keys (kept_state r).received ≡ in_order r.mss r.next ++ r.held
+  keys_kept : map.keys (kept_state r).received ≡ multiples_below r.mss r.next ++ r.held
   keys_kept =
-      keys-set_of (0 * r.mss) (in_order r.mss r.next ++ r.held)
+      keys-set_of (0 * r.mss) (multiples_below r.mss r.next ++ r.held)
       (rises_from r.mss 0 (r.next / r.mss) r.held kept.mss_least (RisesFrom-lower ((0 + r.next / r.mss) * r.mss) (r.next + 1) r.held (omega (arith, next_is)) (rises_held r.mss r.next r.held kept.held_above)))
 
   low_enough : (0 + r.next / r.mss) * r.mss ≤ r.next + r.mss
@@ -102,7 +102,7 @@ module _ (r : Inside) (kept : IsKept r) where
   held_of_kept =
       ap (λ n. filter (nat_lt n) (map.keys (kept_state r).received)) next_of_kept
       ∙ ap (filter (nat_lt r.next)) keys_kept
-      ∙ filter-append (nat_lt r.next) (in_order r.mss r.next) r.held
+      ∙ filter-append (nat_lt r.next) (multiples_below r.mss r.next) r.held
       ∙ ap (λ l. l ++ filter (nat_lt r.next) r.held) (filter_from r.mss 0 (r.next / r.mss) r.next low_enough)
       ∙ filter_held r.mss r.next r.next r.held (omega arith) kept.held_above
 
@@ -110,7 +110,7 @@ module _ (r : Inside) (kept : IsKept r) where
   pub none_above_kept : list_all (λ x. nat_le x r.next) (map.keys (kept_state r).received) ≡ (length r.held == 0)
   none_above_kept =
       ap (list_all (λ x. nat_le x r.next)) keys_kept
-      ∙ list_all-append (λ x. nat_le x r.next) (in_order r.mss r.next) r.held
+      ∙ list_all-append (λ x. nat_le x r.next) (multiples_below r.mss r.next) r.held
       ∙ ap (λ b. b && list_all (λ x. nat_le x r.next) r.held) (all_from r.mss 0 (r.next / r.mss) r.next low_enough)
       ∙ none_below r.mss r.next r.next r.held (omega arith) kept.held_above
 
@@ -144,7 +144,7 @@ module _ (r : Inside) (kept : IsKept r) where
   unplaced q i low place = not_received q (omega arith) (absent r.mss q r.held i place.before place.after)
 
   pub hold_gains : (q i : ℕ) → kept_state record r { held = insert r.held i q } ≡ gaining (kept_state r) q
-  hold_gains q i = ap (λ s. record (kept_state r) { received = s }) (new_member (in_order r.mss r.next) r.held (insert r.held i q) q (IsPermutation-insert r.held i q))
+  hold_gains q i = ap (λ s. record (kept_state r) { received = s }) (new_member (multiples_below r.mss r.next) r.held (insert r.held i q) q (IsPermutation-insert r.held i q))
 
   module _ (run : ℕ) (is : IsRun r run) where
     after_run : (r.next + r.mss) + run * r.mss ≡ (r.next / r.mss + suc run) * r.mss
@@ -158,17 +158,17 @@ module _ (r : Inside) (kept : IsKept r) where
         let none : 0 + r.next / r.mss ≡ r.next / r.mss = omega arith in
         ap (λ n. from r.mss n (suc run)) none ∙ ap (λ n. n ∷ from r.mss (r.next / r.mss + 1) run) (sym next_is) ∙ ap (λ l. r.next ∷ l) (sym run_taken)
 
-    in_order_after : in_order r.mss ((r.next + r.mss) + run * r.mss) ≡ in_order r.mss r.next ++ r.next ∷ take run r.held
+    in_order_after : multiples_below r.mss ((r.next + r.mss) + run * r.mss) ≡ multiples_below r.mss r.next ++ r.next ∷ take run r.held
     in_order_after =
         ap (λ n. from r.mss 0 (n / r.mss)) after_run
         ∙ ap (from r.mss 0) (mul-div_cancel (r.next / r.mss + suc run) kept.mss_least)
         ∙ from-append r.mss 0 (r.next / r.mss) (suc run)
-        ∙ ap (λ l. in_order r.mss r.next ++ l) run_listed
+        ∙ ap (λ l. multiples_below r.mss r.next ++ l) run_listed
 
     pub advance_gains : kept_state record r { next = (r.next + r.mss) + run * r.mss; held = drop run r.held } ≡ gaining (kept_state r) (next_of (kept_state r))
     advance_gains =
-        ap (λ l. record (kept_state r) { received = set_of l }) (ap (λ l. l ++ drop run r.held) in_order_after ∙ append_assoc (in_order r.mss r.next) (r.next ∷ take run r.held) (drop run r.held) ∙ ap (λ l. in_order r.mss r.next ++ r.next ∷ l) (take-append-drop run r.held))
-        ∙ ap (λ s. record (kept_state r) { received = s }) (new_member (in_order r.mss r.next) r.held (r.next ∷ r.held) r.next (IsPermutation-refl _))
+        ap (λ l. record (kept_state r) { received = set_of l }) (ap (λ l. l ++ drop run r.held) in_order_after ∙ append_assoc (multiples_below r.mss r.next) (r.next ∷ take run r.held) (drop run r.held) ∙ ap (λ l. multiples_below r.mss r.next ++ r.next ∷ l) (take-append-drop run r.held))
+        ∙ ap (λ s. record (kept_state r) { received = s }) (new_member (multiples_below r.mss r.next) r.held (r.next ∷ r.held) r.next (IsPermutation-refl _))
         ∙ ap (gaining (kept_state r)) (sym next_of_kept)
 
     pub next_fits : r.next ≤ 9000000000000 → (r.next + r.mss) + run * r.mss ≤ 9000000000000 + r.mss
@@ -185,16 +185,16 @@ module _ (r : Inside) (kept : IsKept r) where
     }
 
   -- whether the answer to the next number may wait
-  pub may_wait_kept : may_wait (kept_state r) (next_of (kept_state r)) ≡ ((length r.held == 0) && (nat_lt 0 r.delack && is_none r.alarm))
+  pub may_wait_kept : may_wait (kept_state r) (next_of (kept_state r)) ≡ ((length r.held == 0) && (nat_lt 0 r.delack && is_none r.timer))
   may_wait_kept =
-      ap (λ n. (n == next_of (kept_state r)) && (list_all (λ x. nat_le x n) (map.keys (kept_state r).received) && (nat_lt 0 r.delack && is_none r.alarm))) next_of_kept
-      ∙ ap (λ b. b && (list_all (λ x. nat_le x r.next) (map.keys (kept_state r).received) && (nat_lt 0 r.delack && is_none r.alarm))) (eq-eqb _ _ (sym next_of_kept))
-      ∙ ap (λ b. b && (nat_lt 0 r.delack && is_none r.alarm)) none_above_kept
+      ap (λ n. (n == next_of (kept_state r)) && (list_all (λ x. nat_le x n) (map.keys (kept_state r).received) && (nat_lt 0 r.delack && is_none r.timer))) next_of_kept
+      ∙ ap (λ b. b && (list_all (λ x. nat_le x r.next) (map.keys (kept_state r).received) && (nat_lt 0 r.delack && is_none r.timer))) (eq-eqb _ _ (sym next_of_kept))
+      ∙ ap (λ b. b && (nat_lt 0 r.delack && is_none r.timer)) none_above_kept
 
   and-true : (b : Bool) → (b && true) ≡ b
   and-true true = refl
   and-true false = refl
 
   -- with answers delayed and none due, all hangs on what is held
-  pub waits_is : (xs : List ℕ) (empty : Bool) → xs ≡ r.held → empty ≡ (length xs == 0) → r.alarm ≡ None → 0 < r.delack → empty ≡ may_wait (kept_state r) (next_of (kept_state r))
+  pub waits_is : (xs : List ℕ) (empty : Bool) → xs ≡ r.held → empty ≡ (length xs == 0) → r.timer ≡ None → 0 < r.delack → empty ≡ may_wait (kept_state r) (next_of (kept_state r))
   waits_is xs empty same is none delayed = sym (may_wait_kept ∙ rw (lt-ltb 0 r.delack delayed, none, ← same, ← is) (and-true empty))

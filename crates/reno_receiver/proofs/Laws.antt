@@ -9,9 +9,9 @@ use Rattle.std.proofs.lemmas.Bool.{both_ways, cases_lt, or_cases, or_left, or_ri
 use Rattle.std.proofs.lemmas.Nat.{div-add-mod'}
 use Rattle.std.proofs.Math.Nat.{mul-mod_left, mul-le-mul_right, zero-mul}
 use Rattle.reno_receiver.specs.declared.reply.Reply.TheVariants.{AckNow, Wait}
-use Rattle.reno_receiver.specs.Received.{ReceiverState, opening_receiver, next_of, may_wait, gaining, is_received, IsReceived, IsWellFormed}
+use Rattle.reno_receiver.specs.Received.{ReceiverState, initial_receiver, next_of, may_wait, gaining, is_received, IsReceived, IsWellFormed}
 use Rattle.reno_receiver.specs.LeastMissing.{IsLeastMissing}
-use Rattle.reno_receiver.specs.Laws.{NextLaw, OpeningLaw, DataLaw, AlarmLaw}
+use Rattle.reno_receiver.specs.Laws.{NextLaw, InitialLaw, DataLaw, TimerLaw}
 use Rattle.reno_receiver.proofs.Next.{next_at, next_of_at}
 
 -- a multiple of mss is as many times mss as it holds
@@ -49,10 +49,10 @@ is_some_either false x = refl
 pub contains_key-insert : (s : FinSet nat_cmp) (k q : ℕ) → map.contains_key (map.insert s k tt) q ≡ ((q == k) || map.contains_key s q)
 contains_key-insert s k q = ap is_some (map.get-insert nat_cmp_total s k tt q) ∙ ap (λ b. is_some (cond b (Some tt) (map.get s q))) (unsigned_tied q k) ∙ is_some_either (q == k) (map.get s q)
 
-pub opening_holds : OpeningLaw
-opening_holds mss delack low high most = record {
+pub initial_holds : InitialLaw
+initial_holds mss delack low high most = record {
   well_formed = record { mss_least = low; mss_greatest = high; delack_greatest = most; multiple = λ x is. absurd (none_received x is); greatest = λ x is. absurd (none_received x is) };
-  next_is = next_of_at (opening_receiver mss delack) 0 low (record { missing = contains_key-empty (0 * mss); before = λ j lt. absurd (omega arith) }) ∙ zero-mul mss;
+  next_is = next_of_at (initial_receiver mss delack) 0 low (record { missing = contains_key-empty (0 * mss); before = λ j lt. absurd (omega arith) }) ∙ zero-mul mss;
   empty = none_received;
 }
 
@@ -102,13 +102,13 @@ data_keeps st seq now w whole high before = record {
   waits = λ d e. let is = waits_by (may_wait st seq) (now + st.delack) (next_of (gaining st seq)) d e in (is.1, delayed st seq is.0, is.2);
 }
 
-pub alarm_keeps : AlarmLaw
-alarm_keeps st w = record {
+pub timer_keeps : TimerLaw
+timer_keeps st w = record {
   well_formed = record { mss_least = w.mss_least; mss_greatest = w.mss_greatest; delack_greatest = w.delack_greatest; multiple = w.multiple; greatest = w.greatest };
   mss_stays = refl;
   delack_stays = refl;
   received_stays = refl;
   next_stays = refl;
-  alarm_off = refl;
+  timer_off = refl;
   acknowledged = refl;
 }

@@ -8,8 +8,8 @@ use Rattle.reno_receiver.specs.Received.{ReceiverState, multiples}
 use Rattle.reno_receiver.specs.declared.receiver.Receiver.TheInside.{Inside}
 
 -- the multiples of mss below next, which is one itself
-abbrev pub in_order : ℕ → ℕ → List ℕ
-in_order mss next = multiples mss (next / mss)
+abbrev pub multiples_below : ℕ → ℕ → List ℕ
+multiples_below mss next = multiples mss (next / mss)
 
 -- the set of a list's numbers
 abbrev pub set_of : List ℕ → FinSet nat_cmp
@@ -17,7 +17,7 @@ set_of [] = map.empty
 set_of (x ∷ xs) = map.insert (set_of xs) x tt
 
 abbrev pub kept_state : Inside → ReceiverState
-kept_state r = record { mss = r.mss; delack = r.delack; received = set_of (in_order r.mss r.next ++ r.held); alarm = r.alarm }
+kept_state r = record { mss = r.mss; delack = r.delack; received = set_of (multiples_below r.mss r.next ++ r.held); timer = r.timer }
 
 -- the numbers rise from above n, and each is the number of a segment
 abbrev pub IsHeldAbove : ℕ → ℕ → List ℕ → Type 0

@@ -16,17 +16,17 @@ pub record ReceiverState : Type 0 where
   pub mss : ℕ
   pub delack : ℕ
   pub received : FinSet nat_cmp
-  pub alarm : Option ℕ
+  pub timer : Option ℕ
 
 -- a state is stored as its four parts
 abbrev pub receiver_code : Coded ReceiverState
 receiver_code =
-    code_by (ℕ × (ℕ × (FinSet nat_cmp × Option ℕ))) (coded× coded_ℕ (coded× coded_ℕ (coded× (set_code coded_ℕ) (coded_option coded_ℕ)))) (λ st. (st.mss, (st.delack, (st.received, st.alarm))))
-    (λ p. record { mss = p.0; delack = p.1.0; received = p.1.1.0; alarm = p.1.1.1 }) (λ _. refl)
+    code_by (ℕ × (ℕ × (FinSet nat_cmp × Option ℕ))) (coded× coded_ℕ (coded× coded_ℕ (coded× (set_code coded_ℕ) (coded_option coded_ℕ)))) (λ st. (st.mss, (st.delack, (st.received, st.timer))))
+    (λ p. record { mss = p.0; delack = p.1.0; received = p.1.1.0; timer = p.1.1.1 }) (λ _. refl)
 
 -- nothing is received, and no answer is due
-abbrev pub opening_receiver : ℕ → ℕ → ReceiverState
-opening_receiver mss delack = record { mss = mss; delack = delack; received = map.empty; alarm = None }
+abbrev pub initial_receiver : ℕ → ℕ → ReceiverState
+initial_receiver mss delack = record { mss = mss; delack = delack; received = map.empty; timer = None }
 
 -- the segment of this number has come
 abbrev pub is_received : ReceiverState → ℕ → Bool
@@ -50,7 +50,7 @@ held_of st = filter (nat_lt (next_of st)) (map.keys st.received)
 -- the answer may wait: the segment is the next one, nothing above it has come, answers are
 -- delayed, and none is due yet
 abbrev pub may_wait : ReceiverState → ℕ → Bool
-may_wait st seq = (seq == next_of st) && (list_all (λ x. nat_le x seq) (map.keys st.received) && (nat_lt 0 st.delack && is_none st.alarm))
+may_wait st seq = (seq == next_of st) && (list_all (λ x. nat_le x seq) (map.keys st.received) && (nat_lt 0 st.delack && is_none st.timer))
 
 -- the state with one more number received
 abbrev pub gaining : ReceiverState → ℕ → ReceiverState
@@ -65,13 +65,13 @@ pub record Answered : Type 0 where
 -- number; no answer is due after an acknowledgement
 abbrev pub data_came : ReceiverState → ℕ → ℕ → Answered
 data_came st seq now = record {
-  state = record (gaining st seq) { alarm = if may_wait st seq then Some (now + st.delack) else None };
+  state = record (gaining st seq) { timer = if may_wait st seq then Some (now + st.delack) else None };
   reply = if may_wait st seq then Wait (now + st.delack) else AckNow (next_of (gaining st seq));
 }
 
 -- a delayed answer is due: it acknowledges the next number
-abbrev pub alarm_came : ReceiverState → Answered
-alarm_came st = record { state = record st { alarm = None }; reply = AckNow (next_of st) }
+abbrev pub timer_came : ReceiverState → Answered
+timer_came st = record { state = record st { timer = None }; reply = AckNow (next_of st) }
 
 -- the ranges of a receiver's numbers
 pub record IsWellFormed (st : ReceiverState) : Type 0 where

@@ -1,6 +1,6 @@
 //! What every receiver keeps, whatever comes and in whatever order: laws over the definitions
 //! alone, each the contract of a function that does nothing.
-ghost use Rattle.reno_receiver.specs.Laws.{NextLaw, OpeningLaw, DataLaw, AlarmLaw};
+ghost use Rattle.reno_receiver.specs.Laws.{NextLaw, InitialLaw, DataLaw, TimerLaw};
 
 /// The next number is the least that is missing.
 pub fn next_is_least_missing()
@@ -8,8 +8,8 @@ pub fn next_is_least_missing()
 {}
 
 /// A new receiver waits for byte 0.
-pub fn opening_waits_for_byte_0()
-    ensures { OpeningLaw }
+pub fn initial_waits_for_byte_0()
+    ensures { InitialLaw }
 {}
 
 /// What a segment leaves of the state before it, and what its answer says.
@@ -18,6 +18,6 @@ pub fn data_keeps()
 {}
 
 /// What a delayed answer leaves of the state before it, and what it says.
-pub fn alarm_keeps()
-    ensures { AlarmLaw }
+pub fn timer_keeps()
+    ensures { TimerLaw }
 {}

@@ -9,6 +9,6 @@ mod held;
 pub mod receiver;
 pub mod reply;
 
-pub use guarantees::{alarm_keeps, data_keeps, next_is_least_missing, opening_waits_for_byte_0};
+pub use guarantees::{data_keeps, initial_waits_for_byte_0, next_is_least_missing, timer_keeps};
 pub use receiver::Receiver;
 pub use reply::Reply;

@@ -2,7 +2,7 @@
 ghost use Rattle.std.specs.Prelude.{◌≡◌, ℕ, ◌+◌, ◌*◌, ◌%◌, ◌<◌, ◌≤◌, IfOk, OnOk, OnErr, None};
 ghost use Rattle.sim_time.specs.Moment.{IsMoment};
 ghost use Rattle.reno_receiver.specs.declared.reply.Reply.TheVariants.{AckNow, Wait};
-ghost use Rattle.reno_receiver.specs.Received.{opening_receiver, next_of, held_of, may_wait, gaining, data_came, alarm_came, IsReceived, IsWellFormed};
+ghost use Rattle.reno_receiver.specs.Received.{initial_receiver, next_of, held_of, may_wait, gaining, data_came, timer_came, IsReceived, IsWellFormed};
 ghost use Rattle.reno_receiver.specs.LeastMissing.{IsLeastMissing};
 
 use crate::held::{Held, find, run_length};
@@ -18,7 +18,7 @@ pub struct Receiver {
     delack: Time,
     next: u64,
     held: Held,
-    alarm: Option<Time>,
+    timer: Option<Time>,
 }
 
 impl Model for Receiver {
@@ -42,14 +42,14 @@ impl Receiver {
         requires mss_least { 1 ≤ mss }
         requires mss_greatest { mss ≤ 9000 }
         requires delack_greatest { delack ≤ 500000000 }
-        ensures { result ≡ opening_receiver mss delack }
+        ensures { result ≡ initial_receiver mss delack }
     {
         Receiver {
             mss,
             delack,
             next: 0,
             held: Held::new(alloc),
-            alarm: None,
+            timer: None,
         }
     }
 
@@ -70,10 +70,10 @@ impl Receiver {
     }
 
     /// When a delayed answer is due, in nanoseconds; none if none is.
-    pub fn alarm(&self) -> Option<Time>
-        ensures { result ≡ self.now.alarm }
+    pub fn timer(&self) -> Option<Time>
+        ensures { result ≡ self.now.timer }
     {
-        self.alarm
+        self.timer
     }
 
     /// Takes a segment that comes at a moment, and says what it is answered with. Memory is
@@ -99,7 +99,7 @@ impl Receiver {
         self.advance();
         if waits {
             let due = now + self.delack;
-            self.alarm = Some(due);
+            self.timer = Some(due);
             Ok(Reply::Wait(due))
         } else {
             Ok(self.acknowledge())
@@ -108,10 +108,10 @@ impl Receiver {
 
     /// Answers for a delayed acknowledgement: the number of the first byte that has not come.
     pub fn on_delack(&mut self) -> u64
-        ensures answer { (alarm_came self.old).reply ≡ AckNow result }
-        ensures state { self.new ≡ (alarm_came self.old).state }
+        ensures answer { (timer_came self.old).reply ≡ AckNow result }
+        ensures state { self.new ≡ (timer_came self.old).state }
     {
-        self.alarm = None;
+        self.timer = None;
         self.next
     }
 
@@ -125,14 +125,14 @@ impl Receiver {
             delack: self.delack,
             next: self.next,
             held,
-            alarm: self.alarm,
+            timer: self.timer,
         })
     }
 
     /// An acknowledgement of the next number; no delayed one is due any more.
     fn acknowledge(&mut self) -> Reply
-        ensures answer { result ≡ (alarm_came self.old).reply }
-        ensures state { self.new ≡ (alarm_came self.old).state }
+        ensures answer { result ≡ (timer_came self.old).reply }
+        ensures state { self.new ≡ (timer_came self.old).state }
     {
         Reply::AckNow(self.on_delack())
     }
@@ -141,7 +141,7 @@ impl Receiver {
     fn waits(&self) -> bool
         ensures { result ≡ may_wait self.now (next_of self.now) }
     {
-        match self.alarm {
+        match self.timer {
             None => self.delack > 0 && self.held.as_slice().is_empty(),
             Some(_) => false,
         }

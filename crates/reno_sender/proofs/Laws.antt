@@ -8,7 +8,7 @@ use Rattle.sim_time.specs.declared.variant.Iw.TheVariants.{Iw3, Iw10}
 use Rattle.reno_sender.specs.declared.fields.SenderFields.{SenderFields}
 use Rattle.reno_sender.specs.Fields.{IsSound}
 use Rattle.reno_sender.specs.Table.{started}
-use Rattle.reno_sender.specs.Laws.{RowKeeps, opening, by_start, by_acknowledgement, by_timeout, ReachableIsSound, StartKeeps, AcknowledgementKeeps, TimeoutKeeps, OpeningIsSound}
+use Rattle.reno_sender.specs.Laws.{RowKeeps, initial, by_start, by_acknowledgement, by_timeout, ReachableIsSound, StartKeeps, AcknowledgementKeeps, TimeoutKeeps, InitialIsSound}
 use Rattle.reno_sender.proofs.Multiples.{multiple_zero}
 use Rattle.reno_sender.proofs.Rows.{same_keeps, fill_keeps, early_duplicate_keeps, fast_retransmit_keeps, unentered_keeps, repeated_duplicate_keeps, further_duplicate_keeps, timed_out_row_keeps}
 use Rattle.reno_sender.proofs.RowLaws.{by_rows}
@@ -18,8 +18,8 @@ window_bounds : (mss : ℕ) (iw : Iw) → 1 ≤ mss → mss ≤ 9000 → (mss �
 window_bounds mss Iw3 least most = (grind (arith, nat_tests), grind (arith, nat_tests))
 window_bounds mss Iw10 least most = (omega arith, omega arith)
 
-pub opening_sound : OpeningIsSound
-opening_sound s flow =
+pub initial_sound : InitialIsSound
+initial_sound s flow =
     let zero_whole : 0 % s.mss ≡ 0 = multiple_zero s.mss flow.mss_least in
     let window : (s.mss ≤ initial_window_of s.mss s.variant.iw) × (initial_window_of s.mss s.variant.iw ≤ 90000) = window_bounds s.mss s.variant.iw flow.mss_least flow.mss_most in
     record {
@@ -76,7 +76,7 @@ pub timed_out_keeps : TimeoutKeeps
 timed_out_keeps f now sound moment set = timed_out_row_keeps f now sound moment set
 
 pub reachable_sound : ReachableIsSound
-reachable_sound s f flow (opening e) = subst IsSound (sym e) (opening_sound s flow)
+reachable_sound s f flow (initial e) = subst IsSound (sym e) (initial_sound s flow)
 reachable_sound s g flow (by_start {f} now from moment e) =
     subst IsSound (sym e) (started_keeps f now (reachable_sound s f flow from) moment).sound
 reachable_sound s g flow (by_acknowledgement {f} ack now from moment is_ack e) =

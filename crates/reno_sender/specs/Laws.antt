@@ -6,7 +6,7 @@ use Rattle.sim_time.specs.declared.settings.SenderSettings.{SenderSettings}
 use Rattle.reno_sender.specs.declared.fields.SenderFields.{SenderFields}
 use Rattle.reno_sender.specs.Fields.{IsSound, IsMultiple, total}
 use Rattle.reno_sender.specs.Sending.{Planned, filling}
-use Rattle.reno_sender.specs.Table.{opening_fields, started, acknowledged, timed_out}
+use Rattle.reno_sender.specs.Table.{initial_fields, started, acknowledged, timed_out}
 
 -- what an acknowledgement has to be: a whole number of segments that were sent, no earlier than the timed segment
 pub record IsAckFor (f : SenderFields) (ack now : ℕ) : Type 0 where
@@ -64,12 +64,12 @@ pub record IsFlow (s : SenderSettings) : Type 0 where
   pub rwnd_least : s.mss ≤ s.rwnd
   pub rwnd_most : s.rwnd ≤ 1073741824
 
-abbrev pub OpeningIsSound : Type 0
-OpeningIsSound = (s : SenderSettings) → IsFlow s → IsSound (opening_fields s)
+abbrev pub InitialIsSound : Type 0
+InitialIsSound = (s : SenderSettings) → IsFlow s → IsSound (initial_fields s)
 
--- the states that events lead to from the opening of a flow
+-- the states that events lead to from the initial state of a flow
 pub data IsReachable (s : SenderSettings) : SenderFields → Type 0 where
-  opening : {f : SenderFields} → f ≡ opening_fields s → IsReachable s f
+  initial : {f : SenderFields} → f ≡ initial_fields s → IsReachable s f
   by_start : {f g : SenderFields} (now : ℕ) → IsReachable s f → IsMoment now → g ≡ (started f now).fields → IsReachable s g
   by_acknowledgement : {f g : SenderFields} (ack now : ℕ) → IsReachable s f → IsMoment now → IsAckFor f ack now → g ≡ (acknowledged f ack now).fields → IsReachable s g
   by_timeout : {f g : SenderFields} (now : ℕ) → IsReachable s f → IsMoment now → IsSome f.deadline → g ≡ (timed_out f now).fields → IsReachable s g

@@ -9,8 +9,8 @@ use Rattle.sim_time.specs.InitialWindow.{initial_window_of}
 use Rattle.sim_time.specs.declared.settings.SenderSettings.{SenderSettings}
 
 -- at first: nothing sent, the initial window, no round trip measured (RFC 5681 section 3.1, RFC 6298 section 2.1)
-abbrev pub opening_fields : SenderSettings → SenderFields
-opening_fields s = record {
+abbrev pub initial_fields : SenderSettings → SenderFields
+initial_fields s = record {
   mss = s.mss;
   segments = s.segments;
   rwnd = s.rwnd;

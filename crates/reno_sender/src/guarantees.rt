@@ -1,5 +1,5 @@
 //! What every row of the sender's table keeps. Each function does nothing: its contract is the law.
-ghost use Rattle.reno_sender.specs.Laws.{AcknowledgementKeeps, AcknowledgementNeverTimesResent, FillIsAllAllowed, OpeningIsSound, ReachableIsSound, RecoveryLasts, RtoStaysUntilSample, StartKeeps, StartNeverTimesResent, ThresholdAtFurtherTimeout, ThresholdAtRecovery, ThresholdAtTimeout, ThresholdStays, TimeoutDoublesRto, TimeoutKeeps, TimeoutNeverTimesResent};
+ghost use Rattle.reno_sender.specs.Laws.{AcknowledgementKeeps, AcknowledgementNeverTimesResent, FillIsAllAllowed, InitialIsSound, ReachableIsSound, RecoveryLasts, RtoStaysUntilSample, StartKeeps, StartNeverTimesResent, ThresholdAtFurtherTimeout, ThresholdAtRecovery, ThresholdAtTimeout, ThresholdStays, TimeoutDoublesRto, TimeoutKeeps, TimeoutNeverTimesResent};
 
 /// The facts on fields hold in every state that a flow reaches.
 pub fn reachable_is_sound()
@@ -9,7 +9,7 @@ pub fn reachable_is_sound()
 /// Each row keeps the facts on fields; `una` and `high` never fall; what is sent lies within the
 /// receiver's window and the flow.
 pub fn rows_keep()
-    ensures opening { OpeningIsSound }
+    ensures initial { InitialIsSound }
     ensures start { StartKeeps }
     ensures acknowledgement { AcknowledgementKeeps }
     ensures timeout { TimeoutKeeps }

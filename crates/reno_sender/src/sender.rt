@@ -5,7 +5,7 @@ ghost use Rattle.sim_time.specs.Moment.{IsMoment};
 ghost use Rattle.reno_sender.specs.Laws.{IsAckFor, IsFlow};
 ghost use Rattle.reno_sender.specs.AckRun.{IsAckRun};
 ghost use Rattle.reno_sender.specs.PlanView.{planned_of, IsPlanOf, IsWellMade};
-ghost use Rattle.reno_sender.specs.Table.{opening_fields, started, acknowledged, timed_out};
+ghost use Rattle.reno_sender.specs.Table.{initial_fields, started, acknowledged, timed_out};
 
 use crate::acknowledgement::{acknowledged, run_after, take_run};
 use crate::fields::SenderFields;
@@ -40,7 +40,7 @@ impl Sender {
     /// A sender that has sent nothing yet (RFC 5681 section 3.1, RFC 6298 section 2.1).
     pub fn new(settings: SenderSettings) -> Self
         requires { IsFlow settings }
-        ensures { result ≡ opening_fields settings }
+        ensures { result ≡ initial_fields settings }
     {
         Sender {
             fields: SenderFields {

@@ -18,9 +18,9 @@ use Rattle.reno_receiver.specs.Received.{ReceiverState, next_of}
 use Rattle.scenario_image.specs.declared.parts.FlowPart.{FlowPart}
 use Rattle.scenario_image.specs.declared.parts.ScenarioParts.{ScenarioParts}
 use Rattle.scenario_image.specs.Scenario.{IsScenario}
-use Rattle.scenario_image.specs.Ways.{IsOnWay}
-use Rattle.scenario_image.specs.WayLaws.{GoesOn}
-use Rattle.scenario_image.proofs.Arrivals.{ways_go_on_or_end}
+use Rattle.scenario_image.specs.Paths.{IsOnWay}
+use Rattle.scenario_image.specs.PathLaws.{PathGoesOn}
+use Rattle.scenario_image.proofs.Arrivals.{paths_go_on_or_end}
 use Rattle.node_core.specs.declared.event.Event.{Event}
 use Rattle.node_core.specs.declared.event.Event.TheVariants.{Start, Rto, DelAck, Free, Arrive}
 use Rattle.node_core.specs.declared.role.Role.{Role}
@@ -30,9 +30,9 @@ use Rattle.node_core.specs.Part.{PartState}
 use Rattle.node_core.specs.Row.{start_row, rto_row, delack_row, arrival_row, at_sender, at_receiver, passed_on, row}
 use Rattle.node_core.specs.RouteTable.{exit_for}
 use Rattle.node_core.specs.TraceLine.{TraceLine}
-use Rattle.ranking.proofs.Maps.{same_some}
-use Rattle.table_run.specs.State.{State, opening, part_at, no_part, due, effect_of, stepped, one_more, run}
-use Rattle.table_run.specs.Flow.{next_at, high_of, sent_high, received_next, way_of, IsGiven, Carries}
+use Rattle.tournament.proofs.Maps.{same_some}
+use Rattle.table_run.specs.State.{State, initial, part_at, no_part, due, effect_of, stepped, one_step_more, run}
+use Rattle.table_run.specs.Flow.{next_at, high_of, sent_high, received_next, path_of, IsGiven, Carries}
 use Rattle.table_run.specs.Sound.{IsArrival, IsSoundAt}
 use Rattle.table_run.specs.Laws.{IsSoundRun, RoleRises}
 use Rattle.table_run.proofs.Due.{is_due}
@@ -155,7 +155,7 @@ module _ (p : ScenarioParts) (is_scenario : IsScenario p) (lines : List TraceLin
       let F = S.each_flow number flow its in
       let G = S.each_flow x.flow U.flow U.its_flow in
       let given : IsGiven U.flow (sent_high s U.flow) (received_next s U.flow) x = subst (λ c. Carries U.flow (sent_high s U.flow) (received_next s U.flow) c x) is U.carries in
-      let on_way = subst (λ c. IsOnWay p (way_of c U.flow) h.number) is U.on_way in
+      let on_way = subst (λ c. IsOnWay p (path_of c U.flow) h.number) is U.on_way in
       ⊎_elim
       (λ (ends : h.link.to ≡ U.flow.sender).
       let node : flow.sender ≡ U.flow.sender = at ∙ h.ends_here ∙ ends in
@@ -163,10 +163,10 @@ module _ (p : ScenarioParts) (is_scenario : IsScenario p) (lines : List TraceLin
       let numbers : number ≡ x.flow = same_some number x.flow (ap sender_number roles) in
       let flows : flow ≡ U.flow = same_some flow U.flow (sym its ∙ ap (slice_get p.flows) numbers ∙ U.its_flow) in
       subst (λ (g : FlowPart). IsGiven g (sent_high s g) (received_next s g) x) (sym flows) given)
-      (λ (on : GoesOn p (way_of Ack U.flow) h.link.to).
-      let e = has_exit p lines now s k S (way_of Ack U.flow) (subst (GoesOn p (way_of Ack U.flow)) (sym h.ends_here) on) in
+      (λ (on : PathGoesOn p (path_of Ack U.flow) h.link.to).
+      let e = has_exit p lines now s k S (path_of Ack U.flow) (subst (PathGoesOn p (path_of Ack U.flow)) (sym h.ends_here) on) in
       absurd (is_no_router number F.fields _ (sym F.sender_role ∙ ap (λ n. (part_at s n).role) at ∙ e.role_is)))
-      ((ways_go_on_or_end p is_scenario x.flow U.flow U.its_flow).1 h.number h.link on_way h.its_link)
+      ((paths_go_on_or_end p is_scenario x.flow U.flow U.its_flow).1 h.number h.link on_way h.its_link)
 
   una_by_next : (k : Key) (v : Event) → finmap.get s.pending k ≡ Some v → AreReceived p s → (number : ℕ) (flow : FlowPart) → slice_get p.flows number ≡ Some flow → flow.sender ≡ k.node → una_of (row (part_at s k.node) k v).part.role ≤ received_next s flow
   una_by_next k v there all number flow its at =
@@ -210,11 +210,11 @@ received_step p lines s k v is_scenario sound e all number flow its =
     (cases_eq flow.sender k.node)
 
 -- at first nothing is sent
-received_opening : (p : ScenarioParts) → IsScenario p → AreReceived p (opening p)
-received_opening p is_scenario number flow its =
-    let sound = (sound_run p zero [] (opening p) is_scenario refl).sound in
+received_initial : (p : ScenarioParts) → IsScenario p → AreReceived p (initial p)
+received_initial p is_scenario number flow its =
+    let sound = (sound_run p zero [] (initial p) is_scenario refl).sound in
     let F = sound.each_flow number flow its in
-    let none : sent_high (opening p) flow ≡ 0 = sound.unstarted number flow its (sound.starts.waits number flow its tt) in
+    let none : sent_high (initial p) flow ≡ 0 = sound.unstarted number flow its (sound.starts.waits number flow its tt) in
     let a = ap una_of F.sender_role in
     let b = ap high_of F.sender_role in
     let c = F.sound.una_nxt in
@@ -222,10 +222,10 @@ received_opening p is_scenario number flow its =
     omega (arith, none, a, b, c, d)
 
 -- so in each state
-pub all_received : (p : ScenarioParts) (n : ℕ) (lines : List TraceLine) (s : State) → IsScenario p → run (opening p) n ≡ Some (lines, s) → AreReceived p s
-all_received p zero lines s is e = subst (AreReceived p) (ap (λ (q : List TraceLine × State). q.1) (same_some ([], opening p) (lines, s) e)) (received_opening p is)
+pub all_received : (p : ScenarioParts) (n : ℕ) (lines : List TraceLine) (s : State) → IsScenario p → run (initial p) n ≡ Some (lines, s) → AreReceived p s
+all_received p zero lines s is e = subst (AreReceived p) (ap (λ (q : List TraceLine × State). q.1) (same_some ([], initial p) (lines, s) e)) (received_initial p is)
 all_received p (suc n) lines s is e =
-    option_and_then_some one_more (run (opening p) n) (lines, s) e (λ so_far was now.
+    option_and_then_some one_step_more (run (initial p) n) (lines, s) e (λ so_far was now.
     of_one_more so_far lines s now (λ line step_is _.
     of_step so_far.1 line s step_is (λ k v due_is new_is _.
     subst (AreReceived p) (sym new_is) (received_step p so_far.0 so_far.1 k v is (sound_run p n so_far.0 so_far.1 is was) due_is (all_received p n so_far.0 so_far.1 is was)))))

@@ -12,7 +12,7 @@ use Rattle.aqm.specs.declared.queue.Queue.{Queue}
 use Rattle.aqm.specs.declared.queue.Queue.TheVariants.{DropTail, Codel}
 use Rattle.aqm.specs.DropTail.{DropTailState, is_full, after_offer}
 use Rattle.aqm.specs.Codel.{CodelState}
-use Rattle.aqm.specs.Drops.{due, drops, after_drops}
+use Rattle.aqm.specs.Drops.{drop_due, drops, after_drops}
 use Rattle.aqm.specs.Judgement.{judged, judgement}
 use Rattle.aqm.specs.Queue.{fifo_of, waiting_in, offered_to, taken_from, take_reason}
 use Rattle.aqm.specs.Taken.{CodelTaken, codel_taken}
@@ -39,13 +39,13 @@ drops_in acts = filter_map queue_drop_in acts
 
 -- what a take drops is told
 module _ (now : ℕ) (old : PortState) (queue : Queue) (reason : TakeDrop) where
-  told_by : (dropped : List Stamped) (given : Option Stamped) → drops_in (took now old queue reason dropped given).acts ≡ map (λ (cell : Stamped). cell.0) dropped
-  told_by [] None = refl
-  told_by [] (Some cell) = refl
-  told_by (x ∷ dropped) given = ap (λ ls. x.0 ∷ ls) (told_by dropped given)
+  reported_by : (dropped : List Stamped) (given : Option Stamped) → drops_in (took now old queue reason dropped given).acts ≡ map (λ (cell : Stamped). cell.0) dropped
+  reported_by [] None = refl
+  reported_by [] (Some cell) = refl
+  reported_by (x ∷ dropped) given = ap (λ ls. x.0 ∷ ls) (reported_by dropped given)
 
 take_drops : (now : ℕ) (old : PortState) → drops_in (taken now old).acts ≡ map (λ (cell : Stamped). cell.0) (taken_from old.queue now).dropped
-take_drops now old = let take = taken_from old.queue now in told_by now old take.queue (take_reason old.queue) take.dropped take.given
+take_drops now old = let take = taken_from old.queue now in reported_by now old take.queue (take_reason old.queue) take.dropped take.given
 
 queue_after : (now : ℕ) (old : PortState) → (taken now old).port.queue ≡ (taken_from old.queue now).queue
 queue_after now old = let take = taken_from old.queue now in queue_same now old take.queue (take_reason old.queue) take.given
@@ -156,7 +156,7 @@ take_leaves s now cell waits none t is on =
     let taken : (codel_taken s now).queue ≡ after_drops s now 0 = ap (λ (x : CodelTaken). x.queue) (taken_in_drop_state s now dropping) ∙ ap (after_drops s now) (sym k) in
     let same : t ≡ after_drops s now 0 = sym is ∙ taken in
     let ok : (judgement s now 0).ok ≡ true = ap (λ (x : CodelState). x.dropping) (sym same) ∙ on in
-    (dropping, ap (λ (x : CodelState). x.drop_next) same ∙ ap (λ b. due s (cond b 0 (0 - 1))) ok))
+    (dropping, ap (λ (x : CodelState). x.drop_next) same ∙ ap (λ b. drop_due s (cond b 0 (0 - 1))) ok))
     (λ (idle : s.dropping ≡ false).
     ⊎_elim
     (λ (ok : (judgement s now 0).ok ≡ true). absurd (not_none (ap (take 1) (sym waits) ∙ ap (λ (x : CodelTaken). x.dropped) (sym (taken_at_first_drop s now idle ok)) ∙ none)))
@@ -195,7 +195,7 @@ all_leave now old (x ∷ packets) kept =
     schedule_on old.queue first.queue (offered_all now first packets).port.queue (one_leaves now old x kept) (all_leave now first packets (idle_after now old x kept))
 
 -- when drops are due is said in the queue's words
-due_is : (s : CodelState) (n : ℕ) → due_behind s n ≡ due s n
+due_is : (s : CodelState) (n : ℕ) → due_behind s n ≡ drop_due s n
 due_is s zero = refl
 due_is s (suc n) = ap (λ m. m + gap_of s.interval (min (s.count + suc n) 4294967295)) (due_is s n)
 
@@ -223,20 +223,20 @@ take_on_time now old = record {
   none_early = λ s j was on within.
       let few = goes s was on in
       let before = (drops_stop_at_the_first_stop s now).goes_on_before j (omega (arith, within, few)) in
-      let on_time = ltb-false now (due s j) (or_parts (not (judgement s now j).ok) (ltb now (due s j)) before).1 in
+      let on_time = ltb-false now (drop_due s j) (or_parts (not (judgement s now j).ok) (ltb now (drop_due s j)) before).1 in
       subst (λ m. m ≤ now) (sym (due_is s j)) on_time;
   next = λ s q was on is still.
       let k = drops s now in
       let took : (codel_taken s now).queue ≡ after_drops s now k = ap (λ (x : CodelTaken). x.queue) (taken_in_drop_state s now on) in
       let same : after_drops s now k ≡ q = same_codel (after_drops s now k) q (ap Codel (sym took) ∙ ap (λ r. (taken_from r now).queue) (sym was) ∙ sym (queue_after now old) ∙ is) in
       let ok : (judgement s now k).ok ≡ true = ap (λ (x : CodelState). x.dropping) same ∙ still in
-      let moved : q.drop_next ≡ due s (length (drops_in (taken now old).acts)) = ap (λ (x : CodelState). x.drop_next) (sym same) ∙ ap (λ b. due s (cond b k (k - 1))) ok ∙ ap (due s) (sym (goes s was on)) in
+      let moved : q.drop_next ≡ drop_due s (length (drops_in (taken now old).acts)) = ap (λ (x : CodelState). x.drop_next) (sym same) ∙ ap (λ b. drop_due s (cond b k (k - 1))) ok ∙ ap (drop_due s) (sym (goes s was on)) in
       moved ∙ sym (due_is s (length (drops_in (taken now old).acts)));
   none_left = λ s was on _ ok.
       let k = goes s was on in
       let stops_here = (drops_stop_at_the_first_stop s now).stops_here in
       let ok_here : (judgement s now (drops s now)).ok ≡ true = ap (λ j. (judgement s now j).ok) (sym k) ∙ ok in
-      subst (λ m. now < m) (sym (due_is s (length (drops_in (taken now old).acts)))) (subst (λ j. now < due s j) (sym k) (ltb-true now (due s (drops s now)) (ap (λ b. not b || ltb now (due s (drops s now))) (sym ok_here) ∙ stops_here)));
+      subst (λ m. now < m) (sym (due_is s (length (drops_in (taken now old).acts)))) (subst (λ j. now < drop_due s j) (sym k) (ltb-true now (drop_due s (drops s now)) (ap (λ b. not b || ltb now (drop_due s (drops s now))) (sym ok_here) ∙ stops_here)));
 }
   where
     goes : (s : CodelState) → old.queue ≡ Codel s → s.dropping ≡ true → length (drops_in (taken now old).acts) ≡ drops s now

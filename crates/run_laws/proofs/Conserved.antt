@@ -7,7 +7,7 @@ use Rattle.aqm.specs.declared.drop_reason.DropReason.TheVariants.{Lost, Full, Ta
 use Rattle.port.specs.declared.acts.Act.{Act}
 use Rattle.port.specs.declared.acts.Act.TheVariants.{Tx, Dropped}
 use Rattle.port.specs.Port.{PortState, PortStep}
-use Rattle.run_laws.specs.Links.{port_at, acts_at, is_sent, is_lost, is_refused, by_queue, PacketsAreConserved}
+use Rattle.run_laws.specs.Links.{port_of_link, acts_at, is_sent, is_lost_act, is_refused, by_queue, PacketsAreConserved}
 use Rattle.run_laws.proofs.Along.{LinkFact, IsKeptBy, in_every_state}
 use Rattle.run_laws.proofs.Ports.{Balances, sends, sends_append, waiting, taken_balances, one_balances, all_balance}
 use Rattle.run_laws.proofs.Touched.{Touches, by_offers, by_offer, by_take}
@@ -38,18 +38,18 @@ kept = record {
 }
 
 -- each act is of one sort
-by_sorts : (acts : List Act) → length acts ≡ count_by is_lost acts + count_by is_refused acts + count_by by_queue acts + count_by is_sent acts
+by_sorts : (acts : List Act) → length acts ≡ count_by is_lost_act acts + count_by is_refused acts + count_by by_queue acts + count_by is_sent acts
 by_sorts [] = refl
 by_sorts (act ∷ acts) =
     let rest = by_sorts acts in
-    let a = sum_by-cons (λ (act : Act). cond (is_lost act) 1 0) act acts in
+    let a = sum_by-cons (λ (act : Act). cond (is_lost_act act) 1 0) act acts in
     let b = sum_by-cons (λ (act : Act). cond (is_refused act) 1 0) act acts in
     let c = sum_by-cons (λ (act : Act). cond (by_queue act) 1 0) act acts in
     let d = sum_by-cons (λ (act : Act). cond (is_sent act) 1 0) act acts in
     let one = its_sort act in
     omega (arith, rest, a, b, c, d, one)
   where
-    its_sort : (act : Act) → cond (is_lost act) 1 0 + cond (is_refused act) 1 0 + cond (by_queue act) 1 0 + cond (is_sent act) 1 0 ≡ 1
+    its_sort : (act : Act) → cond (is_lost_act act) 1 0 + cond (is_refused act) 1 0 + cond (by_queue act) 1 0 + cond (is_sent act) 1 0 ≡ 1
     its_sort (Tx link packet) = refl
     its_sort (Dropped link Lost packet) = refl
     its_sort (Dropped link Full packet) = refl
@@ -59,6 +59,6 @@ pub packets_are_conserved : PacketsAreConserved
 packets_are_conserved p n lines s is_scenario e node index within =
     let h = (in_every_state Fact kept p n lines s is_scenario e).holds node index within in
     record {
-      offered = (let a = h.total in let b = by_sorts (acts_at (port_at s node index).link lines) in omega (arith, a, b));
+      offered = (let a = h.total in let b = by_sorts (acts_at (port_of_link s node index).link lines) in omega (arith, a, b));
       sent = sym h.sent;
     }

@@ -14,14 +14,14 @@ use Rattle.port.specs.Port.{PortState, PortStep}
 use Rattle.node_core.specs.declared.event.Event.{Event}
 use Rattle.node_core.specs.Part.{LinkState, PartState, link_at, no_link}
 use Rattle.node_core.specs.TraceLine.{TraceLine}
-use Rattle.ranking.proofs.Maps.{same_some}
+use Rattle.tournament.proofs.Maps.{same_some}
 use Rattle.table_run.specs.State.{State, part_at, no_part, due, effect_of, stepped, line_of}
 use Rattle.table_run.specs.Laws.{IsSoundRun}
 use Rattle.table_run.proofs.Due.{is_due}
 use Rattle.table_run.proofs.Links.{link_part, one_index}
 use Rattle.table_run.proofs.Moved.{node_there}
 use Rattle.table_run.proofs.RunLaws.{kept_by}
-use Rattle.run_laws.specs.Links.{link_of, port_at, acts_at}
+use Rattle.run_laws.specs.Links.{link_of, port_of_link, acts_at}
 use Rattle.run_laws.proofs.Ports.{taken_balances, one_balances, all_balance}
 use Rattle.run_laws.proofs.Touched.{Touches, by_offers, by_offer, by_take, IsTouched, touched}
 
@@ -69,7 +69,7 @@ pub record IsDone (now : ℕ) (old new : PortState) (acts : List Act) : Type 0 w
 -- what an event does at a link, which was there before
 pub record AtLink (s t : State) (now : ℕ) (line : TraceLine) (node index : ℕ) : Type 0 where
   pub within : index < length (part_at s node).links
-  pub does : let old = port_at s node index in let new = port_at t node index in IsLeft old new (its_own old.link line.acts) ⊎ IsDone now old new (its_own old.link line.acts)
+  pub does : let old = port_of_link s node index in let new = port_of_link t node index in IsLeft old new (its_own old.link line.acts) ⊎ IsDone now old new (its_own old.link line.acts)
 
 module _ (p : ScenarioParts) (is_scenario : IsScenario p) (lines : List TraceLine) (s : State) (k : Key) (v : Event) (sound : IsSoundRun p lines s) (is : due s ≡ Some (k, v)) where
   abbrev pub t : State
@@ -97,7 +97,7 @@ module _ (p : ScenarioParts) (is_scenario : IsScenario p) (lines : List TraceLin
   nodes_there node index within = subst (λ n. node < n) sound.sound.nodes_are (node_there s node index within)
 
   -- another link has another number
-  other_number : (node index : ℕ) → index < length (part_at s node).links → (node ≡ k.node → index ≢ touch.index) → (port_at s k.node touch.index).link ≢ (port_at s node index).link
+  other_number : (node index : ℕ) → index < length (part_at s node).links → (node ≡ k.node → index ≢ touch.index) → (port_of_link s k.node touch.index).link ≢ (port_of_link s node index).link
   other_number node index within apart same =
       let its_links = (sound.sound.each_node k.node (nodes_there k.node touch.index touch.within)).its_links in
       let one = link_part p node (part_at s node).links (sound.sound.each_node node (nodes_there node index within)).its_links index within in
@@ -105,21 +105,21 @@ module _ (p : ScenarioParts) (is_scenario : IsScenario p) (lines : List TraceLin
       let parts : two.part ≡ one.part = same_some two.part one.part (sym two.its_part ∙ ap (slice_get p.links) same ∙ one.its_part) in
       let at : node ≡ k.node = sym one.from_here ∙ ap (λ (l : LinkPart). l.from) (sym parts) ∙ two.from_here in
       let inside : index < length (part_at s k.node).links = subst (λ n. index < length (part_at s n).links) at within in
-      apart at (one_index p k.node (part_at s k.node).links its_links index touch.index inside touch.within (ap (λ n. (port_at s n index).link) (sym at) ∙ sym same))
+      apart at (one_index p k.node (part_at s k.node).links its_links index touch.index inside touch.within (ap (λ n. (port_of_link s n index).link) (sym at) ∙ sym same))
 
-  its : AllByRecursion (λ (act : Act). link_of act ≡ (port_at s k.node touch.index).link) line.acts
-  its = subst (AllByRecursion (λ (act : Act). link_of act ≡ (port_at s k.node touch.index).link)) (sym touch.acts_are) (its_acts k.time (port_at s k.node touch.index) touch.step touch.touches).0
+  its : AllByRecursion (λ (act : Act). link_of act ≡ (port_of_link s k.node touch.index).link) line.acts
+  its = subst (AllByRecursion (λ (act : Act). link_of act ≡ (port_of_link s k.node touch.index).link)) (sym touch.acts_are) (its_acts k.time (port_of_link s k.node touch.index) touch.step touch.touches).0
 
-  left : (node index : ℕ) → port_at t node index ≡ port_at s node index → index < length (part_at s node).links → (node ≡ k.node → index ≢ touch.index) → AtLink s t k.time line node index
+  left : (node index : ℕ) → port_of_link t node index ≡ port_of_link s node index → index < length (part_at s node).links → (node ≡ k.node → index ≢ touch.index) → AtLink s t k.time line node index
   left node index same within apart = record {
     within = within;
-    does = inl (record { same = same; none = none_its (port_at s k.node touch.index).link (port_at s node index).link (other_number node index within apart) line.acts its });
+    does = inl (record { same = same; none = none_its (port_of_link s k.node touch.index).link (port_of_link s node index).link (other_number node index within apart) line.acts its });
   }
 
   done : AtLink s t k.time line k.node touch.index
   done =
-      let old = port_at s k.node touch.index in
-      let new_is : port_at t k.node touch.index ≡ touch.step.port = ap (λ ls. (link_at ls touch.index).port) links_here ∙ ap (λ (l : LinkState). l.port) (get_or-set_same (part_at s k.node).links touch.index changed no_link touch.within) in
+      let old = port_of_link s k.node touch.index in
+      let new_is : port_of_link t k.node touch.index ≡ touch.step.port = ap (λ ls. (link_at ls touch.index).port) links_here ∙ ap (λ (l : LinkState). l.port) (get_or-set_same (part_at s k.node).links touch.index changed no_link touch.within) in
       record {
         within = touch.within;
         does = inr (record {

@@ -9,8 +9,8 @@ use Rattle.packet_chain.specs.declared.packet.Kind.TheVariants.{Data, Ack}
 use Rattle.reno_sender.specs.declared.fields.SenderFields.{SenderFields}
 use Rattle.reno_sender.specs.Sending.{Planned}
 use Rattle.reno_sender.specs.Table.{started, acknowledged, timed_out}
-use Rattle.scenario_image.specs.Ways.{data_way}
-use Rattle.scenario_image.proofs.Arrivals.{ways_begin}
+use Rattle.scenario_image.specs.Paths.{data_path}
+use Rattle.scenario_image.proofs.Arrivals.{paths_begin}
 use Rattle.port.specs.Port.{taken, offered_all}
 use Rattle.node_core.specs.declared.event.Event.{Event}
 use Rattle.node_core.specs.declared.event.Event.TheVariants.{Start, Rto, DelAck, Free, Arrive}
@@ -20,7 +20,7 @@ use Rattle.node_core.specs.Row.{Effect, data_packet, sender_row, start_row, rto_
 use Rattle.table_run.specs.State.{part_at, effect_of, stepped}
 use Rattle.table_run.proofs.RowLinks.{flow_limits, first_link}
 use Rattle.table_run.proofs.RunLaws.{sound_run}
-use Rattle.run_laws.specs.Links.{port_at}
+use Rattle.run_laws.specs.Links.{port_of_link}
 use Rattle.run_laws.specs.Senders.{for_packet, row_of, SendersOfferWhatTheySend}
 use Rattle.run_laws.proofs.Events.{here}
 use Rattle.run_laws.proofs.Ports.{taken_balances, all_balance}
@@ -70,10 +70,10 @@ pub senders_offer_what_they_send : SendersOfferWhatTheySend
 senders_offer_what_they_send p n lines s is_scenario e k v is number flow its at f role =
     let sound = sound_run p n lines s is_scenario e in
     let t = stepped s k (effect_of s (k, v)) in
-    let first = first_link p lines sound.moment s sound.sound (data_way flow) (flow_limits p is_scenario number flow its).sender_node (ways_begin p is_scenario number flow its).0 in
+    let first = first_link p lines sound.moment s sound.sound (data_path flow) (flow_limits p is_scenario number flow its).sender_node (paths_begin p is_scenario number flow its).0 in
     let within = subst (λ n. 0 < length (part_at s n).links) at first.within in
     let role_is : (part_at s k.node).role ≡ Sends number f = ap (λ n. (part_at s n).role) (sym at) ∙ role in
-    ap (λ n. (port_at t n 0).offered) at
+    ap (λ n. (port_of_link t n 0).offered) at
     ∙ ap (λ (x : PartState). (link_at x.links 0).port.offered) (here p is_scenario lines s k v sound is)
     ∙ row_offers (part_at s k.node) k number f role_is within v
-    ∙ ap (λ n. (port_at s n 0).offered + length (row_of f v k.time).sent) (sym at)
+    ∙ ap (λ n. (port_of_link s n 0).offered + length (row_of f v k.time).sent) (sym at)

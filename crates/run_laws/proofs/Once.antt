@@ -14,19 +14,19 @@ use Rattle.scenario_image.specs.Scenario.{IsScenario}
 use Rattle.port.specs.Port.{Departure}
 use Rattle.node_core.specs.declared.event.Event.{Event}
 use Rattle.node_core.specs.declared.event.Event.TheVariants.{Start, Rto, DelAck, Free, Arrive}
-use Rattle.node_core.specs.Alarms.{alarm_key}
-use Rattle.node_core.specs.declared.alarm.Alarm.{Alarm}
+use Rattle.node_core.specs.Timers.{timer_key}
+use Rattle.node_core.specs.declared.timer.Timer.{Timer}
 use Rattle.node_core.specs.Part.{LinkState, link_at, no_link}
 use Rattle.node_core.specs.Pending.{Events}
-use Rattle.node_core.specs.Row.{timer_moved, made_at_home, sent_away, leaving_over}
+use Rattle.node_core.specs.Row.{rto_timer_moved, made_at_home, sent_away, leaving_over}
 use Rattle.node_core.specs.TraceLine.{TraceLine}
-use Rattle.ranking.specs.Keyed.{apply}
-use Rattle.ranking.proofs.Maps.{not_some, same_some, get_here, get_other}
-use Rattle.table_run.specs.State.{State, opening, part_at, due, effect_of, stepped, line_of, one_more, run}
+use Rattle.tournament.specs.Keyed.{apply}
+use Rattle.tournament.proofs.Maps.{not_some, same_some, get_here, get_other}
+use Rattle.table_run.specs.State.{State, initial, part_at, due, effect_of, stepped, line_of, one_step_more, run}
 use Rattle.table_run.specs.Flow.{IsUnderWay}
 use Rattle.table_run.specs.Sound.{Belongs, IsSoundLink, IsSoundAt}
 use Rattle.table_run.specs.Laws.{IsSoundRun}
-use Rattle.table_run.proofs.Changes.{row_changes, coming as coming_key, IsSet, timer, busy, arrival, row_aside, apply-append}
+use Rattle.table_run.proofs.Changes.{row_changes, coming as coming_key, IsSet, rto_timer, busy, arrival, row_aside, apply-append}
 use Rattle.table_run.proofs.Dispatch.{has_row}
 use Rattle.table_run.proofs.Due.{IsDue, is_due}
 use Rattle.table_run.proofs.KeptEvents.{IsOld, IsNew, old_or_new, leaves_with, changed_here}
@@ -37,7 +37,7 @@ use Rattle.table_run.proofs.PortMoves.{Outcome}
 use Rattle.table_run.proofs.Rows.{IsRow}
 use Rattle.table_run.proofs.Runs.{of_step, of_one_more}
 use Rattle.table_run.proofs.RunLaws.{sound_run}
-use Rattle.run_laws.specs.Links.{port_at, arrived, IsComing, ArrivesOnce, PacketsArriveOnce}
+use Rattle.run_laws.specs.Links.{port_of_link, arrived, IsComing, ArrivesOnce, PacketsArriveOnce}
 
 range_more : (a n : ℕ) → range_with_len a n ++ (a + n) ∷ [] ≡ range_with_len a (suc n)
 range_more a zero = let none : a + zero ≡ a = omega arith in ap (λ m. m ∷ []) none
@@ -54,16 +54,16 @@ arrived_more link lines line =
     by false = refl
 
 -- the packet that leaves is pending
-row_coming : (m : Events) (node : ℕ) (alarm : Alarm) (event : Event) (old new : Option ℕ) (links : List LinkState) (index : ℕ) (d : Departure)
-    → finmap.get (apply (row_changes node alarm event old new links index (Some d)) m) (coming_key links index d) ≡ Some (Arrive d.packet)
-row_coming m node alarm event old new links index d =
-    let before = timer_moved (alarm_key node alarm) event old new ++ made_at_home node links (leaving_over index (Some d)) in
+row_coming : (m : Events) (node : ℕ) (timer : Timer) (event : Event) (old new : Option ℕ) (links : List LinkState) (index : ℕ) (d : Departure)
+    → finmap.get (apply (row_changes node timer event old new links index (Some d)) m) (coming_key links index d) ≡ Some (Arrive d.packet)
+row_coming m node timer event old new links index d =
+    let before = rto_timer_moved (timer_key node timer) event old new ++ made_at_home node links (leaving_over index (Some d)) in
     ap (λ (x : Events). finmap.get x (coming_key links index d)) (apply-append before (sent_away links (leaving_over index (Some d))) m) ∙ get_here (apply before m) (coming_key links index d) (Some (Arrive d.packet))
 
 -- an arrival that a row sets is that of the packet that leaves
-the_leaving : (p : ScenarioParts) (s t : State) (k : Key) (v : Event) (r : Shape) → IsRow p s k v r t → (links : List LinkState) (q : Key) (x : Packet) → IsSet k.node r.alarm r.event r.new links r.index r.step.departure q (Arrive x)
+the_leaving : (p : ScenarioParts) (s t : State) (k : Key) (v : Event) (r : Shape) → IsRow p s k v r t → (links : List LinkState) (q : Key) (x : Packet) → IsSet k.node r.timer r.event r.new links r.index r.step.departure q (Arrive x)
     → (d : Departure) × (r.step.departure ≡ Some d) × (q ≡ coming_key links r.index d)
-the_leaving p s t k v r R links q x (timer u is key event) = absurd (R.not_arrival x (sym event))
+the_leaving p s t k v r R links q x (rto_timer u is key event) = absurd (R.not_arrival x (sym event))
 the_leaving p s t k v r R links q x (busy d is key event) = absurd (not_free x (link_at links r.index).port.link event)
   where
     not_free : (x : Packet) (link : ℕ) → Arrive x ≡ Free link → ⊥
@@ -75,7 +75,7 @@ module _ (p : ScenarioParts) (is_scenario : IsScenario p) (lines : List TraceLin
   links_t = (part_at t k.node).links
 
   -- two links of one number are one
-  one_link : (a i b j : ℕ) → i < length (part_at s a).links → j < length (part_at s b).links → (port_at s a i).link ≡ (port_at s b j).link → (a ≡ b) × (i ≡ j)
+  one_link : (a i b j : ℕ) → i < length (part_at s a).links → j < length (part_at s b).links → (port_of_link s a i).link ≡ (port_of_link s b j).link → (a ≡ b) × (i ≡ j)
   one_link a i b j within also same =
       let nodes_a = subst (λ n. a < n) S.nodes_are (node_there s a i within) in
       let nodes_b = subst (λ n. b < n) S.nodes_are (node_there s b j also) in
@@ -83,35 +83,35 @@ module _ (p : ScenarioParts) (is_scenario : IsScenario p) (lines : List TraceLin
       let two = link_part p b (part_at s b).links (S.each_node b nodes_b).its_links j also in
       let parts : one.part ≡ two.part = same_some one.part two.part (sym one.its_part ∙ ap (slice_get p.links) same ∙ two.its_part) in
       let at : a ≡ b = sym one.from_here ∙ ap (λ (l : LinkPart). l.from) parts ∙ two.from_here in
-      (at, one_index p b (part_at s b).links (S.each_node b nodes_b).its_links i j (subst (λ n. i < length (part_at s n).links) at within) also (ap (λ n. (port_at s n i).link) (sym at) ∙ same))
+      (at, one_index p b (part_at s b).links (S.each_node b nodes_b).its_links i j (subst (λ n. i < length (part_at s n).links) at within) also (ap (λ n. (port_of_link s n i).link) (sym at) ∙ same))
 
-  module _ (node index : ℕ) (within : index < length (part_at s node).links) (O : ArrivesOnce lines s.pending (port_at s node index)) where
+  module _ (node index : ℕ) (within : index < length (part_at s node).links) (O : ArrivesOnce lines s.pending (port_of_link s node index)) where
     abbrev link : ℕ
-    link = (port_at s node index).link
+    link = (port_of_link s node index).link
 
     abbrev count : ℕ
     count = length (arrived link lines)
 
     abbrev sent : ℕ
-    sent = (port_at s node index).sent
+    sent = (port_of_link s node index).sent
 
     abbrev sent_t : ℕ
-    sent_t = (port_at t node index).sent
+    sent_t = (port_of_link t node index).sent
 
-    same_number : (port_at t node index).link ≡ link
+    same_number : (port_of_link t node index).link ≡ link
     same_number = number_same s t k r M R.within R.moves.stays node index
 
     abbrev Arrives : Type 0
     Arrives = (x : Packet) × (v ≡ Arrive x)
 
-    no_alarm : (q : Key) (node number time : ℕ) → q.source ≡ link + 1 → q ≡ record { time = time; node = node; source = 0; number = number } → ⊥
-    no_alarm q node number time over is = (let a = ap (λ (j : Key). j.source) is in omega (arith, over, a))
+    no_timer : (q : Key) (node number time : ℕ) → q.source ≡ link + 1 → q ≡ record { time = time; node = node; source = 0; number = number } → ⊥
+    no_timer q node number time over is = (let a = ap (λ (j : Key). j.source) is in omega (arith, over, a))
 
     by_event : (w : Event) → v ≡ w → Belongs p s now k w → k.source ≡ link + 1 → Arrives
-    by_event (Start n) e h over = absurd (no_alarm k _ _ _ over h.is_key)
-    by_event (Rto n) e h over = absurd (no_alarm k _ _ _ over h.alarm.is_key)
-    by_event (DelAck n) e h over = absurd (no_alarm k _ _ _ over h.alarm.is_key)
-    by_event (Free n) e h over = absurd (no_alarm k _ _ _ over h.alarm.is_key)
+    by_event (Start n) e h over = absurd (no_timer k _ _ _ over h.is_key)
+    by_event (Rto n) e h over = absurd (no_timer k _ _ _ over h.timer.is_key)
+    by_event (DelAck n) e h over = absurd (no_timer k _ _ _ over h.timer.is_key)
+    by_event (Free n) e h over = absurd (no_timer k _ _ _ over h.timer.is_key)
     by_event (Arrive x) e h over = (x, e)
 
     it_arrives : k.source ≡ link + 1 → Arrives
@@ -201,7 +201,7 @@ module _ (p : ScenarioParts) (is_scenario : IsScenario p) (lines : List TraceLin
       where
         changed_case : AtChanged s t k r node index → (d : Option Departure) → r.step.departure ≡ d → Outcome (IsUnderWay p t (link_before s k r).port.link) k.time R.before (link_before s k r).port r.step.port d → Begins ⊎ Rests
         changed_case c None is h = inr (record {
-          same = ap (λ (l : LinkState). l.port.sent) c.link_is ∙ h.1 ∙ sym (ap (λ n. (port_at s n index).sent) c.at_node ∙ ap (λ i. (port_at s k.node i).sent) c.at_index);
+          same = ap (λ (l : LinkState). l.port.sent) c.link_is ∙ h.1 ∙ sym (ap (λ n. (port_of_link s n index).sent) c.at_node ∙ ap (λ i. (port_of_link s k.node i).sent) c.at_index);
           none = λ d some _ _. not_some (sym is ∙ some);
         })
         changed_case c (Some d) is h = inl (record { departure = d; is = is; at_node = c.at_node; at_index = c.at_index })
@@ -211,8 +211,8 @@ module _ (p : ScenarioParts) (is_scenario : IsScenario p) (lines : List TraceLin
     begun_sent b =
         let out = leaves_with p is_scenario lines now s t k v r S D nodes M R b.departure b.is in
         let changed = ap (λ (l : LinkState). l.port.sent) (changed_here p is_scenario lines now s t k v r S D nodes M R) in
-        let here = ap (λ n. (port_at t n index).sent) b.at_node ∙ ap (λ i. (port_at t k.node i).sent) b.at_index in
-        let was = ap (λ n. (port_at s n index).sent) b.at_node ∙ ap (λ i. (port_at s k.node i).sent) b.at_index in
+        let here = ap (λ n. (port_of_link t n index).sent) b.at_node ∙ ap (λ i. (port_of_link t k.node i).sent) b.at_index in
+        let was = ap (λ n. (port_of_link s n index).sent) b.at_node ∙ ap (λ i. (port_of_link s k.node i).sent) b.at_index in
         let once = out.sent_once in
         omega (arith, here, changed, once, was)
 
@@ -223,12 +223,12 @@ module _ (p : ScenarioParts) (is_scenario : IsScenario p) (lines : List TraceLin
     new_begins : (d : Departure) → r.step.departure ≡ Some d → (coming_key links_t r.index d).source ≡ link + 1 → Begins
     new_begins d is over =
         let before = number_same s t k r M R.within R.moves.stays k.node r.index in
-        let same : (port_at s k.node r.index).link ≡ link = omega (arith, over, before) in
+        let same : (port_of_link s k.node r.index).link ≡ link = omega (arith, over, before) in
         let one = one_link k.node r.index node index R.within within same in
         record { departure = d; is = is; at_node = sym one.0; at_index = sym one.1 }
 
     new_number : (b : Begins) (d : Departure) → (coming_key links_t r.index d).number ≡ sent_t
-    new_number b d = ap (λ i. (port_at t k.node i).sent) (sym b.at_index) ∙ ap (λ n. (port_at t n index).sent) (sym b.at_node)
+    new_number b d = ap (λ i. (port_of_link t k.node i).sent) (sym b.at_index) ∙ ap (λ n. (port_of_link t n index).sent) (sym b.at_node)
 
     abbrev Old : Key → Event → Type 0
     Old q w = IsOld p is_scenario lines now s t k v r S D nodes M R q w
@@ -299,10 +299,10 @@ module _ (p : ScenarioParts) (is_scenario : IsScenario p) (lines : List TraceLin
             packet = c.packet;
             pending =
                 ap (λ (m : Events). finmap.get m c.key) M.pending_is
-                ∙ row_aside k.node r.alarm r.event links_t r.index (finmap.remove s.pending k) r.old r.new r.step.departure c.key (record {
-                  not_cleared = λ u _ is. no_alarm c.key _ _ _ c.over is;
-                  not_set = λ u _ is. no_alarm c.key _ _ _ c.over is;
-                  not_busy = λ d _ is. no_alarm c.key _ _ _ c.over is;
+                ∙ row_aside k.node r.timer r.event links_t r.index (finmap.remove s.pending k) r.old r.new r.step.departure c.key (record {
+                  not_cleared = λ u _ is. no_timer c.key _ _ _ c.over is;
+                  not_set = λ u _ is. no_timer c.key _ _ _ c.over is;
+                  not_busy = λ d _ is. no_timer c.key _ _ _ c.over is;
                   not_coming = λ d is same.
                       let b = new_begins d is (sym (ap (λ (q : Key). q.source) same) ∙ c.over) in
                       let new = begun_sent b in
@@ -326,14 +326,14 @@ module _ (p : ScenarioParts) (is_scenario : IsScenario p) (lines : List TraceLin
 
           new_coming : (number : ℕ) (b : Begins) → number ≡ sent_t → IsComing t.pending link number
           new_coming number b is =
-              let link_is : (link_at links_t r.index).port.link ≡ link = ap (λ i. (port_at t k.node i).link) (sym b.at_index) ∙ ap (λ n. (port_at t n index).link) (sym b.at_node) ∙ same_number in
+              let link_is : (link_at links_t r.index).port.link ≡ link = ap (λ i. (port_of_link t k.node i).link) (sym b.at_index) ∙ ap (λ n. (port_of_link t n index).link) (sym b.at_node) ∙ same_number in
               record {
                 key = coming_key links_t r.index b.departure;
                 packet = b.departure.packet;
                 pending =
                     ap (λ (m : Events). finmap.get m (coming_key links_t r.index b.departure)) M.pending_is
-                    ∙ ap (λ d. finmap.get (apply (row_changes k.node r.alarm r.event r.old r.new links_t r.index d) (finmap.remove s.pending k)) (coming_key links_t r.index b.departure)) b.is
-                    ∙ row_coming (finmap.remove s.pending k) k.node r.alarm r.event r.old r.new links_t r.index b.departure;
+                    ∙ ap (λ d. finmap.get (apply (row_changes k.node r.timer r.event r.old r.new links_t r.index d) (finmap.remove s.pending k)) (coming_key links_t r.index b.departure)) b.is
+                    ∙ row_coming (finmap.remove s.pending k) k.node r.timer r.event r.old r.new links_t r.index b.departure;
                 over = ap (λ n. n + 1) link_is;
                 its_number = new_number b b.departure ∙ sym is;
               }
@@ -356,7 +356,7 @@ module _ (p : ScenarioParts) (is_scenario : IsScenario p) (lines : List TraceLin
           too_late : (c : IsComing t.pending link number) → finmap.get s.pending c.key ≡ Some (Arrive c.packet) → Begins → number ≡ sent_t → ⊥
           too_late c there b is = (let was = (O.after number (before number c there)).1 in let new = begun_sent b in omega (arith, was, new, is))
 
-      all_after : ArrivesOnce (lines ++ line ∷ []) t.pending (port_at t node index)
+      all_after : ArrivesOnce (lines ++ line ∷ []) t.pending (port_of_link t node index)
       all_after =
           let n = N in
           subst (λ l. InFull l) (sym same_number) (record {
@@ -368,10 +368,10 @@ module _ (p : ScenarioParts) (is_scenario : IsScenario p) (lines : List TraceLin
           })
         where
           InFull : ℕ → Type 0
-          InFull l = ArrivesOnce (lines ++ line ∷ []) t.pending (record (port_at t node index) { link = l })
+          InFull l = ArrivesOnce (lines ++ line ∷ []) t.pending (record (port_of_link t node index) { link = l })
 
 abbrev AllArrive : List TraceLine → State → Type 0
-AllArrive lines s = (node index : ℕ) → index < length (part_at s node).links → ArrivesOnce lines s.pending (port_at s node index)
+AllArrive lines s = (node index : ℕ) → index < length (part_at s node).links → ArrivesOnce lines s.pending (port_of_link s node index)
 
 after_step : (p : ScenarioParts) (lines : List TraceLine) (s : State) (k : Key) (v : Event) → IsScenario p → IsSoundRun p lines s → due s ≡ Some (k, v) → AllArrive lines s → AllArrive (lines ++ line_of (k, v) (effect_of s (k, v)) ∷ []) (stepped s k (effect_of s (k, v)))
 after_step p lines s k v is_scenario sound is before =
@@ -388,12 +388,12 @@ after_step p lines s k v is_scenario sound is before =
     let inside : index < length (part_at s node).links = subst (λ n. index < n) (links_same s t k H.shape M H.row.within node) within in
     all_after p is_scenario lines sound.moment s t k v H.shape S D nodes M H.row node index inside (before node index inside) line refl)
 
-at_first : (p : ScenarioParts) → IsScenario p → AllArrive [] (opening p)
+at_first : (p : ScenarioParts) → IsScenario p → AllArrive [] (initial p)
 at_first p is_scenario node index within =
-    let S = (sound_run p zero [] (opening p) is_scenario refl).sound in
-    let nodes = subst (λ n. node < n) S.nodes_are (node_there (opening p) node index within) in
-    let link = all_here (λ (l : LinkState). IsSoundLink p (opening p) 0 l.port) (part_at (opening p) node).links index no_link within (S.each_node node nodes).each_link in
-    let none : (port_at (opening p) node index).sent ≡ 0 = (let a = link.sent_most in omega (arith, a)) in
+    let S = (sound_run p zero [] (initial p) is_scenario refl).sound in
+    let nodes = subst (λ n. node < n) S.nodes_are (node_there (initial p) node index within) in
+    let link = all_here (λ (l : LinkState). IsSoundLink p (initial p) 0 l.port) (part_at (initial p) node).links index no_link within (S.each_node node nodes).each_link in
+    let none : (port_of_link (initial p) node index).sent ≡ 0 = (let a = link.sent_most in omega (arith, a)) in
     record {
       in_turn = refl;
       no_more = omega arith;
@@ -403,18 +403,18 @@ at_first p is_scenario node index within =
     }
   where
     -- at first only starts are pending
-    no_packet : (p : ScenarioParts) → IsScenario p → (q : Key) (x : Packet) → finmap.get (opening p).pending q ≡ Some (Arrive x) → ⊥
+    no_packet : (p : ScenarioParts) → IsScenario p → (q : Key) (x : Packet) → finmap.get (initial p).pending q ≡ Some (Arrive x) → ⊥
     no_packet p is_scenario q x there =
-        let S = (sound_run p zero [] (opening p) is_scenario refl).sound in
+        let S = (sound_run p zero [] (initial p) is_scenario refl).sound in
         let h = S.belongs q (Arrive x) there in
-        let nodes = subst (λ n. h.link.from < n) S.nodes_are (node_there (opening p) h.link.from h.index h.leaves.within) in
-        let link = all_here (λ (l : LinkState). IsSoundLink p (opening p) 0 l.port) (part_at (opening p) h.link.from).links h.index no_link h.leaves.within (S.each_node h.link.from nodes).each_link in
+        let nodes = subst (λ n. h.link.from < n) S.nodes_are (node_there (initial p) h.link.from h.index h.leaves.within) in
+        let link = all_here (λ (l : LinkState). IsSoundLink p (initial p) 0 l.port) (part_at (initial p) h.link.from).links h.index no_link h.leaves.within (S.each_node h.link.from nodes).each_link in
         let a = link.sent_most in let b = h.was_sent in let c = h.counted in omega (arith, a, b, c)
 
 pub packets_arrive_once : PacketsArriveOnce
-packets_arrive_once p zero lines s is e = subst (λ (q : List TraceLine × State). AllArrive q.0 q.1) (same_some ([], opening p) (lines, s) e) (at_first p is)
+packets_arrive_once p zero lines s is e = subst (λ (q : List TraceLine × State). AllArrive q.0 q.1) (same_some ([], initial p) (lines, s) e) (at_first p is)
 packets_arrive_once p (suc n) lines s is e =
-    option_and_then_some one_more (run (opening p) n) (lines, s) e (λ so_far was now.
+    option_and_then_some one_step_more (run (initial p) n) (lines, s) e (λ so_far was now.
     of_one_more so_far lines s now (λ line step_is lines_are.
     of_step so_far.1 line s step_is (λ k v due_is new_is line_is.
     let next = after_step p so_far.0 so_far.1 k v is (sound_run p n so_far.0 so_far.1 is was) due_is (packets_arrive_once p n so_far.0 so_far.1 is was) in

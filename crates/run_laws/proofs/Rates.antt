@@ -19,7 +19,7 @@ use Rattle.port.specs.declared.acts.Act.{Act}
 use Rattle.port.specs.Port.{PortState, PortStep, dropped_for, taken, with_packet, offered_one, offered_all}
 use Rattle.port.proofs.StepLaws.{one_counts}
 use Rattle.table_run.proofs.PortMoves.{IsLink}
-use Rattle.run_laws.specs.Links.{port_at, acts_at, bytes_by, IsWithinRate, RatesHold}
+use Rattle.run_laws.specs.Links.{port_of_link, acts_at, bytes_by, IsWithinRate, RatesHold}
 use Rattle.run_laws.proofs.Along.{LinkFact, IsKeptBy, in_every_state}
 use Rattle.run_laws.proofs.Ports.{counted, by_test, to_none, took}
 use Rattle.run_laws.proofs.Touched.{Touches, by_offers, by_offer, by_take}
@@ -114,4 +114,4 @@ kept = record { first = λ x. omega arith; later = later; done = done }
 pub rates_hold : RatesHold
 rates_hold p n lines s is_scenario e now all node index within =
     let h = in_every_state Fact kept p n lines s is_scenario e in
-    later h.moment now (acts_at (port_at s node index).link lines) (port_at s node index) (h.upto now all) (h.holds node index within)
+    later h.moment now (acts_at (port_of_link s node index).link lines) (port_of_link s node index) (h.upto now all) (h.holds node index within)

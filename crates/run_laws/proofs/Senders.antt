@@ -85,8 +85,8 @@ module _ (p : ScenarioParts) (is_scenario : IsScenario p) (lines : List TraceLin
 
   at_timeout : (n : ℕ) → v ≡ Rto n → IsTimeout p s k n → Comes k.time F.fields v
   at_timeout n v_is h =
-      let node : k.node ≡ h.flow.sender = ap (λ (q : Key). q.node) h.alarm.is_key in
-      let set : F.fields.deadline ≡ Some k.time = ap deadline_of (sym role_is) ∙ ap (λ m. deadline_of (part_at s m).role) node ∙ h.alarm.is_set in
+      let node : k.node ≡ h.flow.sender = ap (λ (q : Key). q.node) h.timer.is_key in
+      let set : F.fields.deadline ≡ Some k.time = ap deadline_of (sym role_is) ∙ ap (λ m. deadline_of (part_at s m).role) node ∙ h.timer.is_set in
       times_out n v_is (subst (λ (o : Option ℕ). IsSome o) (sym set) refl)
 
   at_ack : (x : Packet) → v ≡ Arrive x → IsArrival p s sound.moment k x → (kind : Kind) → x.kind ≡ kind → Comes k.time F.fields v

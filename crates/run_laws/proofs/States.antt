@@ -6,9 +6,9 @@ use Rattle.std.specs.FinMap as finmap
 use Rattle.scenario_image.specs.declared.parts.FlowPart.{FlowPart}
 use Rattle.reno_receiver.specs.Received.{ReceiverState, IsReceived, is_received, next_of}
 use Rattle.reno_receiver.proofs.Laws.{next_holds}
-use Rattle.node_core.specs.declared.alarm.Alarm.TheVariants.{Retransmission}
+use Rattle.node_core.specs.declared.timer.Timer.TheVariants.{Retransmission}
 use Rattle.node_core.specs.declared.event.Event.TheVariants.{Rto}
-use Rattle.node_core.specs.Alarms.{alarm_key}
+use Rattle.node_core.specs.Timers.{timer_key}
 use Rattle.node_core.specs.Part.{LinkState, no_link}
 use Rattle.table_run.specs.State.{State, part_at}
 use Rattle.table_run.specs.Flow.{deadline_of, IsSoundFlow}
@@ -16,7 +16,7 @@ use Rattle.table_run.specs.Sound.{IsSoundLink}
 use Rattle.table_run.proofs.Lists.{all_here}
 use Rattle.table_run.proofs.Moved.{node_there}
 use Rattle.table_run.proofs.RunLaws.{sound_run}
-use Rattle.run_laws.specs.Laws.{bytes_of, IsDelivered, AcknowledgedWasReceived, WindowsHold, TimersRun, ArrivalsKeepOrder, IdleLinksAreEmpty}
+use Rattle.run_laws.specs.Laws.{bytes_of_flow, IsDelivered, AcknowledgedWasReceived, WindowsHold, TimersRun, ArrivalsKeepOrder, IdleLinksAreEmpty}
 use Rattle.run_laws.proofs.Acknowledged.{all_received, una_received}
 
 -- what is below the least number that is missing is there
@@ -31,7 +31,7 @@ below_next r mss same least seq whole below =
 
 delivered : (s : State) (now number : ℕ) (flow : FlowPart) (F : IsSoundFlow s now number flow) → F.fields.una ≤ next_of F.received → IsDelivered flow F.fields F.received
 delivered s now number flow F acknowledged =
-    let whole : F.fields.segments * F.fields.mss ≡ bytes_of flow = λ i. F.its_segments i * F.its_mss i in
+    let whole : F.fields.segments * F.fields.mss ≡ bytes_of_flow flow = λ i. F.its_segments i * F.its_mss i in
     let most = F.sound.high_total in
     let next = F.next_sent in
     record {
@@ -83,7 +83,7 @@ timers_run p n lines s is_scenario e number flow its =
       receives = F.receiver_role;
       holds = record {
         runs = F.sound.deadline_flight;
-        pending = subst (λ o. IfSome o (λ t. finmap.get s.pending (alarm_key flow.sender Retransmission t) ≡ Some (Rto number))) (ap deadline_of F.sender_role) (sound.alarms.timers number flow its);
+        pending = subst (λ o. IfSome o (λ t. finmap.get s.pending (timer_key flow.sender Retransmission t) ≡ Some (Rto number))) (ap deadline_of F.sender_role) (sound.timers.rto_timers number flow its);
         rto_least = F.sound.rto_least;
         rto_most = F.sound.rto_most;
       };

@@ -8,13 +8,13 @@ use Rattle.packet_chain.specs.declared.packet.Kind.TheVariants.{Data, Ack}
 use Rattle.reno_sender.specs.declared.fields.SenderFields.{SenderFields}
 use Rattle.reno_sender.specs.Sending.{Planned}
 use Rattle.reno_sender.specs.Table.{started, acknowledged, timed_out}
-use Rattle.reno_receiver.specs.Received.{ReceiverState, Answered, data_came, alarm_came}
+use Rattle.reno_receiver.specs.Received.{ReceiverState, Answered, data_came, timer_came}
 use Rattle.scenario_image.specs.declared.parts.FlowPart.{FlowPart}
 use Rattle.scenario_image.specs.declared.parts.ScenarioParts.{ScenarioParts}
 use Rattle.scenario_image.specs.Scenario.{IsScenario}
-use Rattle.scenario_image.specs.Ways.{data_way, ack_way}
-use Rattle.scenario_image.specs.WayLaws.{GoesOn, GoesOnOrEnds}
-use Rattle.scenario_image.proofs.Arrivals.{ways_begin, ways_go_on_or_end}
+use Rattle.scenario_image.specs.Paths.{data_path, ack_path}
+use Rattle.scenario_image.specs.PathLaws.{PathGoesOn, GoesOnOrEnds}
+use Rattle.scenario_image.proofs.Arrivals.{paths_begin, paths_go_on_or_end}
 use Rattle.port.specs.Port.{PortState, PortStep, offered_one, offered_all, taken}
 use Rattle.node_core.specs.declared.event.Event.{Event}
 use Rattle.node_core.specs.declared.event.Event.TheVariants.{Start, Rto, DelAck, Free, Arrive}
@@ -23,7 +23,7 @@ use Rattle.node_core.specs.Part.{PartState, link_at}
 use Rattle.node_core.specs.Row.{Effect, data_packet, ack_of, sender_row, receiver_row, start_row, rto_row, delack_row, free_row, arrival_row, at_sender, at_receiver, passed_on}
 use Rattle.node_core.specs.TraceLine.{TraceLine}
 use Rattle.table_run.specs.State.{State, part_at, effect_of}
-use Rattle.table_run.specs.Flow.{way_of}
+use Rattle.table_run.specs.Flow.{path_of}
 use Rattle.table_run.specs.Sound.{Belongs, IsStart, IsTimeout, IsDelayed, IsFree, IsArrival, IsSoundAt}
 use Rattle.table_run.proofs.Exits.{has_exit, exit_by_table}
 use Rattle.table_run.proofs.RowLinks.{flow_limits, first_link}
@@ -52,7 +52,7 @@ module _ (p : ScenarioParts) (is_scenario : IsScenario p) (lines : List TraceLin
 
   by_sender : (effect : Effect) (number : ℕ) (flow : FlowPart) → slice_get p.flows number ≡ Some flow → k.node ≡ flow.sender → (old : SenderFields) (planned : Planned) → effect ≡ sender_row part k number old planned → IsTouched part k.time effect
   by_sender effect number flow its at old planned is =
-      let first = first_link p lines now s S (data_way flow) (flow_limits p is_scenario number flow its).sender_node (ways_begin p is_scenario number flow its).0 in
+      let first = first_link p lines now s S (data_path flow) (flow_limits p is_scenario number flow its).sender_node (paths_begin p is_scenario number flow its).0 in
       record {
         index = 0;
         within = subst (λ n. 0 < length (part_at s n).links) (sym at) first.within;
@@ -64,7 +64,7 @@ module _ (p : ScenarioParts) (is_scenario : IsScenario p) (lines : List TraceLin
 
   by_receiver : (effect : Effect) (number : ℕ) (flow : FlowPart) → slice_get p.flows number ≡ Some flow → k.node ≡ flow.receiver → (old : ReceiverState) (answered : Answered) → effect ≡ receiver_row part k number old answered → IsTouched part k.time effect
   by_receiver effect number flow its at old answered is =
-      let first = first_link p lines now s S (ack_way flow) (flow_limits p is_scenario number flow its).receiver_node (ways_begin p is_scenario number flow its).1 in
+      let first = first_link p lines now s S (ack_path flow) (flow_limits p is_scenario number flow its).receiver_node (paths_begin p is_scenario number flow its).1 in
       record {
         index = 0;
         within = subst (λ n. 0 < length (part_at s n).links) (sym at) first.within;
@@ -83,33 +83,33 @@ module _ (p : ScenarioParts) (is_scenario : IsScenario p) (lines : List TraceLin
   at_timeout : (number : ℕ) → IsTimeout p s k number → IsTouched part k.time (effect_of s (k, Rto number))
   at_timeout number h =
       let F = S.each_flow number h.flow h.its_flow in
-      let at : k.node ≡ h.flow.sender = ap (λ (q : Key). q.node) h.alarm.is_key in
+      let at : k.node ≡ h.flow.sender = ap (λ (q : Key). q.node) h.timer.is_key in
       by_sender (effect_of s (k, Rto number)) number h.flow h.its_flow at F.fields (timed_out F.fields k.time) (ap (λ ρ. rto_row part ρ k) (role_at h.flow.sender at _ F.sender_role))
 
   at_delack : (number : ℕ) → IsDelayed p s k number → IsTouched part k.time (effect_of s (k, DelAck number))
   at_delack number h =
       let F = S.each_flow number h.flow h.its_flow in
-      let at : k.node ≡ h.flow.receiver = ap (λ (q : Key). q.node) h.alarm.is_key in
-      by_receiver (effect_of s (k, DelAck number)) number h.flow h.its_flow at F.received (alarm_came F.received) (ap (λ ρ. delack_row part ρ k) (role_at h.flow.receiver at _ F.receiver_role))
+      let at : k.node ≡ h.flow.receiver = ap (λ (q : Key). q.node) h.timer.is_key in
+      by_receiver (effect_of s (k, DelAck number)) number h.flow h.its_flow at F.received (timer_came F.received) (ap (λ ρ. delack_row part ρ k) (role_at h.flow.receiver at _ F.receiver_role))
 
   at_free : (number : ℕ) → IsFree s k number → IsTouched part k.time (effect_of s (k, Free number))
   at_free number h =
       let step = taken k.time (link_at part.links h.index).port in
-      let index : k.number - 3 ≡ h.index = (let is : k.number ≡ 3 + h.index = ap (λ (q : Key). q.number) h.alarm.is_key in omega (arith, is)) in
+      let index : k.number - 3 ≡ h.index = (let is : k.number ≡ 3 + h.index = ap (λ (q : Key). q.number) h.timer.is_key in omega (arith, is)) in
       let is : effect_of s (k, Free number) ≡ free_row part k h.index = ap (free_row part k) index in
       record {
         index = h.index;
         within = h.link.within;
         step = step;
-        touches = by_take h.alarm.is_set refl;
+        touches = by_take h.timer.is_set refl;
         links_are = ap (λ (e : Effect). e.part.links) is;
         acts_are = ap (λ (e : Effect). e.acts) is;
       }
 
-  passes : (x : Packet) (h : IsArrival p s now k x) → GoesOn p (way_of x.kind h.under_way.flow) k.node → IsTouched part k.time (effect_of s (k, Arrive x))
+  passes : (x : Packet) (h : IsArrival p s now k x) → PathGoesOn p (path_of x.kind h.under_way.flow) k.node → IsTouched part k.time (effect_of s (k, Arrive x))
   passes x h on =
       let U = h.under_way in
-      let e = has_exit p lines now s k S (way_of x.kind U.flow) on in
+      let e = has_exit p lines now s k S (path_of x.kind U.flow) on in
       let is : effect_of s (k, Arrive x) ≡ passed_on part k x (Some e.index) = ap (λ ρ. arrival_row part ρ k x) e.role_is ∙ ap (passed_on part k x) (exit_by_table p k.node x U.flow U.its_flow ∙ e.exit) in
       record {
         index = e.index;
@@ -120,7 +120,7 @@ module _ (p : ScenarioParts) (is_scenario : IsScenario p) (lines : List TraceLin
         acts_are = ap (λ (e : Effect). e.acts) is;
       }
 
-  ends_at : (x : Packet) (h : IsArrival p s now k x) (kind : Kind) → x.kind ≡ kind → k.node ≡ (way_of kind h.under_way.flow).end → IsTouched part k.time (effect_of s (k, Arrive x))
+  ends_at : (x : Packet) (h : IsArrival p s now k x) (kind : Kind) → x.kind ≡ kind → k.node ≡ (path_of kind h.under_way.flow).end → IsTouched part k.time (effect_of s (k, Arrive x))
   ends_at x h Data is at =
       let U = h.under_way in
       let F = S.each_flow x.flow U.flow U.its_flow in
@@ -132,7 +132,7 @@ module _ (p : ScenarioParts) (is_scenario : IsScenario p) (lines : List TraceLin
       by_sender (effect_of s (k, Arrive x)) x.flow U.flow U.its_flow at F.fields (acknowledged F.fields x.number k.time)
       (ap (λ ρ. arrival_row part ρ k x) (role_at U.flow.sender at _ F.sender_role) ∙ ap (λ c. at_sender part k x.flow F.fields c x.number) is)
 
-  of_kind : (kind : Kind) (flow : FlowPart) → GoesOnOrEnds p (data_way flow) × GoesOnOrEnds p (ack_way flow) → GoesOnOrEnds p (way_of kind flow)
+  of_kind : (kind : Kind) (flow : FlowPart) → GoesOnOrEnds p (data_path flow) × GoesOnOrEnds p (ack_path flow) → GoesOnOrEnds p (path_of kind flow)
   of_kind Data flow both = both.0
   of_kind Ack flow both = both.1
 
@@ -140,9 +140,9 @@ module _ (p : ScenarioParts) (is_scenario : IsScenario p) (lines : List TraceLin
   at_arrival x h =
       let U = h.under_way in
       ⊎_elim
-      (λ (ends : h.link.to ≡ (way_of x.kind U.flow).end). ends_at x h x.kind refl (h.ends_here ∙ ends))
-      (λ (on : GoesOn p (way_of x.kind U.flow) h.link.to). passes x h (subst (GoesOn p (way_of x.kind U.flow)) (sym h.ends_here) on))
-      (of_kind x.kind U.flow (ways_go_on_or_end p is_scenario x.flow U.flow U.its_flow) h.number h.link U.on_way h.its_link)
+      (λ (ends : h.link.to ≡ (path_of x.kind U.flow).end). ends_at x h x.kind refl (h.ends_here ∙ ends))
+      (λ (on : PathGoesOn p (path_of x.kind U.flow) h.link.to). passes x h (subst (PathGoesOn p (path_of x.kind U.flow)) (sym h.ends_here) on))
+      (of_kind x.kind U.flow (paths_go_on_or_end p is_scenario x.flow U.flow U.its_flow) h.number h.link U.on_way h.its_link)
 
   pub touched : (v : Event) → Belongs p s now k v → IsTouched part k.time (effect_of s (k, v))
   touched (Start number) h = at_start number h

@@ -18,11 +18,11 @@ use Rattle.port.specs.Losses as losses
 use Rattle.port.specs.declared.acts.Act.{Act}
 use Rattle.port.specs.Port.{PortState, PortStep, Departure, begun, taken, with_packet, offered_one, offered_all}
 use Rattle.port.proofs.StepLaws.{taken_sends, one_sends, busy_link_begins_nothing, one_if, taken_counts, one_counts}
-use Rattle.ranking.proofs.Maps.{same_some}
+use Rattle.tournament.proofs.Maps.{same_some}
 use Rattle.table_run.specs.State.{effect_of, stepped}
 use Rattle.table_run.proofs.RunLaws.{sound_run}
 use Rattle.run_laws.specs.Laws.{IsKept}
-use Rattle.run_laws.specs.Links.{port_at, left_by, packets_of, AtEachLink, LeavesInTurn, SendsOneByOne}
+use Rattle.run_laws.specs.Links.{port_of_link, left_by, packets_of, AtEachLink, LeavesInTurn, SendsOneByOne}
 use Rattle.run_laws.proofs.Events.{its_own, IsLeft, IsDone, as_many, at_link}
 use Rattle.run_laws.proofs.Ports.{sends, counted, by_test, taken_balances, one_balances, all_balance, sends_append, took}
 use Rattle.run_laws.proofs.States.{idle_links_are_empty}
@@ -34,8 +34,8 @@ pub at_each_link : (P : ℕ → PortState → List Act → PortState → Type 0)
 at_each_link P left done p n lines s is_scenario e k v is node index within =
     let sound = sound_run p n lines s is_scenario e in
     let t = stepped s k (effect_of s (k, v)) in
-    let old = port_at s node index in
-    let new = port_at t node index in
+    let old = port_of_link s node index in
+    let new = port_of_link t node index in
     let acts = its_own old.link (effect_of s (k, v)).acts in
     let a = at_link p is_scenario lines s k v sound is node index (subst (λ n. index < n) (sym (as_many p is_scenario lines s k v sound is node)) within) in
     ⊎_elim

@@ -9,10 +9,10 @@ use Rattle.reno_sender.specs.declared.fields.SenderFields.{SenderFields}
 use Rattle.reno_receiver.specs.Received.{ReceiverState, IsReceived, next_of}
 use Rattle.aqm.specs.Queue.{fifo_of, waiting_in}
 use Rattle.port.specs.Port.{PortState}
-use Rattle.node_core.specs.declared.alarm.Alarm.TheVariants.{Retransmission}
+use Rattle.node_core.specs.declared.timer.Timer.TheVariants.{Retransmission}
 use Rattle.node_core.specs.declared.event.Event.TheVariants.{Rto}
 use Rattle.node_core.specs.declared.role.Role.TheVariants.{Sends, Receives}
-use Rattle.node_core.specs.Alarms.{alarm_key}
+use Rattle.node_core.specs.Timers.{timer_key}
 use Rattle.node_core.specs.Part.{link_at}
 use Rattle.node_core.specs.Pending.{Events}
 use Rattle.node_core.specs.TraceLine.{TraceLine}
@@ -36,19 +36,19 @@ abbrev pub OfEachFlow : (FlowPart → SenderFields → ReceiverState → Type 0)
 OfEachFlow P p s = (number : ℕ) (flow : FlowPart) → slice_get p.flows number ≡ Some flow → HasEnds (P flow) s number flow
 
 -- the bytes of a flow
-abbrev pub bytes_of : FlowPart → ℕ
-bytes_of flow = flow.segments * flow.mss
+abbrev pub bytes_of_flow : FlowPart → ℕ
+bytes_of_flow flow = flow.segments * flow.mss
 
 -- what was acknowledged was received, and what was received was sent; what is received in order is all below the next byte; a flow that is complete has delivered all
 pub record IsDelivered (flow : FlowPart) (f : SenderFields) (r : ReceiverState) : Type 0 where
   pub una_nxt : f.una ≤ f.nxt
   pub nxt_high : f.nxt ≤ f.high
-  pub high_most : f.high ≤ bytes_of flow
+  pub high_most : f.high ≤ bytes_of_flow flow
   pub acknowledged : f.una ≤ next_of r
   pub received : next_of r ≤ f.high
   pub in_order : (seq : ℕ) → seq % flow.mss ≡ 0 → seq < next_of r → IsReceived r seq
   pub sent : (seq : ℕ) → IsReceived r seq → seq + flow.mss ≤ f.high
-  pub complete : f.una ≡ bytes_of flow → next_of r ≡ bytes_of flow
+  pub complete : f.una ≡ bytes_of_flow flow → next_of r ≡ bytes_of_flow flow
 
 abbrev pub AcknowledgedWasReceived : Type 0
 AcknowledgedWasReceived = InEveryState (λ p _ s. OfEachFlow IsDelivered p s)
@@ -65,7 +65,7 @@ WindowsHold = InEveryState (λ p _ s. OfEachFlow IsWindowed p s)
 -- the retransmission timer of a flow is set exactly while bytes are in flight; its end is pending then
 pub record IsTimed (events : Events) (number : ℕ) (flow : FlowPart) (f : SenderFields) : Type 0 where
   pub runs : IsSome f.deadline ↔ (f.una < f.nxt)
-  pub pending : IfSome f.deadline (λ t. finmap.get events (alarm_key flow.sender Retransmission t) ≡ Some (Rto number))
+  pub pending : IfSome f.deadline (λ t. finmap.get events (timer_key flow.sender Retransmission t) ≡ Some (Rto number))
   pub rto_least : 1000000000 ≤ f.rto
   pub rto_most : f.rto ≤ 60000000000
 

@@ -27,8 +27,8 @@ use Rattle.table_run.specs.Laws.{AtEachEvent}
 use Rattle.run_laws.specs.Laws.{InEveryState}
 
 -- the sending side of a link: one of those that leave a node
-abbrev pub port_at : State → ℕ → ℕ → PortState
-port_at s node index = (link_at (part_at s node).links index).port
+abbrev pub port_of_link : State → ℕ → ℕ → PortState
+port_of_link s node index = (link_at (part_at s node).links index).port
 
 -- the link of an act
 abbrev pub link_of : Act → ℕ
@@ -43,9 +43,9 @@ abbrev pub is_sent : Act → Bool
 is_sent (Tx link packet) = true
 is_sent (Dropped link reason packet) = false
 
-abbrev pub is_lost : Act → Bool
-is_lost (Dropped link Lost packet) = true
-is_lost act = false
+abbrev pub is_lost_act : Act → Bool
+is_lost_act (Dropped link Lost packet) = true
+is_lost_act act = false
 
 abbrev pub is_refused : Act → Bool
 is_refused (Dropped link Full packet) = true
@@ -57,20 +57,20 @@ by_queue act = false
 
 -- each packet that was offered was lost, refused by a full queue, dropped by the queue, or began to be sent, or it waits: one of these
 pub record IsConserved (acts : List Act) (port : PortState) : Type 0 where
-  pub offered : port.offered ≡ count_by is_lost acts + count_by is_refused acts + count_by by_queue acts + count_by is_sent acts + length (waiting_in port.queue)
+  pub offered : port.offered ≡ count_by is_lost_act acts + count_by is_refused acts + count_by by_queue acts + count_by is_sent acts + length (waiting_in port.queue)
   pub sent : port.sent ≡ count_by is_sent acts
 
 -- P holds of each link in every state, with what the lines tell of it
 abbrev pub OfEachLink : (List Act → PortState → Type 0) → Type 0
-OfEachLink P = InEveryState (λ p lines s. (node index : ℕ) → index < length (part_at s node).links → P (acts_at (port_at s node index).link lines) (port_at s node index))
+OfEachLink P = InEveryState (λ p lines s. (node index : ℕ) → index < length (part_at s node).links → P (acts_at (port_of_link s node index).link lines) (port_of_link s node index))
 
 abbrev pub PacketsAreConserved : Type 0
 PacketsAreConserved = OfEachLink IsConserved
 
 -- P holds of each event at each link: its moment, the link before, the acts there, and the link afterwards
 abbrev pub AtEachLink : (ℕ → PortState → List Act → PortState → Type 0) → Type 0
-AtEachLink P = AtEachEvent (λ p s k v. (node index : ℕ) → index < length (part_at s node).links → let old = port_at s node index in
-    P k.time old (filter (λ act. link_of act == old.link) (effect_of s (k, v)).acts) (port_at (stepped s k (effect_of s (k, v))) node index))
+AtEachLink P = AtEachEvent (λ p s k v. (node index : ℕ) → index < length (part_at s node).links → let old = port_of_link s node index in
+    P k.time old (filter (λ act. link_of act == old.link) (effect_of s (k, v)).acts) (port_of_link (stepped s k (effect_of s (k, v))) node index))
 
 -- the packet that an act tells to leave the queue
 abbrev pub left_by : Act → Option Packet
@@ -121,7 +121,7 @@ abbrev pub IsWithinRate : ℕ → List Act → PortState → Type 0
 IsWithinRate now acts port = sum_by bytes_by acts * 8000000000 ≤ unwrap_or port.next_free now * port.rate
 
 abbrev pub RatesHold : Type 0
-RatesHold = InEveryState (λ p lines s. (now : ℕ) → AllByRecursion (λ (line : TraceLine). line.key.time ≤ now) lines → (node index : ℕ) → index < length (part_at s node).links → let port = port_at s node index in IsWithinRate now (acts_at port.link lines) port)
+RatesHold = InEveryState (λ p lines s. (now : ℕ) → AllByRecursion (λ (line : TraceLine). line.key.time ≤ now) lines → (node index : ℕ) → index < length (part_at s node).links → let port = port_of_link s node index in IsWithinRate now (acts_at port.link lines) port)
 
 -- the numbers of the packets that arrived over a link, in the order in which they came; a packet's number is how many the link had begun to send with it
 abbrev pub arrived : ℕ → List TraceLine → List ℕ
@@ -144,4 +144,4 @@ pub record ArrivesOnce (lines : List TraceLine) (events : Events) (port : PortSt
   pub once : (number : ℕ) (a b : IsComing events port.link number) → a.key ≡ b.key
 
 abbrev pub PacketsArriveOnce : Type 0
-PacketsArriveOnce = InEveryState (λ p lines s. (node index : ℕ) → index < length (part_at s node).links → ArrivesOnce lines s.pending (port_at s node index))
+PacketsArriveOnce = InEveryState (λ p lines s. (node index : ℕ) → index < length (part_at s node).links → ArrivesOnce lines s.pending (port_of_link s node index))

@@ -14,7 +14,7 @@ use Rattle.node_core.specs.declared.event.Event.TheVariants.{Start, Rto, DelAck,
 use Rattle.node_core.specs.declared.role.Role.TheVariants.{Sends}
 use Rattle.table_run.specs.State.{part_at, effect_of, stepped}
 use Rattle.table_run.specs.Laws.{AtEachEvent}
-use Rattle.run_laws.specs.Links.{port_at}
+use Rattle.run_laws.specs.Links.{port_of_link}
 
 -- the row of the sender's table for an event at its node
 abbrev pub for_packet : SenderFields → Kind → ℕ → ℕ → Planned
@@ -57,4 +57,4 @@ TimesNoneResent now v f q = (x : ℕ) → Contains q.sent x → x < f.high → I
 -- a sender's link is offered as many packets as the sender sends segments
 abbrev pub SendersOfferWhatTheySend : Type 0
 SendersOfferWhatTheySend = AtEachEvent (λ p s k v. (number : ℕ) (flow : FlowPart) → slice_get p.flows number ≡ Some flow → flow.sender ≡ k.node → (f : SenderFields) → (part_at s flow.sender).role ≡ Sends number f
-    → (port_at (stepped s k (effect_of s (k, v))) flow.sender 0).offered ≡ (port_at s flow.sender 0).offered + length (row_of f v k.time).sent)
+    → (port_of_link (stepped s k (effect_of s (k, v))) flow.sender 0).offered ≡ (port_of_link s flow.sender 0).offered + length (row_of f v k.time).sent)

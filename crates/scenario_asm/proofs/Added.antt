@@ -10,23 +10,23 @@ use Rattle.scenario_asm.specs.declared.statement.LinkLine.{LinkLine}
 use Rattle.scenario_asm.specs.declared.statement.LoseLine.{LoseLine}
 use Rattle.scenario_asm.specs.declared.statement.Statement.{Statement}
 use Rattle.scenario_asm.specs.declared.statement.Statement.TheVariants.{Sim, Node, Link, Flow, Route, Lose}
-use Rattle.scenario_asm.specs.Draft.{AreEnds, Holds}
+use Rattle.scenario_asm.specs.Draft.{HasTheseEnds, Holds}
 use Rattle.scenario_asm.specs.Right.{AreOfKinds, IsFlowOfKinds, IsRouteOfKinds, IsNodeRight, IsLinkRight, IsFlowRight, IsRouteRight}
 use Rattle.scenario_asm.specs.Lines.{Word}
 use Rattle.scenario_asm.specs.Names.{Known, is_taken, with_node, with_link, with_flow}
 use Rattle.scenario_asm.specs.Routes.{placed}
 use Rattle.scenario_asm.specs.Table.{known_in}
-use Rattle.scenario_asm.specs.Text.{said_end, link_part, links_of, known_of}
+use Rattle.scenario_asm.specs.Text.{said_end, losing_link_part, links_of, known_of}
 use Rattle.scenario_asm.proofs.Holds.{sim_known, node_known, link_known, flow_known, route_known, lose_known, still_lost, link_lost, lose_lost, lose_declared, same_ends, more_ends}
 use Rattle.scenario_asm.proofs.OfKinds.{node_kinds, link_kinds, flow_kinds, route_kinds, lose_kinds}
 
 kinds_of : (known next : Known) → known ≡ next → AreOfKinds known → AreOfKinds next
 kinds_of known next is kinds = subst AreOfKinds is kinds
 
-ends_kept : (old new : Draft) (statements : List Statement) (s : Statement) → said_end s ≡ None → new.ends ≡ old.ends → AreEnds old.ends (filter_map said_end statements) → AreEnds new.ends (filter_map said_end (statements ++ s ∷ []))
+ends_kept : (old new : Draft) (statements : List Statement) (s : Statement) → said_end s ≡ None → new.ends ≡ old.ends → HasTheseEnds old.ends (filter_map said_end statements) → HasTheseEnds new.ends (filter_map said_end (statements ++ s ∷ []))
 ends_kept old new statements s none same ends = rw (same, ← same_ends statements s none) ends
 
-pub sim_added : (old new : Draft) (statements : List Statement) (end : ℕ) → Holds old statements → ((ends : List ℕ) → AreEnds old.ends ends → AreEnds new.ends (ends ++ end ∷ [])) → known_in new.table ≡ known_in old.table → Holds new (statements ++ Sim end ∷ [])
+pub sim_added : (old new : Draft) (statements : List Statement) (end : ℕ) → Holds old statements → ((ends : List ℕ) → HasTheseEnds old.ends ends → HasTheseEnds new.ends (ends ++ end ∷ [])) → known_in new.table ≡ known_in old.table → Holds new (statements ++ Sim end ∷ [])
 sim_added old new statements end held ends same =
     record {
       ends = rw (← more_ends statements (Sim end) end refl) (ends _ held.ends);
@@ -46,14 +46,14 @@ node_added old new statements name kind held right same is =
       lost = still_lost statements (Node name kind) refl (λ k. refl) held.lost;
     }
 
-pub link_added : (old new : Draft) (statements : List Statement) (name : Word) (line : LinkLine) → Holds old statements → IsLinkRight (known_in old.table) name line → new.ends ≡ old.ends → known_in new.table ≡ with_link (known_in old.table) name (link_part line []) → Holds new (statements ++ Link name line ∷ [])
+pub link_added : (old new : Draft) (statements : List Statement) (name : Word) (line : LinkLine) → Holds old statements → IsLinkRight (known_in old.table) name line → new.ends ≡ old.ends → known_in new.table ≡ with_link (known_in old.table) name (losing_link_part line []) → Holds new (statements ++ Link name line ∷ [])
 link_added old new statements name line held right same is =
     let free = ap (λ known. is_taken known name) (sym held.known) ∙ right.free in
     let next = link_known statements name line free held.lost in
     record {
       ends = ends_kept old new statements (Link name line) refl same held.ends;
-      known = is ∙ (ap (λ known. with_link known name (link_part line [])) held.known ∙ next);
-      kinds = kinds_of _ _ next (link_kinds (known_of statements) name (link_part line []) right.apart held.kinds);
+      known = is ∙ (ap (λ known. with_link known name (losing_link_part line [])) held.known ∙ next);
+      kinds = kinds_of _ _ next (link_kinds (known_of statements) name (losing_link_part line []) right.apart held.kinds);
       lost = link_lost statements name line held.lost;
     }
 

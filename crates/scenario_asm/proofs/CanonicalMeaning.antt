@@ -11,9 +11,9 @@ use Rattle.scenario_image.specs.declared.parts.LinkPart.{LinkPart}
 use Rattle.scenario_image.specs.declared.parts.ScenarioParts.{ScenarioParts}
 use Rattle.scenario_asm.specs.declared.statement.Statement.{Statement}
 use Rattle.scenario_asm.specs.declared.statement.Statement.TheVariants.{Sim}
-use Rattle.scenario_asm.specs.Lines.{lines_of}
+use Rattle.scenario_asm.specs.Lines.{lines_of_text}
 use Rattle.scenario_asm.specs.Names.{Known, is_end, is_from, known_parts}
-use Rattle.scenario_asm.specs.Text.{said_end, known_of, parts_of}
+use Rattle.scenario_asm.specs.Text.{said_end, known_of, parts_of_statements}
 use Rattle.scenario_asm.specs.Meaning.{AreRead, MeansScenario}
 use Rattle.scenario_asm.specs.Spelling.{line_for, text_for}
 use Rattle.scenario_asm.specs.CanonicalText.{node_statements, link_statements, flow_statements, route_statements, lose_statements, statements_for, CanonicalTextsMeanTheirScenarios}
@@ -96,7 +96,7 @@ parts_known parts known kinds links flows routes = rw (kinds, links, flows, rout
 means_of : (parts : ScenarioParts) (statements : List Statement) → Stands (parts.end ∷ []) statements parts.nodes parts.links parts.flows parts.routes → IsScenario parts → MeansScenario (text_for statements) parts
 means_of parts statements stands right =
     let some : Statement → Option Statement = λ s. Some s in
-    let lines : lines_of (text_for statements) ≡ map line_for statements = ap lines_of (sym (append-nil (text_for statements))) ∙ (stands.lines [] ∙ append-nil (map line_for statements)) in
+    let lines : lines_of_text (text_for statements) ≡ map line_for statements = ap lines_of_text (sym (append-nil (text_for statements))) ∙ (stands.lines [] ∙ append-nil (map line_for statements)) in
     let Read : List (List ℕ) → Type 0 = λ l. AreRead l (map some statements) in
     let known = parts_known parts (known_of statements) stands.known.kinds_are stands.known.links_are stands.known.flows_are stands.known.routes_are in
     record {
@@ -106,7 +106,7 @@ means_of parts statements stands right =
           record {
             end = parts.end;
             one_end = record { one_end = ap (filter_map said_end) (said_back statements) ∙ stands.ends_are };
-            parts_are = known ∙ ap (parts_of parts.end) (sym (said_back statements));
+            parts_are = known ∙ ap (parts_of_statements parts.end) (sym (said_back statements));
             right = right;
           };
     }

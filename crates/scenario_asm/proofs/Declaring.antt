@@ -14,13 +14,13 @@ use Rattle.scenario_asm.specs.declared.fault.Fault.{Fault}
 use Rattle.scenario_asm.specs.declared.fault.Fault.TheVariants.{E1, E2, E3}
 use Rattle.scenario_asm.specs.declared.statement.Statement.{Statement}
 use Rattle.scenario_asm.specs.declared.statement.Statement.TheVariants.{Sim, Node, Link, Flow, Route, Lose}
-use Rattle.scenario_asm.specs.Lines.{Word, words_of, lines_of, is_printable}
+use Rattle.scenario_asm.specs.Lines.{Word, words_of, lines_of_text, is_printable}
 use Rattle.scenario_asm.specs.Numbers.{number, number_verdict}
 use Rattle.scenario_asm.specs.Names.{Known, number_of, lost_of, is_full_router}
-use Rattle.scenario_asm.specs.Statements.{nth, is_drop_tail, is_codel, kind_named, link_said, flow_said, node_verdicts, link_verdicts, flow_verdicts, route_verdicts, lose_verdicts, sim_at, node_at, link_at, flow_at, route_at, lose_at, statement_at, as_said, line_at}
-use Rattle.scenario_asm.specs.Text.{node_name, link_name, flow_name, known_of, parts_of}
+use Rattle.scenario_asm.specs.Statements.{nth, is_drop_tail, is_codel, kind_named, link_said, flow_said, node_verdicts, link_verdicts, flow_verdicts, route_verdicts, lose_verdicts, sim_at, node_statement, link_statement, flow_at, route_at, lose_at, statement_at, as_said, line_at}
+use Rattle.scenario_asm.specs.Text.{node_name, link_name, flow_name, known_of, parts_of_statements}
 use Rattle.scenario_asm.specs.Meaning.{AreRead, statements_of, HaveEnd}
-use Rattle.scenario_asm.specs.Verdicts.{Verdict, judged}
+use Rattle.scenario_asm.specs.Verdicts.{Verdict, judged_line}
 use Rattle.scenario_asm.specs.Declarations.{second_after, seconds_after, MakeParts, GiveParts, DeclaresParts, Declares}
 use Rattle.scenario_image.specs.declared.parts.ScenarioParts.{ScenarioParts}
 use Rattle.scenario_asm.specs.declared.draft.Draft.{Draft}
@@ -48,7 +48,7 @@ second_there [] many = absurd (omega arith)
 second_there (word ∷ []) many = absurd (omega arith)
 second_there (word ∷ other ∷ words) many = refl
 
-counted_says : {A : Type 0} (counted : Bool) (verdicts : List Verdict) (full : Bool) (value x : A) → judged counted verdicts full value ≡ Ok x → counted ≡ true
+counted_says : {A : Type 0} (counted : Bool) (verdicts : List Verdict) (full : Bool) (value x : A) → judged_line counted verdicts full value ≡ Ok x → counted ≡ true
 counted_says true verdicts full value x is = refl
 counted_says false verdicts full value x is = absurd (err_not E3 x is)
 
@@ -73,7 +73,7 @@ length_many true u n is = eight_many n is
 length_many false true n is = eleven_many n is
 length_many false false n is = either_many (n == 8) (n == 11) n (eight_many n) (eleven_many n) is
 
-node_of : (known : Known) (words : List Word) (s : Statement) → nth words 0 ≡ codes "node" → node_at known words ≡ Ok s → IsOf words s
+node_of : (known : Known) (words : List Word) (s : Statement) → nth words 0 ≡ codes "node" → node_statement known words ≡ Ok s → IsOf words s
 node_of known words s first says =
     let full = nat_le MOST_NODES (length known.kinds) in
     let value = Node (nth words 1) (unwrap_or (kind_named (nth words 2)) Router) in
@@ -81,7 +81,7 @@ node_of known words s first says =
     let it : IsOf words value = (first, second_there words many) in
     subst (IsOf words) (judged_says _ (node_verdicts known words) full value s says).1 it
 
-link_of : (known : Known) (words : List Word) (s : Statement) → nth words 0 ≡ codes "link" → link_at known words ≡ Ok s → IsOf words s
+link_of : (known : Known) (words : List Word) (s : Statement) → nth words 0 ≡ codes "link" → link_statement known words ≡ Ok s → IsOf words s
 link_of known words s first says =
     let full = nat_le MOST_LINKS (length known.links) || is_full_router known (number_of known (nth words 2)) in
     let value = Link (nth words 1) (link_said known words) in
@@ -267,24 +267,24 @@ pub no_end : (text : List ℕ) (draft : Draft) (found : Option ScenarioParts) �
 no_end text draft found is gives all parts declares =
     let P : Option ScenarioParts → Type 0 = λ o. GiveParts (statements_of all.said) o in
     let none : P None = subst P is (gives (statements_of all.said) all.holds) in
-    let same : declares.said ≡ all.said = all_said (lines_of text) declares.said all.said declares.all_read all.read in
+    let same : declares.said ≡ all.said = all_said (lines_of_text text) declares.said all.said declares.all_read all.read in
     let Q : List (Option Statement) → Type 0 = λ s. HaveEnd (statements_of s) declares.made.end in
     none declares.made.end (subst Q same declares.made.one_end)
 
 -- a text declares one thing
 pub one_declared : (text : List ℕ) (p q : ScenarioParts) → DeclaresParts text p → DeclaresParts text q → p ≡ q
 one_declared text p q a b =
-    let same : a.said ≡ b.said = all_said (lines_of text) a.said b.said a.all_read b.all_read in
+    let same : a.said ≡ b.said = all_said (lines_of_text text) a.said b.said a.all_read b.all_read in
     let Q : List (Option Statement) → Type 0 = λ s. HaveEnd (statements_of s) a.made.end in
     let ends : a.made.end ≡ b.made.end = one_end (statements_of b.said) a.made.end b.made.end (subst Q same a.made.one_end) b.made.one_end in
-    a.made.parts_are ∙ (ap (λ s. parts_of a.made.end (statements_of s)) same ∙ (ap (λ e. parts_of e (statements_of b.said)) ends ∙ sym b.made.parts_are))
+    a.made.parts_are ∙ (ap (λ s. parts_of_statements a.made.end (statements_of s)) same ∙ (ap (λ e. parts_of_statements e (statements_of b.said)) ends ∙ sym b.made.parts_are))
 
 -- the parts with the names
-pub names_declared : (text : List ℕ) (named : NamedParts) → DeclaresParts text named.parts → map (λ name. name.now) named.nodes.items ≡ seconds_after (codes "node") (lines_of text) → map (λ name. name.now) named.links.items ≡ seconds_after (codes "link") (lines_of text) → map (λ name. name.now) named.flows.items ≡ seconds_after (codes "flow") (lines_of text) → Declares text named
+pub names_declared : (text : List ℕ) (named : NamedParts) → DeclaresParts text named.parts → map (λ name. name.now) named.nodes.items ≡ seconds_after (codes "node") (lines_of_text text) → map (λ name. name.now) named.links.items ≡ seconds_after (codes "link") (lines_of_text text) → map (λ name. name.now) named.flows.items ≡ seconds_after (codes "flow") (lines_of_text text) → Declares text named
 names_declared text named parts nodes links flows =
     record {
       parts = parts;
-      nodes = nodes ∙ node_names (lines_of text) parts.said parts.all_read;
-      links = links ∙ link_names (lines_of text) parts.said parts.all_read;
-      flows = flows ∙ flow_names (lines_of text) parts.said parts.all_read;
+      nodes = nodes ∙ node_names (lines_of_text text) parts.said parts.all_read;
+      links = links ∙ link_names (lines_of_text text) parts.said parts.all_read;
+      flows = flows ∙ flow_names (lines_of_text text) parts.said parts.all_read;
     }

@@ -4,7 +4,7 @@ use Rattle.sim_time.specs.declared.variant.Variant.{Variant}
 use Rattle.scenario_image.specs.declared.limits.TheConstants.{MOST_FLOWS}
 use Rattle.scenario_asm.specs.declared.fault.Fault.{Fault}
 use Rattle.scenario_asm.specs.declared.fault.Fault.TheVariants.{E9}
-use Rattle.scenario_asm.specs.declared.statement.Refusal.{Refusal}
+use Rattle.scenario_asm.specs.declared.statement.StatementFault.{StatementFault}
 use Rattle.scenario_asm.specs.declared.statement.Statement.{Statement}
 use Rattle.scenario_asm.specs.declared.statement.Statement.TheVariants.{Flow}
 use Rattle.scenario_asm.specs.declared.statement.flow.FlowNumbers.{FlowNumbers}
@@ -19,15 +19,15 @@ use Rattle.scenario_asm.proofs.Verdicts.{no_faulty, judged_full, judged_ok}
 use Rattle.scenario_asm.proofs.Parts.{fault_behind, refused, refused_last}
 
 -- a `flow` is refused as its name and ends, its numbers or its sender's words are
-pub ends_refused : (known : Known) (words : List Word) (refusal : Refusal) → has_flow_length words ≡ true → IsReadFrom 1 (flow_end_verdicts known words) (flow_ends_said known words) (Err refusal) → (Err (fault_in refusal) ≡ flow_at known words) × (word_in refusal ≡ flow_word known words)
+pub ends_refused : (known : Known) (words : List Word) (refusal : StatementFault) → has_flow_length words ≡ true → IsReadFrom 1 (flow_end_verdicts known words) (flow_ends_said known words) (Err refusal) → (Err (fault_in refusal) ≡ flow_at known words) × (word_in refusal ≡ flow_word known words)
 ends_refused known words refusal counted read = refused (flow_verdicts known words) [] (flow_end_verdicts known words) (flow_number_verdicts words ++ variant_verdicts words) (has_flow_length words) (nat_le MOST_FLOWS (length known.flows)) (Flow (nth words 1) (flow_said known words)) (flow_ends_said known words) refusal counted refl refl read
 
-pub numbers_refused : (known : Known) (words : List Word) (refusal : Refusal) → has_flow_length words ≡ true → first_fault (flow_end_verdicts known words) ≡ None → IsReadFrom 4 (flow_number_verdicts words) (flow_numbers_said words) (Err refusal)
+pub numbers_refused : (known : Known) (words : List Word) (refusal : StatementFault) → has_flow_length words ≡ true → first_fault (flow_end_verdicts known words) ≡ None → IsReadFrom 4 (flow_number_verdicts words) (flow_numbers_said words) (Err refusal)
     → (Err (fault_in refusal) ≡ flow_at known words) × (word_in refusal ≡ flow_word known words)
 numbers_refused known words refusal counted ends read =
     refused (flow_verdicts known words) (flow_end_verdicts known words) (flow_number_verdicts words) (variant_verdicts words) (has_flow_length words) (nat_le MOST_FLOWS (length known.flows)) (Flow (nth words 1) (flow_said known words)) (flow_numbers_said words) refusal counted refl ends read
 
-pub variant_refused : (known : Known) (words : List Word) (refusal : Refusal) → has_flow_length words ≡ true → first_fault (flow_end_verdicts known words) ≡ None → first_fault (flow_number_verdicts words) ≡ None → IsReadFrom 9 (variant_verdicts words) (variant_said words) (Err refusal)
+pub variant_refused : (known : Known) (words : List Word) (refusal : StatementFault) → has_flow_length words ≡ true → first_fault (flow_end_verdicts known words) ≡ None → first_fault (flow_number_verdicts words) ≡ None → IsReadFrom 9 (variant_verdicts words) (variant_said words) (Err refusal)
     → (Err (fault_in refusal) ≡ flow_at known words) × (word_in refusal ≡ flow_word known words)
 variant_refused known words refusal counted ends numbers read =
     refused_last (flow_verdicts known words) (flow_end_verdicts known words ++ flow_number_verdicts words) (variant_verdicts words) (has_flow_length words) (nat_le MOST_FLOWS (length known.flows)) (Flow (nth words 1) (flow_said known words)) (variant_said words) refusal counted refl

@@ -29,7 +29,7 @@ use Rattle.scenario_asm.specs.Names.{is_taken, with_node, with_link, with_flow}
 use Rattle.scenario_asm.specs.Routes.{placed, rising}
 use Rattle.scenario_asm.specs.Draft.{AreLostOfLinks}
 use Rattle.scenario_asm.specs.Meaning.{statements_of}
-use Rattle.scenario_asm.specs.Text.{said_end, node_name, node_kind, link_name, link_line, lost_number, lost_numbers, link_part, numbered_links, links_of, flow_name, flow_part, route_part, routes_of, number_among, flow_among, items_by, item_of, known_of}
+use Rattle.scenario_asm.specs.Text.{said_end, node_name, node_kind, link_name, link_line, lost_number, lost_numbers, losing_link_part, numbered_links, links_of, flow_name, flow_part, route_part, routes_of, number_among, flow_among, items_by, item_of, known_of}
 
 -- what is added by a statement that h gives something of, and by one that it gives nothing of
 some_more : {X Y : Type 0} (h : X → Option Y) (xs : List X) (x : X) (y : Y) → h x ≡ Some y → filter_map h (xs ++ x ∷ []) ≡ filter_map h xs ++ y ∷ []
@@ -67,27 +67,27 @@ same_numbered first [] a b same = refl
 same_numbered first (line ∷ lines) a b same =
     let here : lost_numbers first a ≡ lost_numbers first b = same first (omega arith) in
     let rest : numbered_links (first + 1) lines a ≡ numbered_links (first + 1) lines b = same_numbered (first + 1) lines a b (λ link le. same link (omega arith)) in
-    ap (λ lose. link_part line lose ∷ numbered_links (first + 1) lines a) here ∙ ap (λ links. link_part line (lost_numbers first b) ∷ links) rest
+    ap (λ lose. losing_link_part line lose ∷ numbered_links (first + 1) lines a) here ∙ ap (λ links. losing_link_part line (lost_numbers first b) ∷ links) rest
 
 -- one more link
-more_numbered : (first : ℕ) (lines : List LinkLine) (line : LinkLine) (statements : List Statement) → numbered_links first (lines ++ line ∷ []) statements ≡ numbered_links first lines statements ++ link_part line (lost_numbers (first + length lines) statements) ∷ []
-more_numbered first [] line statements = let place : first ≡ first + 0 = omega arith in ap (λ k. link_part line (lost_numbers k statements) ∷ []) place
+more_numbered : (first : ℕ) (lines : List LinkLine) (line : LinkLine) (statements : List Statement) → numbered_links first (lines ++ line ∷ []) statements ≡ numbered_links first lines statements ++ losing_link_part line (lost_numbers (first + length lines) statements) ∷ []
+more_numbered first [] line statements = let place : first ≡ first + 0 = omega arith in ap (λ k. losing_link_part line (lost_numbers k statements) ∷ []) place
 more_numbered first (l ∷ lines) line statements =
     let place : (first + 1) + length lines ≡ first + suc (length lines) = omega arith in
-    let rest : numbered_links (first + 1) (lines ++ line ∷ []) statements ≡ numbered_links (first + 1) lines statements ++ link_part line (lost_numbers ((first + 1) + length lines) statements) ∷ [] = more_numbered (first + 1) lines line statements in
-    ap (λ links. link_part l (lost_numbers first statements) ∷ links) (rest ∙ ap (λ k. numbered_links (first + 1) lines statements ++ link_part line (lost_numbers k statements) ∷ []) place)
+    let rest : numbered_links (first + 1) (lines ++ line ∷ []) statements ≡ numbered_links (first + 1) lines statements ++ losing_link_part line (lost_numbers ((first + 1) + length lines) statements) ∷ [] = more_numbered (first + 1) lines line statements in
+    ap (λ links. losing_link_part l (lost_numbers first statements) ∷ links) (rest ∙ ap (λ k. numbered_links (first + 1) lines statements ++ losing_link_part line (lost_numbers k statements) ∷ []) place)
 
 -- one more lost packet
 lose_numbered : (first : ℕ) (lines : List LinkLine) (statements : List Statement) (lose : LoseLine) (place : ℕ) (part : LinkPart) → lose.link ≡ first + place → slice_get (numbered_links first lines statements) place ≡ Some part → set (numbered_links first lines statements) place (record part { lose = part.lose ++ lose.number ∷ [] }) ≡ numbered_links first lines (statements ++ Lose lose ∷ [])
 lose_numbered first [] statements lose place part here found = absurd (none_not part found)
 lose_numbered first (line ∷ lines) statements lose zero part here found =
-    let is : link_part line (lost_numbers first statements) ≡ part = some_is _ _ found in
+    let is : losing_link_part line (lost_numbers first statements) ≡ part = some_is _ _ found in
     let rest : numbered_links (first + 1) lines statements ≡ numbered_links (first + 1) lines (statements ++ Lose lose ∷ []) = same_numbered (first + 1) lines statements (statements ++ Lose lose ∷ []) (λ link le. other_lost statements lose link (omega arith)) in
-    rw (← is) (ap (λ numbers. link_part line numbers ∷ numbered_links (first + 1) lines statements) (more_lost statements lose first (omega arith)) ∙ ap (λ links. link_part line (lost_numbers first (statements ++ Lose lose ∷ [])) ∷ links) rest)
+    rw (← is) (ap (λ numbers. losing_link_part line numbers ∷ numbered_links (first + 1) lines statements) (more_lost statements lose first (omega arith)) ∙ ap (λ links. losing_link_part line (lost_numbers first (statements ++ Lose lose ∷ [])) ∷ links) rest)
 lose_numbered first (line ∷ lines) statements lose (suc place) part here found =
     let same : lost_numbers first statements ≡ lost_numbers first (statements ++ Lose lose ∷ []) = other_lost statements lose first (omega arith) in
     let rest : set (numbered_links (first + 1) lines statements) place (record part { lose = part.lose ++ lose.number ∷ [] }) ≡ numbered_links (first + 1) lines (statements ++ Lose lose ∷ []) = lose_numbered (first + 1) lines statements lose place part (omega arith) found in
-    ap (λ numbers. link_part line numbers ∷ set (numbered_links (first + 1) lines statements) place (record part { lose = part.lose ++ lose.number ∷ [] })) same ∙ ap (λ links. link_part line (lost_numbers first (statements ++ Lose lose ∷ [])) ∷ links) rest
+    ap (λ numbers. losing_link_part line numbers ∷ set (numbered_links (first + 1) lines statements) place (record part { lose = part.lose ++ lose.number ∷ [] })) same ∙ ap (λ links. losing_link_part line (lost_numbers first (statements ++ Lose lose ∷ [])) ∷ links) rest
 
 -- the links after a statement that speaks of none
 same_links : (statements : List Statement) (s : Statement) → link_line s ≡ None → ((link : ℕ) → lost_number link s ≡ None) → links_of (statements ++ s ∷ []) ≡ links_of statements
@@ -96,14 +96,14 @@ same_links statements s no_line no_loss =
     ∙ sym (same_numbered 0 (filter_map link_line statements) statements (statements ++ s ∷ []) (λ link le. same_lost statements s no_loss link))
 
 -- the links after one more
-more_links : (statements : List Statement) (name : Word) (line : LinkLine) → AreLostOfLinks statements → links_of (statements ++ Link name line ∷ []) ≡ links_of statements ++ link_part line [] ∷ []
+more_links : (statements : List Statement) (name : Word) (line : LinkLine) → AreLostOfLinks statements → links_of (statements ++ Link name line ∷ []) ≡ links_of statements ++ losing_link_part line [] ∷ []
 more_links statements name line lost =
     let lines : List LinkLine = filter_map link_line statements in
     let none : lost_numbers (0 + length lines) (statements ++ Link name line ∷ []) ≡ [] = sym (same_lost statements (Link name line) (λ link. refl) (0 + length lines)) ∙ lost (0 + length lines) (omega arith) in
     ap (λ all. numbered_links 0 all (statements ++ Link name line ∷ [])) (some_more link_line statements (Link name line) line refl)
     ∙ (more_numbered 0 lines line (statements ++ Link name line ∷ [])
-    ∙ (ap (λ numbers. numbered_links 0 lines (statements ++ Link name line ∷ []) ++ link_part line numbers ∷ []) none
-    ∙ ap (λ links. links ++ link_part line [] ∷ []) (sym (same_numbered 0 lines statements (statements ++ Link name line ∷ []) (λ link le. same_lost statements (Link name line) (λ k. refl) link)))))
+    ∙ (ap (λ numbers. numbered_links 0 lines (statements ++ Link name line ∷ []) ++ losing_link_part line numbers ∷ []) none
+    ∙ ap (λ links. links ++ losing_link_part line [] ∷ []) (sym (same_numbered 0 lines statements (statements ++ Link name line ∷ []) (λ link le. same_lost statements (Link name line) (λ k. refl) link)))))
 
 -- the links after one more lost packet
 lose_links : (statements : List Statement) (lose : LoseLine) (part : LinkPart) → slice_get (links_of statements) lose.link ≡ Some part → set (links_of statements) lose.link (record part { lose = part.lose ++ lose.number ∷ [] }) ≡ links_of (statements ++ Lose lose ∷ [])
@@ -279,7 +279,7 @@ node_known statements name kind free =
     let s : Statement = Node name kind in
     known_is (statements ++ s ∷ []) _ _ _ _ _ (node_item_of statements name kind free) (sym (some_more node_kind statements s kind refl)) (sym (same_links statements s refl (λ k. refl))) (sym (none_more flow_part statements s refl)) (same_routes statements s refl)
 
-pub link_known : (statements : List Statement) (name : Word) (line : LinkLine) → is_taken (known_of statements) name ≡ false → AreLostOfLinks statements → with_link (known_of statements) name (link_part line []) ≡ known_of (statements ++ Link name line ∷ [])
+pub link_known : (statements : List Statement) (name : Word) (line : LinkLine) → is_taken (known_of statements) name ≡ false → AreLostOfLinks statements → with_link (known_of statements) name (losing_link_part line []) ≡ known_of (statements ++ Link name line ∷ [])
 link_known statements name line free lost =
     let s : Statement = Link name line in
     known_is (statements ++ s ∷ []) _ _ _ _ _ (link_item_of statements name line free) (sym (none_more node_kind statements s refl)) (sym (more_links statements name line lost)) (sym (none_more flow_part statements s refl)) (same_routes statements s refl)

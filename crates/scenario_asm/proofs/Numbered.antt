@@ -13,7 +13,7 @@ use Rattle.scenario_image.specs.declared.parts.FlowPart.{FlowPart}
 use Rattle.scenario_image.specs.declared.parts.RoutePart.{RoutePart}
 use Rattle.scenario_asm.specs.declared.table.Item.{Item}
 use Rattle.scenario_asm.specs.declared.table.Item.TheVariants.{Node as node_item, Link as link_item}
-use Rattle.scenario_asm.specs.Names.{Known, item_number, item_kind, item_link, number_of, kind_of, link_of, with_node, with_link, with_flow}
+use Rattle.scenario_asm.specs.Names.{Known, item_number, item_kind, item_link, number_of, kind_of_word, link_of_word, with_node, with_link, with_flow}
 use Rattle.scenario_asm.specs.Spelling.{node_label, link_label, flow_label}
 use Rattle.scenario_asm.proofs.Decimals.{label_same, label_differs}
 
@@ -33,13 +33,13 @@ pub record IsNumbered (known : Known) (kinds : List NodeKind) (links : List Link
 pub node_number : (known : Known) (kinds : List NodeKind) (links : List LinkPart) (flows : List FlowPart) (routes : List RoutePart) → IsNumbered known kinds links flows routes → (n : ℕ) → n < length kinds → number_of known (node_label n) ≡ n
 node_number known kinds links flows routes at n lt = ap item_number (at.node n lt)
 
-pub node_kind_is : (known : Known) (kinds : List NodeKind) (links : List LinkPart) (flows : List FlowPart) (routes : List RoutePart) → IsNumbered known kinds links flows routes → (n : ℕ) → n < length kinds → kind_of known (node_label n) ≡ slice_get kinds n
+pub node_kind_is : (known : Known) (kinds : List NodeKind) (links : List LinkPart) (flows : List FlowPart) (routes : List RoutePart) → IsNumbered known kinds links flows routes → (n : ℕ) → n < length kinds → kind_of_word known (node_label n) ≡ slice_get kinds n
 node_kind_is known kinds links flows routes at n lt = ap (item_kind known.kinds) (at.node n lt) ∙ ap (λ l. slice_get l n) at.kinds_are
 
 pub link_number : (known : Known) (kinds : List NodeKind) (links : List LinkPart) (flows : List FlowPart) (routes : List RoutePart) → IsNumbered known kinds links flows routes → (n : ℕ) → n < length links → number_of known (link_label n) ≡ n
 link_number known kinds links flows routes at n lt = ap item_number (at.link n lt)
 
-pub link_is : (known : Known) (kinds : List NodeKind) (links : List LinkPart) (flows : List FlowPart) (routes : List RoutePart) → IsNumbered known kinds links flows routes → (n : ℕ) → n < length links → link_of known (link_label n) ≡ slice_get links n
+pub link_is : (known : Known) (kinds : List NodeKind) (links : List LinkPart) (flows : List FlowPart) (routes : List RoutePart) → IsNumbered known kinds links flows routes → (n : ℕ) → n < length links → link_of_word known (link_label n) ≡ slice_get links n
 link_is known kinds links flows routes at n lt = ap (item_link known.links) (at.link n lt) ∙ ap (λ l. slice_get l n) at.links_are
 
 -- something is there below the length

@@ -13,9 +13,9 @@ use Rattle.scenario_asm.specs.declared.statement.Statement.{Statement}
 use Rattle.scenario_asm.specs.declared.statement.Statement.TheVariants.{Sim, Node, Link, Flow, Route, Lose}
 use Rattle.scenario_asm.specs.Draft.{AreLostOfLinks}
 use Rattle.scenario_asm.specs.Right.{IsRight, AreOfKinds}
-use Rattle.scenario_asm.specs.Lines.{lines_of}
+use Rattle.scenario_asm.specs.Lines.{lines_of_text}
 use Rattle.scenario_asm.specs.Statements.{line_at}
-use Rattle.scenario_asm.specs.Text.{said_end, link_part, known_of, parts_of}
+use Rattle.scenario_asm.specs.Text.{said_end, losing_link_part, known_of, parts_of_statements}
 use Rattle.scenario_asm.specs.Meaning.{AreRead, statements_of, HaveEnd, IsWholeFault, IsLineFault, MeansFault, MeansScenario}
 use Rattle.scenario_asm.specs.OneAnswer.{TextsHaveOneAnswer}
 use Rattle.scenario_asm.proofs.Holds.{sim_known, node_known, link_known, flow_known, route_known, lose_known, still_lost, link_lost, lose_lost, lose_declared, statements_blank, statements_more}
@@ -36,7 +36,7 @@ kept_more statements (Node name kind) right kept =
     record { kinds = subst AreOfKinds (node_known statements name kind right.free) (node_kinds (known_of statements) name kind kept.kinds); lost = still_lost statements (Node name kind) refl (λ k. refl) kept.lost }
 kept_more statements (Link name line) right kept =
     record {
-      kinds = subst AreOfKinds (link_known statements name line right.free kept.lost) (link_kinds (known_of statements) name (link_part line []) right.apart kept.kinds);
+      kinds = subst AreOfKinds (link_known statements name line right.free kept.lost) (link_kinds (known_of statements) name (losing_link_part line []) right.apart kept.kinds);
       lost = link_lost statements name line kept.lost;
     }
 kept_more statements (Flow name part) right kept =
@@ -62,21 +62,21 @@ kept_said all (Some s) right kept = subst IsKept (sym (statements_more all s)) (
 -- lines below some that are read: all are read, or one of them is the first that is faulty
 record AreJudged (text : List ℕ) : Type 0 where
   said : List (Option Statement)
-  read : AreRead (lines_of text) said
+  read : AreRead (lines_of_text text) said
   kept : IsKept (statements_of said)
 
 line_cases : (read : Result (Option Statement) Fault) → ((says : Option Statement) × (read ≡ Ok says)) ⊎ ((fault : Fault) × (read ≡ Err fault))
 line_cases (Ok says) = inl (says, refl)
 line_cases (Err fault) = inr (fault, refl)
 
-read_or_faulty : (text : List ℕ) (above rest : List (List ℕ)) (said : List (Option Statement)) → lines_of text ≡ above ++ rest → AreRead above said → IsKept (statements_of said) → AreJudged text ⊎ ((number : ℕ) × (fault : Fault) × IsLineFault text number fault)
+read_or_faulty : (text : List ℕ) (above rest : List (List ℕ)) (said : List (Option Statement)) → lines_of_text text ≡ above ++ rest → AreRead above said → IsKept (statements_of said) → AreJudged text ⊎ ((number : ℕ) × (fault : Fault) × IsLineFault text number fault)
 read_or_faulty text above [] said is read kept =
-    let all : above ≡ lines_of text = sym (is ∙ append-nil above) in
+    let all : above ≡ lines_of_text text = sym (is ∙ append-nil above) in
     inl (record { said = said; read = (let P : List (List ℕ) → Type 0 = λ l. AreRead l said in subst P all read); kept = kept })
 read_or_faulty text above (line ∷ rest) said is read kept =
     elim (line_cases (line_at (known_of (statements_of said)) line)) [
       | inl ok ↦
-          let next : lines_of text ≡ (above ++ line ∷ []) ++ rest = rw append_assoc is in
+          let next : lines_of_text text ≡ (above ++ line ∷ []) ++ rest = rw append_assoc is in
           read_or_faulty text (above ++ line ∷ []) rest (said ++ ok.0 ∷ []) next (read_more above said line ok.0 read ok.1) (kept_said said ok.0 (line_right_says _ line ok.0 ok.1) kept)
       | inr bad ↦ inr (length above + 1, bad.0, record { above = above; line = line; below = rest; said = said; lines = is; counted = refl; above_read = read; faulty = bad.1 })
     ]
@@ -98,13 +98,13 @@ not_neither parts [] none free = free tt
 not_neither parts (next ∷ later) none free = none next (inl (refl, λ is. not_neither parts later (λ fault first. none fault (inr (is, first))) (λ all. free (is, all))))
 
 -- the first fault of the parts that a text makes is a fault of the text
-parts_fault : (text : List ℕ) (judged : AreJudged text) (end : ℕ) → HaveEnd (statements_of judged.said) end → (load : LoadFault) → IsFirstFault (parts_of end (statements_of judged.said)) load → ((number : ℕ) (fault : Fault) → MeansFault text number fault → ⊥) → ⊥
+parts_fault : (text : List ℕ) (judged : AreJudged text) (end : ℕ) → HaveEnd (statements_of judged.said) end → (load : LoadFault) → IsFirstFault (parts_of_statements end (statements_of judged.said)) load → ((number : ℕ) (fault : Fault) → MeansFault text number fault → ⊥) → ⊥
 parts_fault text judged end one_end image_L6 first none =
-    no_wrong_kind end (known_of (statements_of judged.said)) (parts_of end (statements_of judged.said)) image_L6 judged.kept.kinds refl first refl
-parts_fault text judged end one_end image_NoMemory first none = not_free (parts_of end (statements_of judged.said)) judged_faults image_NoMemory first tt
-parts_fault text judged end one_end image_L1 first none = not_free (parts_of end (statements_of judged.said)) judged_faults image_L1 first tt
-parts_fault text judged end one_end image_L2 first none = not_free (parts_of end (statements_of judged.said)) judged_faults image_L2 first tt
-parts_fault text judged end one_end image_L4 first none = not_free (parts_of end (statements_of judged.said)) judged_faults image_L4 first tt
+    no_wrong_kind end (known_of (statements_of judged.said)) (parts_of_statements end (statements_of judged.said)) image_L6 judged.kept.kinds refl first refl
+parts_fault text judged end one_end image_NoMemory first none = not_free (parts_of_statements end (statements_of judged.said)) judged_faults image_NoMemory first tt
+parts_fault text judged end one_end image_L1 first none = not_free (parts_of_statements end (statements_of judged.said)) judged_faults image_L1 first tt
+parts_fault text judged end one_end image_L2 first none = not_free (parts_of_statements end (statements_of judged.said)) judged_faults image_L2 first tt
+parts_fault text judged end one_end image_L4 first none = not_free (parts_of_statements end (statements_of judged.said)) judged_faults image_L4 first tt
 parts_fault text judged end one_end image_L3 first none = none 0 L3 (whole_at text judged L3 (inr (record { end = end; one_end = one_end; load = image_L3; first = first; same = refl })))
 parts_fault text judged end one_end image_L5 first none = none 0 L5 (whole_at text judged L5 (inr (record { end = end; one_end = one_end; load = image_L5; first = first; same = refl })))
 parts_fault text judged end one_end image_L7 first none = none 0 L7 (whole_at text judged L7 (inr (record { end = end; one_end = one_end; load = image_L7; first = first; same = refl })))
@@ -119,7 +119,7 @@ judged_text : (text : List ℕ) → AreJudged text → ((parts : ScenarioParts) 
 judged_text text judged no_meaning no_fault =
     elim (one_or_not (statements_of judged.said) (filter_map said_end (statements_of judged.said)) refl) [
       | inl one ↦
-          let parts : ScenarioParts = parts_of one.0 (statements_of judged.said) in
+          let parts : ScenarioParts = parts_of_statements one.0 (statements_of judged.said) in
           not_neither parts judged_faults (λ fault first. parts_fault text judged one.0 one.1 fault first no_fault)
           (λ free. no_meaning parts (record { said = judged.said; all_read = judged.read; made = record { end = one.0; one_end = one.1; parts_are = refl; right = record { in_limits = free.0; ends = free.1.0; kinds = free.1.1.0; unbroken = free.1.1.1.0; simple = free.1.1.1.1.0 } } }))
       | inr none ↦ no_fault 0 E10 (whole_at text judged E10 (inl (refl, none)))
@@ -127,7 +127,7 @@ judged_text text judged no_meaning no_fault =
 
 some_answer : (text : List ℕ) → ((parts : ScenarioParts) → MeansScenario text parts → ⊥) → ((number : ℕ) (fault : Fault) → MeansFault text number fault → ⊥) → ⊥
 some_answer text no_meaning no_fault =
-    elim (read_or_faulty text [] (lines_of text) [] refl read_none (record { kinds = no_kinds; lost = λ link past. refl })) [
+    elim (read_or_faulty text [] (lines_of_text text) [] refl read_none (record { kinds = no_kinds; lost = λ link past. refl })) [
       | inl judged ↦ judged_text text judged no_meaning no_fault
       | inr faulty ↦ no_fault faulty.0 faulty.1 (inl faulty.2)
     ]

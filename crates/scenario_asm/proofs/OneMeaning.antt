@@ -11,9 +11,9 @@ use Rattle.scenario_asm.specs.declared.fault.AsmFault.{AsmFault}
 use Rattle.scenario_asm.specs.declared.fault.AsmFault.TheVariants.{At, NoMemory}
 use Rattle.scenario_asm.specs.declared.fault.Fault.{Fault}
 use Rattle.scenario_asm.specs.declared.statement.Statement.{Statement}
-use Rattle.scenario_asm.specs.Lines.{lines_of}
+use Rattle.scenario_asm.specs.Lines.{lines_of_text}
 use Rattle.scenario_asm.specs.Statements.{line_at}
-use Rattle.scenario_asm.specs.Text.{known_of, parts_of}
+use Rattle.scenario_asm.specs.Text.{known_of, parts_of_statements}
 use Rattle.scenario_asm.specs.Draft.{WholeGives}
 use Rattle.scenario_asm.specs.Meaning.{AreRead, statements_of, HaveEnd, as_text_fault, IsWholeFault, IsLineFault, MeansFault, MakeScenario, MeansScenario}
 
@@ -75,18 +75,18 @@ line_is : (all above : List (List ℕ)) (line : List ℕ) (below : List (List �
 line_is all above line below is = ap (λ l. get_or l (length above) []) is ∙ get_or_at above line below [] (length above) refl
 
 -- the faulty line, in the lines of the text
-faulty_at : (text : List ℕ) (number : ℕ) (fault : Fault) → (first : IsLineFault text number fault) → line_at (known_of (statements_of first.said)) (get_or (lines_of text) (length first.above) []) ≡ Err fault
-faulty_at text number fault first = ap (λ l. line_at (known_of (statements_of first.said)) l) (line_is (lines_of text) first.above first.line first.below first.lines) ∙ first.faulty
+faulty_at : (text : List ℕ) (number : ℕ) (fault : Fault) → (first : IsLineFault text number fault) → line_at (known_of (statements_of first.said)) (get_or (lines_of_text text) (length first.above) []) ≡ Err fault
+faulty_at text number fault first = ap (λ l. line_at (known_of (statements_of first.said)) l) (line_is (lines_of_text text) first.above first.line first.below first.lines) ∙ first.faulty
 
-above_front : (text : List ℕ) (number : ℕ) (fault : Fault) → (first : IsLineFault text number fault) → IsFront (lines_of text) first.above
-above_front text number fault first = front_of (lines_of text) first.above first.line first.below first.lines
+above_front : (text : List ℕ) (number : ℕ) (fault : Fault) → (first : IsLineFault text number fault) → IsFront (lines_of_text text) first.above
+above_front text number fault first = front_of (lines_of_text text) first.above first.line first.below first.lines
 
 err_is : (read : Result (Option Statement) Fault) (f g : Fault) → read ≡ Err f → read ≡ Err g → f ≡ g
 err_is read f g this that = cc
 
 -- no line is below itself
 first_le : (text : List ℕ) (m n : ℕ) (f g : Fault) → (a : IsLineFault text m f) → (b : IsLineFault text n g) → length b.above ≤ length a.above
-first_le text m n f g a b = fault_stops (lines_of text) a.above b.above a.said b.said f (above_front text m f a) (above_front text n g b) a.above_read b.above_read (faulty_at text m f a)
+first_le text m n f g a b = fault_stops (lines_of_text text) a.above b.above a.said b.said f (above_front text m f a) (above_front text n g b) a.above_read b.above_read (faulty_at text m f a)
 
 first_line : (text : List ℕ) (m n : ℕ) (f g : Fault) → (a : IsLineFault text m f) → (b : IsLineFault text n g) → length a.above ≡ length b.above
 first_line text m n f g a b = omega (arith, first_le text m n f g a b, first_le text n m g f b a)
@@ -95,20 +95,20 @@ first_said : (text : List ℕ) (m n : ℕ) (f g : Fault) → (a : IsLineFault te
 first_said text m n f g a b =
     let many : length a.above ≡ length b.above = first_line text m n f g a b in
     sym (whole_take a.said (length a.above) a.above_read.as_many)
-    ∙ (same_said (lines_of text) a.above b.above a.said b.said (above_front text m f a) (above_front text n g b) a.above_read b.above_read (length a.above) (omega arith) (omega arith)
+    ∙ (same_said (lines_of_text text) a.above b.above a.said b.said (above_front text m f a) (above_front text n g b) a.above_read b.above_read (length a.above) (omega arith) (omega arith)
     ∙ whole_take b.said (length a.above) (b.above_read.as_many ∙ sym many))
 
 first_fault : (text : List ℕ) (m n : ℕ) (f g : Fault) → (a : IsLineFault text m f) → (b : IsLineFault text n g) → f ≡ g
 first_fault text m n f g a b =
-    err_is (line_at (known_of (statements_of b.said)) (get_or (lines_of text) (length b.above) [])) f g
-    (ap (λ s. line_at (known_of (statements_of s)) (get_or (lines_of text) (length b.above) [])) (sym (first_said text m n f g a b))
-    ∙ (ap (λ k. line_at (known_of (statements_of a.said)) (get_or (lines_of text) k [])) (sym (first_line text m n f g a b)) ∙ faulty_at text m f a))
+    err_is (line_at (known_of (statements_of b.said)) (get_or (lines_of_text text) (length b.above) [])) f g
+    (ap (λ s. line_at (known_of (statements_of s)) (get_or (lines_of_text text) (length b.above) [])) (sym (first_said text m n f g a b))
+    ∙ (ap (λ k. line_at (known_of (statements_of a.said)) (get_or (lines_of_text text) k [])) (sym (first_line text m n f g a b)) ∙ faulty_at text m f a))
     (faulty_at text n g b)
 
 -- where all lines are read, none is faulty
-pub none_faulty : (text : List ℕ) (n : ℕ) (f : Fault) (said : List (Option Statement)) → IsLineFault text n f → AreRead (lines_of text) said → ⊥
+pub none_faulty : (text : List ℕ) (n : ℕ) (f : Fault) (said : List (Option Statement)) → IsLineFault text n f → AreRead (lines_of_text text) said → ⊥
 none_faulty text n f said first read =
-    let le : length (lines_of text) ≤ length first.above = fault_stops (lines_of text) first.above (lines_of text) first.said said f (above_front text n f first) (front_all (lines_of text)) first.above_read read (faulty_at text n f first) in
+    let le : length (lines_of_text text) ≤ length first.above = fault_stops (lines_of_text text) first.above (lines_of_text text) first.said said f (above_front text n f first) (front_all (lines_of_text text)) first.above_read read (faulty_at text n f first) in
     omega (arith, ap length first.lines, length-append first.above (first.line ∷ first.below))
 
 -- all lines say one thing
@@ -123,8 +123,8 @@ one_end statements d e hd he =
     cc
 
 -- what holds of the parts with one end holds with the other
-parts_both : (P : ScenarioParts → Type 0) (statements : List Statement) (d e : ℕ) → HaveEnd statements d → HaveEnd statements e → P (parts_of d statements) → P (parts_of e statements)
-parts_both P statements d e hd he holds = let Q : ℕ → Type 0 = λ n. P (parts_of n statements) in subst Q (one_end statements d e hd he) holds
+parts_both : (P : ScenarioParts → Type 0) (statements : List Statement) (d e : ℕ) → HaveEnd statements d → HaveEnd statements e → P (parts_of_statements d statements) → P (parts_of_statements e statements)
+parts_both P statements d e hd he holds = let Q : ℕ → Type 0 = λ n. P (parts_of_statements n statements) in subst Q (one_end statements d e hd he) holds
 
 -- parts have one first fault
 one_first : (parts : ScenarioParts) (faults : List LoadFault) (a b : LoadFault) → IsFirstOf parts faults a → IsFirstOf parts faults b → a ≡ b
@@ -160,20 +160,20 @@ whole_fault statements f g (inl a) (inl b) = a.0 ∙ sym b.0
 whole_fault statements f g (inl a) (inr b) = absurd (a.1 b.end b.one_end)
 whole_fault statements f g (inr a) (inl b) = absurd (b.1 a.end a.one_end)
 whole_fault statements f g (inr a) (inr b) =
-    let there : IsFirstFault (parts_of b.end statements) a.load = parts_both (λ p. IsFirstFault p a.load) statements a.end b.end a.one_end b.one_end a.first in
-    let same : a.load ≡ b.load = one_first (parts_of b.end statements) judged_faults a.load b.load there b.first in
+    let there : IsFirstFault (parts_of_statements b.end statements) a.load = parts_both (λ p. IsFirstFault p a.load) statements a.end b.end a.one_end b.one_end a.first in
+    let same : a.load ≡ b.load = one_first (parts_of_statements b.end statements) judged_faults a.load b.load there b.first in
     some_one f g (sym a.same ∙ (ap as_text_fault same ∙ b.same))
 
 -- what makes a scenario has no fault
 whole_none : (statements : List Statement) (f : Fault) (parts : ScenarioParts) → IsWholeFault statements f → MakeScenario statements parts → ⊥
 whole_none statements f parts (inl a) made = a.1 made.end made.one_end
 whole_none statements f parts (inr a) made =
-    let there : IsFirstFault (parts_of made.end statements) a.load = parts_both (λ p. IsFirstFault p a.load) statements a.end made.end a.one_end made.one_end a.first in
-    let right : IsScenario (parts_of made.end statements) = let P : ScenarioParts → Type 0 = λ p. IsScenario p in subst P made.parts_are made.right in
-    none_first (parts_of made.end statements) judged_faults a.load (free_of (parts_of made.end statements) right) there
+    let there : IsFirstFault (parts_of_statements made.end statements) a.load = parts_both (λ p. IsFirstFault p a.load) statements a.end made.end a.one_end made.one_end a.first in
+    let right : IsScenario (parts_of_statements made.end statements) = let P : ScenarioParts → Type 0 = λ p. IsScenario p in subst P made.parts_are made.right in
+    none_first (parts_of_statements made.end statements) judged_faults a.load (free_of (parts_of_statements made.end statements) right) there
 
 made_one : (statements : List Statement) (p q : ScenarioParts) → MakeScenario statements p → MakeScenario statements q → p ≡ q
-made_one statements p q a b = a.parts_are ∙ (ap (λ e. parts_of e statements) (one_end statements a.end b.end a.one_end b.one_end) ∙ sym b.parts_are)
+made_one statements p q a b = a.parts_are ∙ (ap (λ e. parts_of_statements e statements) (one_end statements a.end b.end a.one_end b.one_end) ∙ sym b.parts_are)
 
 -- a text has one fault
 pub one_fault : (text : List ℕ) (m n : ℕ) (f g : Fault) → MeansFault text m f → MeansFault text n g → (m ≡ n) × (f ≡ g)
@@ -181,7 +181,7 @@ one_fault text m n f g (inl a) (inl b) = (a.counted ∙ (ap (λ k. k + 1) (first
 one_fault text m n f g (inl a) (inr b) = absurd (none_faulty text m f b.said a b.all_read)
 one_fault text m n f g (inr a) (inl b) = absurd (none_faulty text n g a.said b a.all_read)
 one_fault text m n f g (inr a) (inr b) =
-    let same : a.said ≡ b.said = all_said (lines_of text) a.said b.said a.all_read b.all_read in
+    let same : a.said ≡ b.said = all_said (lines_of_text text) a.said b.said a.all_read b.all_read in
     let there : IsWholeFault (statements_of b.said) f = let P : List (Option Statement) → Type 0 = λ s. IsWholeFault (statements_of s) f in subst P same a.faulty in
     (a.no_line ∙ sym b.no_line, whole_fault (statements_of b.said) f g there b.faulty)
 
@@ -189,14 +189,14 @@ one_fault text m n f g (inr a) (inr b) =
 pub not_both : (text : List ℕ) (n : ℕ) (f : Fault) (parts : ScenarioParts) → MeansFault text n f → MeansScenario text parts → ⊥
 not_both text n f parts (inl a) means = none_faulty text n f means.said a means.all_read
 not_both text n f parts (inr a) means =
-    let same : a.said ≡ means.said = all_said (lines_of text) a.said means.said a.all_read means.all_read in
+    let same : a.said ≡ means.said = all_said (lines_of_text text) a.said means.said a.all_read means.all_read in
     let there : IsWholeFault (statements_of means.said) f = let P : List (Option Statement) → Type 0 = λ s. IsWholeFault (statements_of s) f in subst P same a.faulty in
     whole_none (statements_of means.said) f parts there means.made
 
 -- one scenario
 pub one_scenario : (text : List ℕ) (p q : ScenarioParts) → MeansScenario text p → MeansScenario text q → p ≡ q
 one_scenario text p q a b =
-    let same : a.said ≡ b.said = all_said (lines_of text) a.said b.said a.all_read b.all_read in
+    let same : a.said ≡ b.said = all_said (lines_of_text text) a.said b.said a.all_read b.all_read in
     let there : MakeScenario (statements_of b.said) p = let P : List (Option Statement) → Type 0 = λ s. MakeScenario (statements_of s) p in subst P same a.made in
     made_one (statements_of b.said) p q there b.made
 
@@ -241,7 +241,7 @@ right_at text number fault means =
     }
 
 -- what all lines together give
-pub right_whole : (text : List ℕ) (said : List (Option Statement)) (result : Result ScenarioParts AsmFault) → AreRead (lines_of text) said → WholeGives (statements_of said) result → IsRight text result
+pub right_whole : (text : List ℕ) (said : List (Option Statement)) (result : Result ScenarioParts AsmFault) → AreRead (lines_of_text text) said → WholeGives (statements_of said) result → IsRight text result
 right_whole text said (Ok parts) read gives =
     record { scenario = record { said = said; all_read = read; made = gives }; fault = λ n f is. absurd (ok_not parts (At n f) is) }
 right_whole text said (Err (At number fault)) read gives =

@@ -2,11 +2,11 @@
 use Rattle.std.proofs.Common.{◌≡◌, ℕ, ◌+◌, Bool, true, length, List, [], ◌∷◌, ◌++◌, Some, None, Err, refl, ap, sym, ◌∙◌, arith}
 use Rattle.std.specs.Option.{option_or}
 use Rattle.scenario_asm.specs.declared.fault.Fault.{Fault}
-use Rattle.scenario_asm.specs.declared.statement.Refusal.{Refusal}
+use Rattle.scenario_asm.specs.declared.statement.StatementFault.{StatementFault}
 use Rattle.scenario_asm.specs.WordParts.{IsReadFrom}
 use Rattle.scenario_asm.specs.Places.{first_faulty, judged_word}
 use Rattle.scenario_asm.specs.Refusals.{fault_in, word_in}
-use Rattle.scenario_asm.specs.Verdicts.{Verdict, first_fault, judged}
+use Rattle.scenario_asm.specs.Verdicts.{Verdict, first_fault, judged_line}
 use Rattle.scenario_asm.proofs.Verdicts.{fault_of_both, judged_err}
 
 -- the first fault of two lists where the first has one
@@ -30,8 +30,8 @@ place_behind place (None ∷ a) b none = place_behind (place + 1) a b none ∙ a
 place_behind place (Some first ∷ a) b none = absurd (let never : Some first ≡ None = none in cc)
 
 -- a statement is refused as one of the parts of its words is, where those before it are read; the verdicts have the first fault of the parts
-pub refused : {A V : Type 0} (verdicts front part rest : List Verdict) (counted full : Bool) (value : A) (said : V) (refusal : Refusal) → counted ≡ true → first_fault verdicts ≡ first_fault (front ++ (part ++ rest)) → first_fault front ≡ None → IsReadFrom (1 + length front) part said (Err refusal)
-    → (Err (fault_in refusal) ≡ judged counted verdicts full value) × (word_in refusal ≡ judged_word counted (front ++ (part ++ rest)))
+pub refused : {A V : Type 0} (verdicts front part rest : List Verdict) (counted full : Bool) (value : A) (said : V) (refusal : StatementFault) → counted ≡ true → first_fault verdicts ≡ first_fault (front ++ (part ++ rest)) → first_fault front ≡ None → IsReadFrom (1 + length front) part said (Err refusal)
+    → (Err (fault_in refusal) ≡ judged_line counted verdicts full value) × (word_in refusal ≡ judged_word counted (front ++ (part ++ rest)))
 refused verdicts front part rest counted full value said refusal right same before read = (
   sym (judged_err counted verdicts full value (fault_in refusal) right (same ∙ fault_behind front (part ++ rest) before ∙ fault_in_front part rest (fault_in refusal) read.0)),
   read.1
@@ -41,8 +41,8 @@ refused verdicts front part rest counted full value said refusal right same befo
 )
 
 -- and as the last part is
-pub refused_last : {A V : Type 0} (verdicts front part : List Verdict) (counted full : Bool) (value : A) (said : V) (refusal : Refusal) → counted ≡ true → first_fault verdicts ≡ first_fault (front ++ part) → first_fault front ≡ None → IsReadFrom (1 + length front) part said (Err refusal)
-    → (Err (fault_in refusal) ≡ judged counted verdicts full value) × (word_in refusal ≡ judged_word counted (front ++ part))
+pub refused_last : {A V : Type 0} (verdicts front part : List Verdict) (counted full : Bool) (value : A) (said : V) (refusal : StatementFault) → counted ≡ true → first_fault verdicts ≡ first_fault (front ++ part) → first_fault front ≡ None → IsReadFrom (1 + length front) part said (Err refusal)
+    → (Err (fault_in refusal) ≡ judged_line counted verdicts full value) × (word_in refusal ≡ judged_word counted (front ++ part))
 refused_last verdicts front part counted full value said refusal right same before read = (
   sym (judged_err counted verdicts full value (fault_in refusal) right (same ∙ fault_behind front part before ∙ read.0)),
   read.1 ∙ sym (place_behind 1 front part before) ∙ sym (ap (λ b. judged_word b (front ++ part)) right),

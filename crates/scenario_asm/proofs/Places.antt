@@ -3,14 +3,14 @@ use Rattle.std.proofs.Common.{◌≡◌, ℕ, List, Option, Err, inl, ap, sym, �
 use Rattle.scenario_asm.specs.declared.draft.Draft.{Draft}
 use Rattle.scenario_asm.specs.declared.fault.Fault.{Fault}
 use Rattle.scenario_asm.specs.declared.lines.RefusedLine.{RefusedLine}
-use Rattle.scenario_asm.specs.declared.place.Place.{Place}
+use Rattle.scenario_asm.specs.declared.place.FaultPlace.{FaultPlace}
 use Rattle.scenario_asm.specs.Meaning.{IsLineFault}
 use Rattle.scenario_asm.specs.Places.{IsPart, IsFaultPlace}
 use Rattle.scenario_asm.specs.Refusals.{fault_in, word_in, AllRead, IsRefusedLine}
 use Rattle.scenario_asm.proofs.OneMeaning.{one_fault, none_faulty}
 
 -- the place of a line that is refused
-pub place_is : (text : List ℕ) (refused : RefusedLine) (place : Place) (word : Option ℕ) → IsRefusedLine text refused → place.line ≡ refused.number → place.fault ≡ fault_in refused.refusal → place.bytes.now ≡ refused.bytes.now → word ≡ word_in refused.refusal → IsPart refused.bytes.now word place.part → IsFaultPlace text place
+pub place_is : (text : List ℕ) (refused : RefusedLine) (place : FaultPlace) (word : Option ℕ) → IsRefusedLine text refused → place.line ≡ refused.number → place.fault ≡ fault_in refused.refusal → place.bytes.now ≡ refused.bytes.now → word ≡ word_in refused.refusal → IsPart refused.bytes.now word place.part → IsFaultPlace text place
 place_is text refused place word is number fault bytes worded part =
     let L : List ℕ → Type 0 = λ line. IsPart line word place.part in
     let W : Option ℕ → Type 0 = λ w. IsPart is.first.line w place.part in

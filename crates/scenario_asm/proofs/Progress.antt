@@ -7,7 +7,7 @@ use Rattle.scenario_asm.specs.declared.fault.AsmFault.{AsmFault}
 use Rattle.scenario_asm.specs.declared.fault.AsmFault.TheVariants.{At}
 use Rattle.scenario_asm.specs.declared.draft.Draft.{Draft}
 use Rattle.scenario_asm.specs.declared.statement.Statement.{Statement}
-use Rattle.scenario_asm.specs.Lines.{lines_of}
+use Rattle.scenario_asm.specs.Lines.{lines_of_text}
 use Rattle.scenario_asm.specs.Statements.{line_at}
 use Rattle.scenario_asm.specs.Table.{known_in}
 use Rattle.scenario_asm.specs.Text.{known_of}
@@ -24,13 +24,13 @@ use Rattle.scenario_asm.proofs.Read.{read_none, read_more}
 pub record Progress (text : List ℕ) (draft : Draft) (number : ℕ) (rest : List (List ℕ)) : Type 0 where
   pub above : List (List ℕ)
   pub said : List (Option Statement)
-  pub lines : lines_of text ≡ above ++ rest
+  pub lines : lines_of_text text ≡ above ++ rest
   pub counted : number ≡ length above
   pub read : AreRead above said
   pub holds : Holds draft (statements_of said)
 
 -- before the first line
-pub progress_none : (text : List ℕ) (draft : Draft) (rest : List (List ℕ)) → rest ≡ lines_of text → Holds draft [] → Progress text draft 0 rest
+pub progress_none : (text : List ℕ) (draft : Draft) (rest : List (List ℕ)) → rest ≡ lines_of_text text → Holds draft [] → Progress text draft 0 rest
 progress_none text draft rest all holds = record { above = []; said = []; lines = sym all; counted = refl; read = read_none; holds = holds }
 
 pub progress_few : (text : List ℕ) (draft : Draft) (number : ℕ) (line : List ℕ) (rest all : List (List ℕ)) → Progress text draft number all → all ≡ line ∷ rest → length text < 2 ^ 64 → number + 1 < 2 ^ 64
@@ -40,7 +40,7 @@ progress_few text draft number line rest all so is short =
 read_says : (draft : Draft) (said : List (Option Statement)) (line : List ℕ) (says : Option Statement) → Holds draft (statements_of said) → Ok says ≡ line_at (known_in draft.table) line → line_at (known_of (statements_of said)) line ≡ Ok says
 read_says draft said line says held read = ap (λ known. line_at known line) (sym held.known) ∙ sym read
 
-next_lines : (text : List ℕ) (above all : List (List ℕ)) (line : List ℕ) (rest : List (List ℕ)) → lines_of text ≡ above ++ all → all ≡ line ∷ rest → lines_of text ≡ (above ++ line ∷ []) ++ rest
+next_lines : (text : List ℕ) (above all : List (List ℕ)) (line : List ℕ) (rest : List (List ℕ)) → lines_of_text text ≡ above ++ all → all ≡ line ∷ rest → lines_of_text text ≡ (above ++ line ∷ []) ++ rest
 next_lines text above all line rest lines is = rw (append_assoc, ← is) lines
 
 next_count : (above : List (List ℕ)) (line : List ℕ) (number : ℕ) → number ≡ length above → number + 1 ≡ length (above ++ line ∷ [])
@@ -80,7 +80,7 @@ refused_line text draft number all line rest refused so is counted bytes faulty 
 -- at the end of the text
 pub all_read : (text : List ℕ) (draft : Draft) (number : ℕ) (all : List (List ℕ)) → Progress text draft number all → all ≡ [] → AllRead text draft
 all_read text draft number all so is =
-    let lines : so.above ≡ lines_of text = sym (so.lines ∙ (ap (λ l. so.above ++ l) is ∙ append-nil so.above)) in
+    let lines : so.above ≡ lines_of_text text = sym (so.lines ∙ (ap (λ l. so.above ++ l) is ∙ append-nil so.above)) in
     record { said = so.said; read = (let P : List (List ℕ) → Type 0 = λ l. AreRead l so.said in subst P lines so.read); holds = so.holds }
 
 -- what is known where no line is refused, and where one is

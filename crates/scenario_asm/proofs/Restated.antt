@@ -21,11 +21,11 @@ use Rattle.scenario_image.specs.declared.parts.RoutePart.{RoutePart}
 use Rattle.scenario_asm.specs.declared.statement.LoseLine.{LoseLine}
 use Rattle.scenario_asm.specs.declared.statement.Statement.{Statement}
 use Rattle.scenario_asm.specs.declared.statement.Statement.TheVariants.{Sim, Node, Link, Flow, Route, Lose}
-use Rattle.scenario_asm.specs.Lines.{lines_of}
+use Rattle.scenario_asm.specs.Lines.{lines_of_text}
 use Rattle.scenario_asm.specs.Names.{Known, is_taken, is_router, is_end, is_from, is_routed, is_full_router, last_of, least_above}
 use Rattle.scenario_asm.specs.Routes.{is_before, placed}
 use Rattle.scenario_asm.specs.Statements.{statement_at, as_said, line_at}
-use Rattle.scenario_asm.specs.Text.{said_end, link_part, known_of}
+use Rattle.scenario_asm.specs.Text.{said_end, losing_link_part, known_of}
 use Rattle.scenario_asm.specs.Draft.{AreLostOfLinks}
 use Rattle.scenario_asm.specs.Meaning.{AreRead, statements_of}
 use Rattle.scenario_asm.specs.Spelling.{node_label, link_label, flow_label, spelling, line_for, text_for}
@@ -39,7 +39,7 @@ use Rattle.scenario_asm.proofs.Spelt.{IsSpelt, sim_spelt, node_spelt, link_spelt
 
 -- the text of these statements is read line by line as they say, and they declare these parts by their numbers
 pub record Stands (ends : List ℕ) (statements : List Statement) (kinds : List NodeKind) (links : List LinkPart) (flows : List FlowPart) (routes : List RoutePart) : Type 0 where
-  pub lines : (rest : List ℕ) → lines_of (text_for statements ++ rest) ≡ map line_for statements ++ lines_of rest
+  pub lines : (rest : List ℕ) → lines_of_text (text_for statements ++ rest) ≡ map line_for statements ++ lines_of_text rest
   pub read : AreRead (map line_for statements) (map (λ s. Some s) statements)
   pub ends_are : filter_map said_end statements ≡ ends
   pub lost : AreLostOfLinks statements
@@ -66,13 +66,13 @@ regroup text line rest = rw (append-nil (line ++ 10 ∷ []), append_assoc text (
 text_push : (statements : List Statement) (s : Statement) (rest : List ℕ) → text_for (statements ++ s ∷ []) ++ rest ≡ text_for statements ++ (line_for s ++ 10 ∷ rest)
 text_push statements s rest = ap (λ t. t ++ rest) (flat_map-append (λ x. line_for x ++ codes "\n") statements (s ∷ [])) ∙ regroup (text_for statements) (line_for s) rest
 
-lines_push : (statements : List Statement) (s : Statement) → ((rest : List ℕ) → lines_of (text_for statements ++ rest) ≡ map line_for statements ++ lines_of rest) → is_free 10 (line_for s) ≡ true → (rest : List ℕ) → lines_of (text_for (statements ++ s ∷ []) ++ rest) ≡ map line_for (statements ++ s ∷ []) ++ lines_of rest
+lines_push : (statements : List Statement) (s : Statement) → ((rest : List ℕ) → lines_of_text (text_for statements ++ rest) ≡ map line_for statements ++ lines_of_text rest) → is_free 10 (line_for s) ≡ true → (rest : List ℕ) → lines_of_text (text_for (statements ++ s ∷ []) ++ rest) ≡ map line_for (statements ++ s ∷ []) ++ lines_of_text rest
 lines_push statements s before free rest =
-    ap lines_of (text_push statements s rest)
+    ap lines_of_text (text_push statements s rest)
     ∙ (before (line_for s ++ 10 ∷ rest)
     ∙ (ap (λ l. map line_for statements ++ l) (pieces_word 10 (line_for s) rest free)
-    ∙ (sym (append_assoc (map line_for statements) (line_for s ∷ []) (lines_of rest))
-    ∙ ap (λ l. l ++ lines_of rest) (sym (map-append line_for statements (s ∷ []))))))
+    ∙ (sym (append_assoc (map line_for statements) (line_for s ∷ []) (lines_of_text rest))
+    ∙ ap (λ l. l ++ lines_of_text rest) (sym (map-append line_for statements (s ∷ []))))))
 
 read_push : (statements : List Statement) (s : Statement) → AreRead (map line_for statements) (map (λ x. Some x) statements) → line_at (known_of statements) (line_for s) ≡ Ok (Some s) → AreRead (map line_for (statements ++ s ∷ [])) (map (λ x. Some x) (statements ++ s ∷ []))
 read_push statements s read says =
@@ -131,7 +131,7 @@ node_stands ends statements kinds links flows routes kind was few =
 
 -- a link that loses these packets, and one that loses none yet
 abbrev pub with_lose : LinkPart → List ℕ → LinkPart
-with_lose link numbers = link_part (line_of_link link) numbers
+with_lose link numbers = losing_link_part (line_of_link link) numbers
 
 abbrev pub bare : LinkPart → LinkPart
 bare link = with_lose link []

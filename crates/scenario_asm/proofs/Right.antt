@@ -16,10 +16,10 @@ use Rattle.scenario_asm.specs.declared.statement.Statement.{Statement}
 use Rattle.scenario_asm.specs.declared.statement.Statement.TheVariants.{Sim}
 use Rattle.scenario_asm.specs.Lines.{Word, words_of, is_printable}
 use Rattle.scenario_asm.specs.Numbers.{is_name, number, number_verdict}
-use Rattle.scenario_asm.specs.Names.{Known, item_number, item_kind, item_link, number_of, kind_of, is_taken, is_sender, is_receiver, is_router, is_end, is_from, is_full_router, lost_of, is_routed, used_verdict, new_name_verdict}
-use Rattle.scenario_asm.specs.Verdicts.{Verdict, first_fault, faulty_if, faulty_unless, unless, judged}
+use Rattle.scenario_asm.specs.Names.{Known, item_number, item_kind, item_link, number_of, kind_of_word, is_taken, is_sender, is_receiver, is_router, is_end, is_from, is_full_router, lost_of, is_routed, used_verdict, new_name_verdict}
+use Rattle.scenario_asm.specs.Verdicts.{Verdict, first_fault, faulty_if, faulty_unless, unless, judged_line}
 use Rattle.scenario_asm.specs.Right.{IsRight, IsNodeRight, IsLinkRight}
-use Rattle.scenario_asm.specs.Statements.{nth, has_link_length, has_flow_length, link_said, node_verdicts, link_verdicts, flow_verdicts, route_verdicts, lose_verdicts, sim_at, node_at, link_at, flow_at, route_at, lose_at, statement_at, as_said, line_at}
+use Rattle.scenario_asm.specs.Statements.{nth, has_link_length, has_flow_length, link_said, node_verdicts, link_verdicts, flow_verdicts, route_verdicts, lose_verdicts, sim_at, node_statement, link_statement, flow_at, route_at, lose_at, statement_at, as_said, line_at}
 
 -- a list of verdicts without a fault
 both_none : (a b : Verdict) → option_or a b ≡ None → (a ≡ None) × (b ≡ None)
@@ -54,7 +54,7 @@ unless_ok None value x is = (refl, ok_is value x is)
 unless_ok (Some fault) value x is = absurd (err_not fault x is)
 
 -- a line that says something has the right number of words, and no word of it has a fault
-pub judged_says : {A : Type 0} (counted : Bool) (verdicts : List Verdict) (full : Bool) (value x : A) → judged counted verdicts full value ≡ Ok x → AreNone (verdicts ++ faulty_if full E9 ∷ []) × (value ≡ x)
+pub judged_says : {A : Type 0} (counted : Bool) (verdicts : List Verdict) (full : Bool) (value x : A) → judged_line counted verdicts full value ≡ Ok x → AreNone (verdicts ++ faulty_if full E9 ∷ []) × (value ≡ x)
 judged_says true verdicts full value x is = let both = unless_ok (first_fault (verdicts ++ faulty_if full E9 ∷ [])) value x is in (all_none _ both.0, both.1)
 judged_says false verdicts full value x is = absurd (err_not E3 x is)
 
@@ -157,18 +157,18 @@ link_there links (Some flow_item) is = absurd (false_not is)
 link_there links None is = absurd (false_not is)
 
 -- the statements, each right where it says something
-node_right : (known : Known) (words : List Word) (s : Statement) → node_at known words ≡ Ok s → IsRight known s
+node_right : (known : Known) (words : List Word) (s : Statement) → node_statement known words ≡ Ok s → IsRight known s
 node_right known words s says =
     let read = judged_says (length words == 3) (node_verdicts known words) (nat_le MOST_NODES (length known.kinds)) _ s says in
     let right : IsNodeRight known (nth words 1) = record { free = new_free known (nth words 1) read.0.0; room = below_most _ MOST_NODES (if_false _ E9 read.0.1.1.0) } in
     subst (IsRight known) read.1 right
 
-link_right : (known : Known) (words : List Word) (s : Statement) → link_at known words ≡ Ok s → IsRight known s
+link_right : (known : Known) (words : List Word) (s : Statement) → link_statement known words ≡ Ok s → IsRight known s
 link_right known words s says =
     let read = judged_says (has_link_length words) (link_verdicts known words) (nat_le MOST_LINKS (length known.links) || is_full_router known (number_of known (nth words 2))) _ s says in
     let later = read.0.1.1.1.1.1.1.1 in
     let room = or_no (nat_le MOST_LINKS (length known.links)) _ (if_false _ E9 later.1.0) in
-    let other = and_yes (is_some (kind_of known (nth words 3))) _ (used_right (nth words 3) _ _ read.0.1.1.0) in
+    let other = and_yes (is_some (kind_of_word known (nth words 3))) _ (used_right (nth words 3) _ _ read.0.1.1.0) in
     let right : IsLinkRight known (nth words 1) (link_said known words) = record {
       free = new_free known (nth words 1) read.0.0;
       room = below_most _ MOST_LINKS room.0;
@@ -187,7 +187,7 @@ flow_right known words s says =
 route_right : (known : Known) (words : List Word) (s : Statement) → route_at known words ≡ Ok s → IsRight known s
 route_right known words s says =
     let read = judged_says (length words == 4) (route_verdicts known words) false _ s says in
-    let destination = all_none (used_verdict (nth words 2) (known.item (nth words 2)) (is_end (kind_of known (nth words 2))) ∷ faulty_if (is_routed known.routes (number_of known (nth words 1)) (number_of known (nth words 2))) E6 ∷ []) read.0.1.0 in
+    let destination = all_none (used_verdict (nth words 2) (known.item (nth words 2)) (is_end (kind_of_word known (nth words 2))) ∷ faulty_if (is_routed known.routes (number_of known (nth words 1)) (number_of known (nth words 2))) E6 ∷ []) read.0.1.0 in
     subst (IsRight known) read.1 (record {
       first = if_false _ E6 destination.1.0;
       kinds = record {

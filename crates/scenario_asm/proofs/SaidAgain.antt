@@ -26,7 +26,7 @@ use Rattle.scenario_asm.specs.declared.statement.Statement.{Statement}
 use Rattle.scenario_asm.specs.declared.statement.Statement.TheVariants.{Sim, Node, Link, Flow, Route, Lose}
 use Rattle.scenario_asm.specs.Lines.{Word}
 use Rattle.scenario_asm.specs.Numbers.{is_name, number, number_verdict}
-use Rattle.scenario_asm.specs.Names.{Known, number_of, kind_of, link_of, is_sender, is_receiver, is_router, is_end, is_from, is_routed, is_full_router, lost_of, lose_list, last_of, least_above, used_verdict, new_name_verdict, node_verdict, other_node_verdict, destination_verdict}
+use Rattle.scenario_asm.specs.Names.{Known, number_of, kind_of_word, link_of_word, is_sender, is_receiver, is_router, is_end, is_from, is_routed, is_full_router, lost_of, lose_list, last_of, least_above, used_verdict, new_name_verdict, node_verdict, other_node_verdict, destination_verdict}
 use Rattle.scenario_asm.specs.Statements.{statement_at, newreno_named, iw_named, node_verdicts, link_verdicts, link_said, flow_verdicts, route_verdicts, lose_verdicts}
 use Rattle.scenario_asm.specs.Spelling.{node_label, link_label, flow_label, newreno_word, iw_word, spelling}
 use Rattle.scenario_asm.specs.CanonicalText.{line_of_link}
@@ -238,7 +238,7 @@ destination_none : (known : Known) (kinds : List NodeKind) (links : List LinkPar
 destination_none known kinds links flows routes router destination at lt few ends first r is =
     let used = node_named known kinds links flows routes at destination lt few _ (ap is_end (node_kind_is known kinds links flows routes at destination lt) ∙ ends) in
     let routed : is_routed known.routes r (number_of known (node_label destination)) ≡ false = rw (at.routes_are, is, node_number known kinds links flows routes at destination lt) first in
-    no_fault (used_verdict (node_label destination) (known.item (node_label destination)) (is_end (kind_of known (node_label destination))) ∷ faulty_if (is_routed known.routes r (number_of known (node_label destination))) E6 ∷ []) (used, (rw routed refl, tt))
+    no_fault (used_verdict (node_label destination) (known.item (node_label destination)) (is_end (kind_of_word known (node_label destination))) ∷ faulty_if (is_routed known.routes r (number_of known (node_label destination))) E6 ∷ []) (used, (rw routed refl, tt))
 
 pub route_says : (known : Known) (kinds : List NodeKind) (links : List LinkPart) (flows : List FlowPart) (routes : List RoutePart) (route : RoutePart) → IsNumbered known kinds links flows routes → length kinds ≤ 256 → length links ≤ 1024 → route.router < length kinds → route.destination < length kinds → route.link < length links → slice_get kinds route.router ≡ Some Router → is_end (slice_get kinds route.destination) ≡ true → is_routed routes route.router route.destination ≡ false → is_from route.router (slice_get links route.link) ≡ true → statement_at known (spelling (Route route)) ≡ Ok (Route route)
 route_says known kinds links flows routes route at few less router_lt destination_lt link_lt router ends first leaves =
@@ -247,7 +247,7 @@ route_says known kinds links flows routes route at few less router_lt destinatio
     let router_is = node_number known kinds links flows routes at route.router router_lt in
     let router_fine = node_named known kinds links flows routes at route.router router_lt few _ (ap is_router (node_kind_is known kinds links flows routes at route.router router_lt ∙ router)) in
     let destination_fine = destination_none known kinds links flows routes route.router route.destination at destination_lt few ends first (number_of known (node_label route.router)) router_is in
-    let from : is_from (number_of known (node_label route.router)) (link_of known (link_label route.link)) ≡ true = rw (router_is, link_is known kinds links flows routes at route.link link_lt) leaves in
+    let from : is_from (number_of known (node_label route.router)) (link_of_word known (link_label route.link)) ≡ true = rw (router_is, link_is known kinds links flows routes at route.link link_lt) leaves in
     let link_fine = link_named known kinds links flows routes at route.link link_lt less _ from in
     judged_ok true (route_verdicts known words) false _ refl (no_fault (route_verdicts known words) (router_fine, (destination_fine, (link_fine, tt)))) refl
     ∙ ap said (rw (router_is, node_number known kinds links flows routes at route.destination destination_lt, link_number known kinds links flows routes at route.link link_lt) refl)

@@ -10,11 +10,11 @@ use Rattle.scenario_asm.specs.declared.draft.Draft.{Draft}
 use Rattle.scenario_asm.specs.declared.draft.Ends.{Ends}
 use Rattle.scenario_asm.specs.declared.draft.Ends.TheVariants.{Set}
 use Rattle.scenario_asm.specs.declared.statement.Statement.{Statement}
-use Rattle.scenario_asm.specs.Draft.{AreEnds, Holds, IsWholeAnswer, WholeGives}
+use Rattle.scenario_asm.specs.Draft.{HasTheseEnds, Holds, IsWholeAnswer, WholeGives}
 use Rattle.scenario_asm.specs.Right.{AreOfKinds}
 use Rattle.scenario_asm.specs.Names.{Known, known_parts}
 use Rattle.scenario_asm.specs.Table.{known_in}
-use Rattle.scenario_asm.specs.Text.{parts_of}
+use Rattle.scenario_asm.specs.Text.{parts_of_statements}
 use Rattle.scenario_asm.proofs.OfKinds.{has_its_kinds}
 
 -- parts are not free of their first fault
@@ -36,14 +36,14 @@ pub no_wrong_kind : (end : ℕ) (known : Known) (parts : ScenarioParts) (fault :
 no_wrong_kind end known parts fault kinds are first is =
     not_free parts judged_faults fault first (subst (IsFreeOf parts) (sym is) (let P : ScenarioParts → Type 0 = λ p. IsFreeOf p L6 in subst P (sym are) (has_its_kinds end known kinds)))
 
-set_end : (ends : Ends) (end : ℕ) (said : List ℕ) → ends ≡ Set end → AreEnds ends said → said ≡ end ∷ []
-set_end ends end said is are = let there : AreEnds (Set end) said = let P : Ends → Type 0 = λ e. AreEnds e said in subst P is are in there
+set_end : (ends : Ends) (end : ℕ) (said : List ℕ) → ends ≡ Set end → HasTheseEnds ends said → said ≡ end ∷ []
+set_end ends end said is are = let there : HasTheseEnds (Set end) said = let P : Ends → Type 0 = λ e. HasTheseEnds e said in subst P is are in there
 
 -- the parts of a draft with an end
 pub whole_err : (draft : Draft) (statements : List Statement) (end : ℕ) (parts : ScenarioParts) (load : LoadFault) (answer : AsmFault) → Holds draft statements → draft.ends ≡ Set end → parts ≡ known_parts end (known_in draft.table) → IsFirstFault parts load → IsWholeAnswer load answer → WholeGives statements (Err answer)
 whole_err draft statements end parts load (At number fault) held is are first answer =
-    let same : parts ≡ parts_of end statements = are ∙ ap (λ known. known_parts end known) held.known in
-    let there : IsFirstFault (parts_of end statements) load = let P : ScenarioParts → Type 0 = λ p. IsFirstFault p load in subst P same first in
+    let same : parts ≡ parts_of_statements end statements = are ∙ ap (λ known. known_parts end known) held.known in
+    let there : IsFirstFault (parts_of_statements end statements) load = let P : ScenarioParts → Type 0 = λ p. IsFirstFault p load in subst P same first in
     (answer.0, inr (record { end = end; one_end = record { one_end = set_end draft.ends end _ is held.ends }; load = load; first = there; same = answer.1 }))
 whole_err draft statements end parts load NoMemory held is are first answer = tt
 

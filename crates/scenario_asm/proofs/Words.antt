@@ -13,9 +13,9 @@ use Rattle.scenario_asm.specs.declared.statement.Statement.TheVariants.{Link, Fl
 use Rattle.scenario_asm.specs.Lines.{Word, words_of, is_printable}
 use Rattle.scenario_asm.specs.Numbers.{number_verdict}
 use Rattle.scenario_asm.specs.Names.{Known, number_of, is_full_router}
-use Rattle.scenario_asm.specs.Statements.{nth, sim_at, node_at, is_drop_tail, is_codel, has_link_length, has_flow_length, node_verdicts, codel_verdicts, link_first_verdicts, link_verdicts, flow_verdicts, route_verdicts, lose_verdicts, link_said, link_at, flow_said, flow_at, route_at, lose_at, statement_at, as_said, line_at}
+use Rattle.scenario_asm.specs.Statements.{nth, sim_at, node_statement, is_drop_tail, is_codel, has_link_length, has_flow_length, node_verdicts, codel_verdicts, link_first_verdicts, link_verdicts, flow_verdicts, route_verdicts, lose_verdicts, link_said, link_statement, flow_said, flow_at, route_at, lose_at, statement_at, as_said, line_at}
 use Rattle.scenario_asm.specs.Places.{judged_word, statement_word, line_word}
-use Rattle.scenario_asm.specs.Verdicts.{Verdict, judged}
+use Rattle.scenario_asm.specs.Verdicts.{Verdict, judged_line}
 
 -- the front of a list
 pub front_is : {X : Type 0} (xs ys all : List X) (n : ℕ) → xs ++ ys ≡ all → length xs ≡ n → xs ≡ take n all
@@ -28,7 +28,7 @@ not_many n k many few = grind (arith, nat_tests)
 sim_long : (words : List Word) → 12 ≤ length words → sim_at words ≡ Err E3
 sim_long words many = let no_count : (length words == 2) ≡ false = not_many _ 2 many (omega arith) in simp no_count
 
-node_long : (known : Known) (words : List Word) → 12 ≤ length words → node_at known words ≡ Err E3
+node_long : (known : Known) (words : List Word) → 12 ≤ length words → node_statement known words ≡ Err E3
 node_long known words many = let no_count : (length words == 3) ≡ false = not_many _ 3 many (omega arith) in simp no_count
 
 no_length : (t u a b : Bool) → a ≡ false → b ≡ false → (if t then a else (if u then b else (a || b))) ≡ false
@@ -36,16 +36,16 @@ no_length true u a b eight eleven = eight
 no_length false true a b eight eleven = eleven
 no_length false false a b eight eleven = rw (eight, eleven) refl
 
-link_long : (known : Known) (words : List Word) → 12 ≤ length words → link_at known words ≡ Err E3
+link_long : (known : Known) (words : List Word) → 12 ≤ length words → link_statement known words ≡ Err E3
 link_long known words many =
     let no_count : has_link_length words ≡ false = no_length (is_drop_tail words) (is_codel words) _ _ (not_many _ 8 many (omega arith)) (not_many _ 11 many (omega arith)) in
-    ap (λ b. judged b (link_verdicts known words) (nat_le MOST_LINKS (length known.links) || is_full_router known (number_of known (nth words 2))) (Link (nth words 1) (link_said known words))) no_count
+    ap (λ b. judged_line b (link_verdicts known words) (nat_le MOST_LINKS (length known.links) || is_full_router known (number_of known (nth words 2))) (Link (nth words 1) (link_said known words))) no_count
 
 no_flow_length : (words : List Word) → 12 ≤ length words → has_flow_length words ≡ false
 no_flow_length words many = no_length false false _ _ (not_many _ 9 many (omega arith)) (not_many _ 11 many (omega arith))
 
 flow_long : (known : Known) (words : List Word) → 12 ≤ length words → flow_at known words ≡ Err E3
-flow_long known words many = ap (λ b. judged b (flow_verdicts known words) (nat_le MOST_FLOWS (length known.flows)) (Flow (nth words 1) (flow_said known words))) (no_flow_length words many)
+flow_long known words many = ap (λ b. judged_line b (flow_verdicts known words) (nat_le MOST_FLOWS (length known.flows)) (Flow (nth words 1) (flow_said known words))) (no_flow_length words many)
 
 route_long : (known : Known) (words : List Word) → 12 ≤ length words → route_at known words ≡ Err E3
 route_long known words many = let no_count : (length words == 4) ≡ false = not_many _ 4 many (omega arith) in simp no_count

@@ -5,9 +5,9 @@ use Rattle.std.specs.Str.{bytes_eq}
 use Rattle.scenario_image.specs.declared.parts.ScenarioParts.{ScenarioParts}
 use Rattle.scenario_asm.specs.declared.named_parts.NamedParts.{NamedParts}
 use Rattle.scenario_asm.specs.declared.statement.Statement.{Statement}
-use Rattle.scenario_asm.specs.Lines.{Word, words_of, lines_of}
+use Rattle.scenario_asm.specs.Lines.{Word, words_of, lines_of_text}
 use Rattle.scenario_asm.specs.Statements.{nth}
-use Rattle.scenario_asm.specs.Text.{node_name, link_name, flow_name, parts_of}
+use Rattle.scenario_asm.specs.Text.{node_name, link_name, flow_name, parts_of_statements}
 use Rattle.scenario_asm.specs.Meaning.{AreRead, statements_of, HaveEnd}
 
 -- the second of some words, where the first is this one
@@ -22,7 +22,7 @@ seconds_after first lines = filter_map (λ line. second_after first (words_of li
 pub record MakeParts (statements : List Statement) (parts : ScenarioParts) : Type 0 where
   pub end : ℕ
   pub one_end : HaveEnd statements end
-  pub parts_are : parts ≡ parts_of end statements
+  pub parts_are : parts ≡ parts_of_statements end statements
 
 -- the parts that statements make, or none where they have not one end
 abbrev pub GiveParts : List Statement → Option ScenarioParts → Type 0
@@ -32,7 +32,7 @@ GiveParts statements None = (end : ℕ) → ¬ HaveEnd statements end
 -- all lines are read, and together they make these parts
 pub record DeclaresParts (text : List ℕ) (parts : ScenarioParts) : Type 0 where
   pub said : List (Option Statement)
-  pub all_read : AreRead (lines_of text) said
+  pub all_read : AreRead (lines_of_text text) said
   pub made : MakeParts (statements_of said) parts
 
 -- these parts, and the names of the nodes, the links and the flows, in the order of their numbers

@@ -16,10 +16,10 @@ use Rattle.scenario_asm.specs.Text.{said_end, known_of, link_line, lost_numbers}
 use Rattle.scenario_asm.specs.Meaning.{as_text_fault, IsWholeFault, MakeScenario}
 
 -- none, this one, or several
-abbrev pub AreEnds : Ends → List ℕ → Type 0
-AreEnds Unset ends = ends ≡ []
-AreEnds (Set end) ends = ends ≡ end ∷ []
-AreEnds Repeated ends = 2 ≤ length ends
+abbrev pub HasTheseEnds : Ends → List ℕ → Type 0
+HasTheseEnds Unset ends = ends ≡ []
+HasTheseEnds (Set end) ends = ends ≡ end ∷ []
+HasTheseEnds Repeated ends = 2 ≤ length ends
 
 -- no packet is lost but of a declared link
 abbrev pub AreLostOfLinks : List Statement → Type 0
@@ -27,7 +27,7 @@ AreLostOfLinks statements = (link : ℕ) → length (filter_map link_line statem
 
 -- a draft holds what these statements say
 pub record Holds (draft : Draft) (statements : List Statement) : Type 0 where
-  pub ends : AreEnds draft.ends (filter_map said_end statements)
+  pub ends : HasTheseEnds draft.ends (filter_map said_end statements)
   pub known : known_in draft.table ≡ known_of statements
   pub kinds : AreOfKinds (known_of statements)
   pub lost : AreLostOfLinks statements

@@ -21,6 +21,6 @@ pub mod CanonicalText
 pub use Rattle.scenario_image.specs.Limits
 pub use Rattle.scenario_image.specs.Ends
 pub use Rattle.scenario_image.specs.Kinds
-pub use Rattle.scenario_image.specs.Ways
+pub use Rattle.scenario_image.specs.Paths
 pub use Rattle.scenario_image.specs.Scenario
 pub use Rattle.scenario_image.specs.Fault as PartsFault

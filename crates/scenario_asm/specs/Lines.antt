@@ -12,8 +12,8 @@ pieces end [] = []
 pieces end (b ∷ bs) = if b == end then [] ∷ pieces end bs else onto_first b (pieces end bs)
 
 -- the lines, each ended by a line feed, which the last may lack
-abbrev pub lines_of : List ℕ → List (List ℕ)
-lines_of text = pieces 10 text
+abbrev pub lines_of_text : List ℕ → List (List ℕ)
+lines_of_text text = pieces 10 text
 
 -- from a space to a tilde
 abbrev pub is_printable : ℕ → Bool

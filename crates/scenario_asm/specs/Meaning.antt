@@ -9,9 +9,9 @@ use Rattle.scenario_image.specs.declared.parts.ScenarioParts.{ScenarioParts}
 use Rattle.scenario_asm.specs.declared.fault.Fault.{Fault}
 use Rattle.scenario_asm.specs.declared.fault.Fault.TheVariants.{E10, L3, L5, L7, L8}
 use Rattle.scenario_asm.specs.declared.statement.Statement.{Statement}
-use Rattle.scenario_asm.specs.Lines.{lines_of}
+use Rattle.scenario_asm.specs.Lines.{lines_of_text}
 use Rattle.scenario_asm.specs.Statements.{line_at}
-use Rattle.scenario_asm.specs.Text.{said_end, known_of, parts_of}
+use Rattle.scenario_asm.specs.Text.{said_end, known_of, parts_of_statements}
 
 -- the statements among what lines say
 abbrev pub statements_of : List (Option Statement) → List Statement
@@ -28,7 +28,7 @@ pub record IsLineFault (text : List ℕ) (number : ℕ) (fault : Fault) : Type 0
   pub line : List ℕ
   pub below : List (List ℕ)
   pub said : List (Option Statement)
-  pub lines : lines_of text ≡ above ++ line ∷ below
+  pub lines : lines_of_text text ≡ above ++ line ∷ below
   pub counted : number ≡ length above + 1
   pub above_read : AreRead above said
   pub faulty : line_at (known_of (statements_of said)) line ≡ Err fault
@@ -54,7 +54,7 @@ pub record HavePartsFault (statements : List Statement) (fault : Fault) : Type 0
   pub end : ℕ
   pub one_end : HaveEnd statements end
   pub load : LoadFault
-  pub first : IsFirstFault (parts_of end statements) load
+  pub first : IsFirstFault (parts_of_statements end statements) load
   pub same : as_text_fault load ≡ Some fault
 
 -- what is wrong with all statements together: not one end, or what is wrong with the parts that they make
@@ -64,7 +64,7 @@ IsWholeFault statements fault = ((fault ≡ E10) × ((end : ℕ) → ¬ HaveEnd 
 -- all lines are read, and what they say together has this fault
 pub record IsTextFault (text : List ℕ) (number : ℕ) (fault : Fault) : Type 0 where
   pub said : List (Option Statement)
-  pub all_read : AreRead (lines_of text) said
+  pub all_read : AreRead (lines_of_text text) said
   pub no_line : number ≡ 0
   pub faulty : IsWholeFault (statements_of said) fault
 
@@ -76,11 +76,11 @@ MeansFault text number fault = IsLineFault text number fault ⊎ IsTextFault tex
 pub record MakeScenario (statements : List Statement) (parts : ScenarioParts) : Type 0 where
   pub end : ℕ
   pub one_end : HaveEnd statements end
-  pub parts_are : parts ≡ parts_of end statements
+  pub parts_are : parts ≡ parts_of_statements end statements
   pub right : IsScenario parts
 
 -- all lines are read, and together they say this scenario
 pub record MeansScenario (text : List ℕ) (parts : ScenarioParts) : Type 0 where
   pub said : List (Option Statement)
-  pub all_read : AreRead (lines_of text) said
+  pub all_read : AreRead (lines_of_text text) said
   pub made : MakeScenario (statements_of said) parts

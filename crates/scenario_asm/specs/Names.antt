@@ -51,12 +51,12 @@ abbrev pub number_of : Known → Word → ℕ
 number_of known word = item_number (known.item word)
 
 -- what the node does that a word means
-abbrev pub kind_of : Known → Word → Option NodeKind
-kind_of known word = item_kind known.kinds (known.item word)
+abbrev pub kind_of_word : Known → Word → Option NodeKind
+kind_of_word known word = item_kind known.kinds (known.item word)
 
 -- the link that a word means
-abbrev pub link_of : Known → Word → Option LinkPart
-link_of known word = item_link known.links (known.item word)
+abbrev pub link_of_word : Known → Word → Option LinkPart
+link_of_word known word = item_link known.links (known.item word)
 
 -- a sender
 abbrev pub is_sender : Option NodeKind → Bool
@@ -105,35 +105,35 @@ used_verdict word item right = first_fault (faulty_unless (is_name word) E4 ∷ 
 
 -- where a node is asked
 abbrev pub node_verdict : Known → Word → Verdict
-node_verdict known word = used_verdict word (known.item word) (is_some (kind_of known word))
+node_verdict known word = used_verdict word (known.item word) (is_some (kind_of_word known word))
 
 -- where another node than that is asked
 abbrev pub other_node_verdict : Known → ℕ → Word → Verdict
-other_node_verdict known other word = used_verdict word (known.item word) (is_some (kind_of known word) && not (number_of known word == other))
+other_node_verdict known other word = used_verdict word (known.item word) (is_some (kind_of_word known word) && not (number_of known word == other))
 
 -- where a sender is asked
 abbrev pub sender_verdict : Known → Word → Verdict
-sender_verdict known word = used_verdict word (known.item word) (is_sender (kind_of known word))
+sender_verdict known word = used_verdict word (known.item word) (is_sender (kind_of_word known word))
 
 -- where a receiver is asked
 abbrev pub receiver_verdict : Known → Word → Verdict
-receiver_verdict known word = used_verdict word (known.item word) (is_receiver (kind_of known word))
+receiver_verdict known word = used_verdict word (known.item word) (is_receiver (kind_of_word known word))
 
 -- where a router is asked
 abbrev pub router_verdict : Known → Word → Verdict
-router_verdict known word = used_verdict word (known.item word) (is_router (kind_of known word))
+router_verdict known word = used_verdict word (known.item word) (is_router (kind_of_word known word))
 
 -- where a sender or receiver is asked to which that router has no route yet
 abbrev pub destination_verdict : Known → ℕ → Word → Verdict
-destination_verdict known router word = first_fault (used_verdict word (known.item word) (is_end (kind_of known word)) ∷ faulty_if (is_routed known.routes router (number_of known word)) E6 ∷ [])
+destination_verdict known router word = first_fault (used_verdict word (known.item word) (is_end (kind_of_word known word)) ∷ faulty_if (is_routed known.routes router (number_of known word)) E6 ∷ [])
 
 -- where a link is asked
 abbrev pub link_verdict : Known → Word → Verdict
-link_verdict known word = used_verdict word (known.item word) (is_some (link_of known word))
+link_verdict known word = used_verdict word (known.item word) (is_some (link_of_word known word))
 
 -- where a link is asked that leaves that node
 abbrev pub outgoing_verdict : Known → ℕ → Word → Verdict
-outgoing_verdict known node word = used_verdict word (known.item word) (is_from node (link_of known word))
+outgoing_verdict known node word = used_verdict word (known.item word) (is_from node (link_of_word known word))
 
 -- the packets that a link loses
 abbrev pub lose_list : Option LinkPart → List ℕ

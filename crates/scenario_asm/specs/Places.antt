@@ -5,7 +5,7 @@ use Rattle.std.specs.Str.{bytes_eq}
 use Rattle.scenario_asm.specs.Bounds.{LATEST_END}
 use Rattle.scenario_asm.specs.declared.place.Part.{Part}
 use Rattle.scenario_asm.specs.declared.place.Part.TheVariants.{Line, Byte, Word as word_part}
-use Rattle.scenario_asm.specs.declared.place.Place.{Place}
+use Rattle.scenario_asm.specs.declared.place.FaultPlace.{FaultPlace}
 use Rattle.scenario_asm.specs.Lines.{Word, words_of, is_printable}
 use Rattle.scenario_asm.specs.Names.{Known}
 use Rattle.scenario_asm.specs.Numbers.{number_verdict}
@@ -75,7 +75,7 @@ IsPart line (Some number) (Byte place) = ⊥
 IsPart line None part = part ≡ byte_part (position (λ byte. not (is_printable byte)) line)
 
 -- the text's first faulty line, its bytes, its fault, and the part of it that is faulty
-pub record IsFaultPlace (text : List ℕ) (place : Place) : Type 0 where
+pub record IsFaultPlace (text : List ℕ) (place : FaultPlace) : Type 0 where
   pub first : IsLineFault text place.line place.fault
   pub bytes : place.bytes.now ≡ first.line
   pub part : IsPart first.line (line_word (known_of (statements_of first.said)) first.line) place.part

@@ -18,7 +18,7 @@ use Rattle.scenario_asm.specs.declared.statement.Statement.TheVariants.{Sim, Nod
 use Rattle.scenario_asm.specs.Lines.{Word, words_of, is_printable}
 use Rattle.scenario_asm.specs.Numbers.{number, number_verdict}
 use Rattle.scenario_asm.specs.Names.{Known, number_of, lost_of, last_of, least_above, is_full_router, new_name_verdict, node_verdict, other_node_verdict, sender_verdict, receiver_verdict, router_verdict, destination_verdict, link_verdict, outgoing_verdict}
-use Rattle.scenario_asm.specs.Verdicts.{Verdict, first_fault, faulty_unless, judged}
+use Rattle.scenario_asm.specs.Verdicts.{Verdict, first_fault, faulty_unless, judged_line}
 
 -- a word of a line, counted from 0
 abbrev pub nth : List Word → ℕ → Word
@@ -26,7 +26,7 @@ nth words place = slice_index_or words place []
 
 -- `sim END`
 abbrev pub sim_at : List Word → Result Statement Fault
-sim_at words = judged (length words == 2) (number_verdict 1 LATEST_END (nth words 1) ∷ []) false (Sim (number (nth words 1)))
+sim_at words = judged_line (length words == 2) (number_verdict 1 LATEST_END (nth words 1) ∷ []) false (Sim (number (nth words 1)))
 
 -- what a word says that a node does
 abbrev pub kind_named : Word → Option NodeKind
@@ -38,9 +38,9 @@ abbrev pub node_verdicts : Known → List Word → List Verdict
 node_verdicts known words = new_name_verdict known (nth words 1) ∷ faulty_unless (is_some (kind_named (nth words 2))) E4 ∷ []
 
 -- `node NAME KIND`
-abbrev pub node_at : Known → List Word → Result Statement Fault
-node_at known words =
-    judged (length words == 3) (node_verdicts known words) (nat_le MOST_NODES (length known.kinds)) (Node (nth words 1) (unwrap_or (kind_named (nth words 2)) Router))
+abbrev pub node_statement : Known → List Word → Result Statement Fault
+node_statement known words =
+    judged_line (length words == 3) (node_verdicts known words) (nat_le MOST_NODES (length known.kinds)) (Node (nth words 1) (unwrap_or (kind_named (nth words 2)) Router))
 
 -- the seventh word is `droptail`
 abbrev pub is_drop_tail : List Word → Bool
@@ -92,9 +92,9 @@ link_said known words =
     record { from = number_of known (nth words 2); to = number_of known (nth words 3); rate = number (nth words 4); delay = number (nth words 5); queue = queue_said words; capacity = number (nth words 7) }
 
 -- `link NAME FROM TO RATE DELAY droptail CAP`, `link NAME FROM TO RATE DELAY codel CAP TARGET INTERVAL MAXPACKET`
-abbrev pub link_at : Known → List Word → Result Statement Fault
-link_at known words =
-    judged (has_link_length words) (link_verdicts known words) (nat_le MOST_LINKS (length known.links) || is_full_router known (number_of known (nth words 2))) (Link (nth words 1) (link_said known words))
+abbrev pub link_statement : Known → List Word → Result Statement Fault
+link_statement known words =
+    judged_line (has_link_length words) (link_verdicts known words) (nat_le MOST_LINKS (length known.links) || is_full_router known (number_of known (nth words 2))) (Link (nth words 1) (link_said known words))
 
 -- `flow` has nine words, or two more
 abbrev pub has_flow_length : List Word → Bool
@@ -163,7 +163,7 @@ flow_said known words = record {
 
 -- `flow NAME SENDER RECEIVER MSS SEGMENTS START RWND DELACK`, and with both or neither of `reno` or `newreno` and `iw3` or `iw10` behind these
 abbrev pub flow_at : Known → List Word → Result Statement Fault
-flow_at known words = judged (has_flow_length words) (flow_verdicts known words) (nat_le MOST_FLOWS (length known.flows)) (Flow (nth words 1) (flow_said known words))
+flow_at known words = judged_line (has_flow_length words) (flow_verdicts known words) (nat_le MOST_FLOWS (length known.flows)) (Flow (nth words 1) (flow_said known words))
 
 -- the verdicts on the words of `route` after the first
 abbrev pub route_verdicts : Known → List Word → List Verdict
@@ -176,7 +176,7 @@ route_verdicts known words =
 -- `route ROUTER DEST LINK`
 abbrev pub route_at : Known → List Word → Result Statement Fault
 route_at known words =
-    judged (length words == 4) (route_verdicts known words) false (Route (record { router = number_of known (nth words 1); destination = number_of known (nth words 2); link = number_of known (nth words 3) }))
+    judged_line (length words == 4) (route_verdicts known words) false (Route (record { router = number_of known (nth words 1); destination = number_of known (nth words 2); link = number_of known (nth words 3) }))
 
 -- the verdicts on the words of `lose` after the first
 abbrev pub lose_verdicts : Known → List Word → List Verdict
@@ -185,14 +185,14 @@ lose_verdicts known words = link_verdict known (nth words 1) ∷ number_verdict 
 -- `lose LINK NUMBER`
 abbrev pub lose_at : Known → List Word → Result Statement Fault
 lose_at known words =
-    judged (length words == 3) (lose_verdicts known words) (nat_le MOST_LOSE (length (lost_of known (number_of known (nth words 1))))) (Lose (record { link = number_of known (nth words 1); number = number (nth words 2) }))
+    judged_line (length words == 3) (lose_verdicts known words) (nat_le MOST_LOSE (length (lost_of known (number_of known (nth words 1))))) (Lose (record { link = number_of known (nth words 1); number = number (nth words 2) }))
 
 -- what a line's words say, which are not none
 abbrev pub statement_at : Known → List Word → Result Statement Fault
 statement_at known words =
     if bytes_eq (nth words 0) (codes "sim") then sim_at words
-    else (if bytes_eq (nth words 0) (codes "node") then node_at known words
-    else (if bytes_eq (nth words 0) (codes "link") then link_at known words
+    else (if bytes_eq (nth words 0) (codes "node") then node_statement known words
+    else (if bytes_eq (nth words 0) (codes "link") then link_statement known words
     else (if bytes_eq (nth words 0) (codes "flow") then flow_at known words
     else (if bytes_eq (nth words 0) (codes "route") then route_at known words
     else (if bytes_eq (nth words 0) (codes "lose") then lose_at known words

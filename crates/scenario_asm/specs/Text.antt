@@ -67,12 +67,12 @@ abbrev pub lost_numbers : ℕ → List Statement → List ℕ
 lost_numbers link statements = filter_map (lost_number link) statements
 
 -- a link that loses these packets
-abbrev pub link_part : LinkLine → List ℕ → LinkPart
-link_part link lose = record { from = link.from; to = link.to; rate = link.rate; delay = link.delay; queue = link.queue; capacity = link.capacity; lose = lose }
+abbrev pub losing_link_part : LinkLine → List ℕ → LinkPart
+losing_link_part link lose = record { from = link.from; to = link.to; rate = link.rate; delay = link.delay; queue = link.queue; capacity = link.capacity; lose = lose }
 
 -- the links of these lines, numbered from the first number on, each with what statements say to be lost of it
 abbrev pub numbered_links : ℕ → List LinkLine → List Statement → List LinkPart
-numbered_links first lines statements = map (λ numbered. link_part numbered.1 (lost_numbers numbered.0 statements)) (enumerate_from first lines)
+numbered_links first lines statements = map (λ numbered. losing_link_part numbered.1 (lost_numbers numbered.0 statements)) (enumerate_from first lines)
 
 -- the links that statements declare
 abbrev pub links_of : List Statement → List LinkPart
@@ -105,5 +105,5 @@ known_of statements =
     record { item = item_of statements; kinds = filter_map node_kind statements; links = links_of statements; flows = filter_map flow_part statements; routes = routes_of statements }
 
 -- what statements say of a scenario, with this end
-abbrev pub parts_of : ℕ → List Statement → ScenarioParts
-parts_of end statements = known_parts end (known_of statements)
+abbrev pub parts_of_statements : ℕ → List Statement → ScenarioParts
+parts_of_statements end statements = known_parts end (known_of statements)

@@ -27,8 +27,8 @@ unless None value = Ok value
 unless (Some fault) value = Err fault
 
 -- what a line says by its number of words, the verdicts on its words from left to right, and whether there are already as many as may be
-abbrev pub judged : {A : Type 0} → Bool → List Verdict → Bool → A → Result A Fault
-judged counted verdicts full value = if counted then unless (first_fault (verdicts ++ faulty_if full E9 ∷ [])) value else Err E3
+abbrev pub judged_line : {A : Type 0} → Bool → List Verdict → Bool → A → Result A Fault
+judged_line counted verdicts full value = if counted then unless (first_fault (verdicts ++ faulty_if full E9 ∷ [])) value else Err E3
 
 -- a reading gives its value where the verdict is none, and else the verdict's fault
 abbrev pub Judges : {A : Type 0} → Verdict → A → Result A Fault → Type 0

@@ -3,7 +3,7 @@ use Rattle.std.specs.Prelude.{◌≡◌, ℕ, ◌-◌, ◌||◌, List, [], ◌�
 use Rattle.sim_time.specs.declared.variant.Variant.{Variant}
 use Rattle.scenario_asm.specs.Bounds.{LEAST_RATE, GREATEST_RATE, LONGEST_DELAY, LATEST_END, GREATEST_MSS, MOST_SEGMENTS, GREATEST_RWND, LONGEST_DELACK}
 use Rattle.scenario_asm.specs.declared.fault.Fault.TheVariants.{E4}
-use Rattle.scenario_asm.specs.declared.statement.Refusal.{Refusal}
+use Rattle.scenario_asm.specs.declared.statement.StatementFault.{StatementFault}
 use Rattle.scenario_asm.specs.declared.statement.flow.FlowNumbers.{FlowNumbers}
 use Rattle.scenario_asm.specs.Lines.{Word}
 use Rattle.scenario_asm.specs.Numbers.{number, number_verdict}
@@ -14,7 +14,7 @@ use Rattle.scenario_asm.specs.Statements.{nth, is_drop_tail, is_codel, newreno_v
 use Rattle.scenario_asm.specs.Verdicts.{Verdict, first_fault, faulty_unless}
 
 -- words from a place on are read: as a value where no verdict on them is a fault, and else they are refused for the first, at its word
-abbrev pub IsReadFrom : {A : Type 0} → ℕ → List Verdict → A → Result A Refusal → Type 0
+abbrev pub IsReadFrom : {A : Type 0} → ℕ → List Verdict → A → Result A StatementFault → Type 0
 IsReadFrom place verdicts value (Ok read) = (first_fault verdicts ≡ None) × (read ≡ value)
 IsReadFrom place verdicts value (Err refusal) = (first_fault verdicts ≡ Some (fault_in refusal)) × (word_in refusal ≡ first_faulty place verdicts)
 

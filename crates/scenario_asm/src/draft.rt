@@ -3,11 +3,11 @@ ghost use Rattle.std.specs.Prelude.{◌≡◌, ◌≢◌, ℕ, List, [], ◌∷�
 ghost use Rattle.std.specs.Option.{ForSome};
 ghost use Rattle.scenario_asm.specs.declared.statement.Statement.{Statement};
 ghost use Rattle.scenario_asm.specs.Meaning.{statements_of};
-ghost use Rattle.scenario_asm.specs.Text.{link_part};
+ghost use Rattle.scenario_asm.specs.Text.{losing_link_part};
 ghost use Rattle.scenario_asm.specs.Table.{known_in};
 ghost use Rattle.scenario_asm.specs.Right.{IsRight, AreOfKinds};
 ghost use Rattle.scenario_asm.specs.Declarations.{GiveParts};
-ghost use Rattle.scenario_asm.specs.Draft.{AreEnds, Holds, IsWholeAnswer, WholeGives};
+ghost use Rattle.scenario_asm.specs.Draft.{HasTheseEnds, Holds, IsWholeAnswer, WholeGives};
 
 use crate::fault::{AsmFault, Fault};
 use crate::statement::{LinkLine, Statement};
@@ -30,7 +30,7 @@ pub enum Ends {
 impl Ends {
     /// After one more `sim` statement, with this end.
     fn and(self, end: Time) -> Ends
-        ensures { (ends : List ℕ) → AreEnds self ends → AreEnds result (ends ++ end ∷ []) }
+        ensures { (ends : List ℕ) → HasTheseEnds self ends → HasTheseEnds result (ends ++ end ∷ []) }
     {
         match self {
             Ends::Unset => Ends::Set(end),
@@ -50,7 +50,7 @@ pub struct Draft<'a> {
 
 /// The link that a statement declares, which loses nothing yet.
 fn new_link(alloc: Global, line: LinkLine) -> LinkPart
-    ensures { result ≡ link_part line [] }
+    ensures { result ≡ losing_link_part line [] }
 {
     LinkPart {
         from: line.from,

@@ -38,9 +38,9 @@ pub enum Fault {
     /// A sender or receiver without exactly one flow or without exactly one outgoing link, or a
     /// router without an outgoing link.
     L5,
-    /// On some flow's way a router without a route to the way's end, or another end.
+    /// On some flow's path a router without a route to the path's end, or another end.
     L7,
-    /// Some flow's way returns to a node.
+    /// Some flow's path returns to a node.
     L8,
 }
 

@@ -21,4 +21,4 @@ pub use disassembler::disassemble;
 pub use fault::{AsmFault, Fault};
 pub use guarantees::texts_have_one_answer;
 pub use named_parts::{NamedParts, parts_of_text};
-pub use place::{Part, Place, fault_place};
+pub use place::{FaultPlace, Part, fault_place};

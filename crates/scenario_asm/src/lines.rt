@@ -5,7 +5,7 @@ ghost use Rattle.scenario_asm.specs.Refusals.{AllRead, IsRefusedLine};
 
 use crate::draft::Draft;
 use crate::lexer::{Pieces, first_words};
-use crate::statement::{Refusal, read_line};
+use crate::statement::{StatementFault, read_line};
 use std::alloc::{AllocError, Global};
 
 /// A line that is refused.
@@ -16,7 +16,7 @@ pub struct RefusedLine<'a> {
     /// Its bytes, without the line feed.
     pub bytes: &'a [u8],
     /// What is wrong with it.
-    pub refusal: Refusal,
+    pub refusal: StatementFault,
 }
 
 /// Adds what the lines of a text say to a draft that holds nothing, up to the first line that is

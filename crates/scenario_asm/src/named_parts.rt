@@ -2,7 +2,7 @@
 ghost use Rattle.std.specs.Prelude.{◌≡◌, ◌++◌, [], map, OnOk, IfOk, IfSome, IsSomeAnd};
 ghost use Rattle.std.specs.List.{cons_option};
 ghost use Rattle.scenario_image.specs.declared.parts.ScenarioParts.{ScenarioParts};
-ghost use Rattle.scenario_asm.specs.Lines.{lines_of};
+ghost use Rattle.scenario_asm.specs.Lines.{lines_of_text};
 ghost use Rattle.scenario_asm.specs.Declarations.{second_after, seconds_after, DeclaresParts, Declares};
 
 use crate::draft::Draft;
@@ -46,7 +46,7 @@ fn seconds_after<'a>(
     first: &[u8],
     text: &'a [u8],
 ) -> Result<Vec<&'a [u8]>, AllocError>
-    ensures { IfOk result (λ seconds. map (λ second. second.now) seconds.items ≡ seconds_after first.now (lines_of text.now)) }
+    ensures { IfOk result (λ seconds. map (λ second. second.now) seconds.items ≡ seconds_after first.now (lines_of_text text.now)) }
 {
     let mut seconds = Vec::new(alloc);
     let mut words = Vec::new(alloc);

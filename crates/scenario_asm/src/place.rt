@@ -30,7 +30,7 @@ pub enum Part {
 
 /// Where a text's first fault is, if it is that of a line.
 #[derive(Clone, Copy)]
-pub struct Place<'a> {
+pub struct FaultPlace<'a> {
     /// The line, counted from 1.
     pub line: u64,
     /// The line's bytes, without its line feed.
@@ -59,13 +59,13 @@ fn part_of(line: &[u8], word: Option<usize>) -> Part
 
 /// Where the first faulty line of a text is faulty, or `None` where each line is right. For use after
 /// a refusal: it reads the text once more.
-pub fn fault_place<'a>(alloc: Global, text: &'a [u8]) -> Result<Option<Place<'a>>, AllocError>
+pub fn fault_place<'a>(alloc: Global, text: &'a [u8]) -> Result<Option<FaultPlace<'a>>, AllocError>
     ensures place { IfOk result (λ found. IfSome found (IsFaultPlace text.now)) }
     ensures only { (number : ℕ) (fault : Fault) → IsLineFault text.now number fault → IfOk result (λ found. IsSomeAnd found (λ place. (place.line ≡ number) × (place.fault ≡ fault))) }
 {
     let mut draft = Draft::new(alloc);
     match read_lines(alloc, text, &mut draft)? {
-        Some(refused) => Ok(Some(Place {
+        Some(refused) => Ok(Some(FaultPlace {
             line: refused.number,
             bytes: refused.bytes,
             fault: refused.refusal.fault(),

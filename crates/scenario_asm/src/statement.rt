@@ -12,7 +12,7 @@ macro_rules! judge {
     ($place:literal, $read:expr) => {
         match $read {
             Ok(value) => value,
-            Err(fault) => return Err(Refusal::Word($place, fault)),
+            Err(fault) => return Err(StatementFault::Word($place, fault)),
         }
     };
 }
@@ -78,20 +78,20 @@ pub enum Statement<'a> {
 
 /// What is wrong with a line.
 #[derive(Clone, Copy)]
-pub enum Refusal {
+pub enum StatementFault {
     /// This is wrong with the line as a whole.
     Line(Fault),
     /// This is wrong with the word at this place, counted from 0.
     Word(usize, Fault),
 }
 
-impl Refusal {
+impl StatementFault {
     /// What is wrong.
     pub fn fault(self) -> Fault
         ensures { result ≡ fault_in self }
     {
         match self {
-            Refusal::Line(fault) | Refusal::Word(_, fault) => fault,
+            StatementFault::Line(fault) | StatementFault::Word(_, fault) => fault,
         }
     }
 
@@ -100,8 +100,8 @@ impl Refusal {
         ensures { result ≡ word_in self }
     {
         match self {
-            Refusal::Line(_) => None,
-            Refusal::Word(place, _) => Some(place),
+            StatementFault::Line(_) => None,
+            StatementFault::Word(place, _) => Some(place),
         }
     }
 }
@@ -115,19 +115,19 @@ fn has_word(words: &[Word<'_>], place: usize, word: &[u8]) -> bool
 }
 
 /// `sim END`
-fn sim<'a>(words: &[Word<'a>]) -> Result<Statement<'a>, Refusal>
+fn sim<'a>(words: &[Word<'a>]) -> Result<Statement<'a>, StatementFault>
     ensures said { as_fault result ≡ sim_at words.now }
     ensures word { IfErr result (λ refusal. word_in refusal ≡ sim_word words.now) }
 {
     let [_sim, end] = words else {
-        return Err(Refusal::Line(Fault::E3));
+        return Err(StatementFault::Line(Fault::E3));
     };
     let end = judge!(1, number_in(end, 1, LATEST_END));
     Ok(Statement::Sim(end))
 }
 
 /// What a line's words say.
-fn read<'a>(table: &Table<'a>, words: &[Word<'a>]) -> Result<Statement<'a>, Refusal>
+fn read<'a>(table: &Table<'a>, words: &[Word<'a>]) -> Result<Statement<'a>, StatementFault>
     ensures said { as_fault result ≡ statement_at (known_in table.now) words.now }
     ensures word { IfErr result (λ refusal. word_in refusal ≡ statement_word (known_in table.now) words.now) }
 {
@@ -144,7 +144,7 @@ fn read<'a>(table: &Table<'a>, words: &[Word<'a>]) -> Result<Statement<'a>, Refu
     } else if has_word(words, 0, b"lose") {
         lose::read(table, words)
     } else {
-        Err(Refusal::Word(0, Fault::E2))
+        Err(StatementFault::Word(0, Fault::E2))
     }
 }
 
@@ -155,13 +155,13 @@ pub fn read_line<'a>(
     table: &Table<'a>,
     line: &'a [u8],
     words: &[Word<'a>],
-) -> Result<Option<Statement<'a>>, Refusal>
+) -> Result<Option<Statement<'a>>, StatementFault>
     requires { words.now ≡ take 12 (words_of line.now) }
     ensures said { as_fault result ≡ line_at (known_in table.now) line.now }
     ensures word { IfErr result (λ refusal. word_in refusal ≡ line_word (known_in table.now) line.now) }
 {
     if !is_clean(line) {
-        return Err(Refusal::Line(Fault::E1));
+        return Err(StatementFault::Line(Fault::E1));
     }
     if words.is_empty() {
         return Ok(None);

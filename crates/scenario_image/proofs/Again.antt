@@ -15,7 +15,7 @@ use Rattle.sim_time.specs.declared.variant.Iw.{Iw}
 use Rattle.sim_time.specs.declared.variant.Iw.TheVariants.{Iw3, Iw10}
 use Rattle.scenario_image.specs.Image.{magic, node_byte, link_image, newreno_bit, iw_bit, flow_image, route_image, image, MayStandIn}
 use Rattle.scenario_image.specs.Layout.{version_of, node_count, link_count, flow_count, route_count, link_size, links_size, flow_size, layout_size}
-use Rattle.scenario_image.specs.Reading.{each_at, node_of_byte, nodes_at, link_at, links_at, variant_of_byte, variant_at, flow_with, flow_at, flows_at, route_at, parts_with, parts_behind, parts_at}
+use Rattle.scenario_image.specs.Reading.{each_at, node_of_byte, nodes_at, link_in_front, links_at, variant_of_byte, variant_at, flow_with, flow_at, flows_at, route_at, parts_with, parts_behind, parts_at}
 use Rattle.scenario_image.specs.declared.parts.NodeKind.{NodeKind}
 use Rattle.scenario_image.specs.declared.parts.NodeKind.TheVariants.{Sender, Receiver, Router}
 use Rattle.sim_time.specs.declared.queue_kind.QueueKind.{QueueKind}
@@ -137,7 +137,7 @@ lose_again lose rest few fits =
     ap (λ n. each_at 4 (big_number 4) n (flat_map (big_bytes 4) lose ++ rest)) {x = length lose % 256} {y = length lose} (omega (arith, few))
     ∙ each_again 4 (big_number 4) (big_bytes 4) (λ n. n < 4294967296) (λ n. refl) lost_again lose rest fits
 
-queue_again : (link : LinkPart) (q : QueueKind) (rest : List ℕ) → LinkFits (with_queue link q) → link_at (link_image (with_queue link q) ++ rest) ≡ Some (with_queue link q)
+queue_again : (link : LinkPart) (q : QueueKind) (rest : List ℕ) → LinkFits (with_queue link q) → link_in_front (link_image (with_queue link q) ++ rest) ≡ Some (with_queue link q)
 queue_again link DropTail rest fits = λ i. Some (record {
   from = two link.from fits.from i;
   to = two link.to fits.to i;

@@ -1,4 +1,4 @@
--- What a walk along a way shows of the whole way.
+-- What a walk along a path shows of the whole path.
 use Rattle.std.proofs.Common.{◌≡◌, ℕ, zero, suc, ◌+◌, ◌<◌, ◌≤◌, List, length, get_or, Option, Some, None, ⊎_elim, arith, refl, ap, sym, ◌∙◌, subst, All}
 use Rattle.std.proofs.lemmas.Bool.{cases_lt}
 use Rattle.std.proofs.lemmas.Option.{none-some, same_Some, option_and_then_some, slice_get_within, slice_get-get_or, get_or_from_slice_get}
@@ -8,11 +8,11 @@ use Rattle.scenario_image.proofs.Repeats.{HasRepeat, pigeonhole, none_later, som
 use Rattle.scenario_image.specs.Limits.{IsInLimits}
 use Rattle.scenario_image.specs.LinkLimits.{IsLinkInLimits}
 use Rattle.scenario_image.specs.Kinds.{link_target}
-use Rattle.scenario_image.specs.Ways.{data_way, ack_way, hop_link, next_node, node_after, MayPass, IsUnbroken, IsSimple}
+use Rattle.scenario_image.specs.Paths.{data_path, ack_path, hop_link, next_node, node_after_hops, MayPass, IsUnbroken, IsSimple}
 use Rattle.scenario_image.specs.declared.parts.FlowPart.{FlowPart}
 use Rattle.scenario_image.specs.declared.parts.LinkPart.{LinkPart}
 use Rattle.scenario_image.specs.declared.parts.ScenarioParts.{ScenarioParts}
-use Rattle.scenario_image.specs.declared.ways.Way.{Way}
+use Rattle.scenario_image.specs.declared.paths.Path.{Path}
 
 -- what an option's value was made from
 pub mapped_some : {A B : Type 0} (f : A → B) (o : Option A) (y : B) → option_map f o ≡ Some y → (x : A) × (o ≡ Some x) × (f x ≡ y)
@@ -30,89 +30,89 @@ target_below parts number node limits is =
     let in_limits : IsLinkInLimits (length parts.nodes) link = all_at (IsLinkInLimits (length parts.nodes)) parts.links number link limits.each_link found in
     subst (λ n. n < length parts.nodes) to in_limits.to_node
 
--- a way is at nodes that are there
-pub node_below : (parts : ScenarioParts) (way : Way) (k node : ℕ) → IsInLimits parts → way.start < length parts.nodes → node_after parts way k ≡ Some node → node < length parts.nodes
-node_below parts way zero node limits start is = subst (λ n. n < length parts.nodes) (same_Some way.start node is) start
-node_below parts way (suc k) node limits start is =
-    option_and_then_some (next_node parts way) (node_after parts way k) node is (λ here _ next.
-    option_and_then_some (link_target parts.links) (hop_link parts way here) node next (λ number _ to. target_below parts number node limits to))
+-- a path is at nodes that are there
+pub node_below : (parts : ScenarioParts) (path : Path) (k node : ℕ) → IsInLimits parts → path.start < length parts.nodes → node_after_hops parts path k ≡ Some node → node < length parts.nodes
+node_below parts path zero node limits start is = subst (λ n. n < length parts.nodes) (same_Some path.start node is) start
+node_below parts path (suc k) node limits start is =
+    option_and_then_some (next_node parts path) (node_after_hops parts path k) node is (λ here _ next.
+    option_and_then_some (link_target parts.links) (hop_link parts path here) node next (λ number _ to. target_below parts number node limits to))
 
--- a way goes on from where it is
-pub next_after : (parts : ScenarioParts) (way : Way) (hops here : ℕ) (next : Option ℕ) → node_after parts way hops ≡ Some here → next_node parts way here ≡ next → node_after parts way (suc hops) ≡ next
-next_after parts way hops here next at_here is = ap (option_and_then (next_node parts way)) at_here ∙ is
+-- a path goes on from where it is
+pub next_after : (parts : ScenarioParts) (path : Path) (hops here : ℕ) (next : Option ℕ) → node_after_hops parts path hops ≡ Some here → next_node parts path here ≡ next → node_after_hops parts path (suc hops) ≡ next
+next_after parts path hops here next at_here is = ap (option_and_then (next_node parts path)) at_here ∙ is
 
--- the first hops of a way come only where they may
-abbrev pub IsUnbrokenFor : ScenarioParts → Way → ℕ → Type 0
-IsUnbrokenFor parts way hops = (k node : ℕ) → k < hops → node_after parts way (suc k) ≡ Some node → MayPass parts way node
+-- the first hops of a path come only where they may
+abbrev pub IsUnbrokenFor : ScenarioParts → Path → ℕ → Type 0
+IsUnbrokenFor parts path hops = (k node : ℕ) → k < hops → node_after_hops parts path (suc k) ≡ Some node → MayPass parts path node
 
--- the repeated step of a way
-pub goes : (parts : ScenarioParts) (way : Way) (k : ℕ) → node_after parts way (suc k) ≡ option_and_then (next_node parts way) (node_after parts way k)
-goes parts way k = refl
+-- the repeated step of a path
+pub goes : (parts : ScenarioParts) (path : Path) (k : ℕ) → node_after_hops parts path (suc k) ≡ option_and_then (next_node parts path) (node_after_hops parts path k)
+goes parts path k = refl
 
--- a way that does not go on is unbroken, and at no node twice
-pub ended : (parts : ScenarioParts) (way : Way) (hops here : ℕ) → IsUnbrokenFor parts way hops → node_after parts way hops ≡ Some here → next_node parts way here ≡ None → IsUnbroken parts way × IsSimple parts way
-ended parts way hops here unbroken at_here stops = (no_break, no_return)
+-- a path that does not go on is unbroken, and at no node twice
+pub ended : (parts : ScenarioParts) (path : Path) (hops here : ℕ) → IsUnbrokenFor parts path hops → node_after_hops parts path hops ≡ Some here → next_node parts path here ≡ None → IsUnbroken parts path × IsSimple parts path
+ended parts path hops here unbroken at_here stops = (no_break, no_return)
   where
-    nothing : node_after parts way (suc hops) ≡ None
-    nothing = next_after parts way hops here None at_here stops
+    nothing : node_after_hops parts path (suc hops) ≡ None
+    nothing = next_after parts path hops here None at_here stops
 
-    no_break : IsUnbroken parts way
+    no_break : IsUnbroken parts path
     no_break k node at_node =
         ⊎_elim (λ (before : k < hops). unbroken k node before at_node)
-        (λ (after : hops ≤ k). absurd (none-some node (sym (none_later (next_node parts way) (node_after parts way) (goes parts way) (suc k) (suc hops) (omega arith) nothing) ∙ at_node)))
+        (λ (after : hops ≤ k). absurd (none-some node (sym (none_later (next_node parts path) (node_after_hops parts path) (goes parts path) (suc k) (suc hops) (omega arith) nothing) ∙ at_node)))
         (cases_lt k hops)
 
-    no_return : IsSimple parts way
+    no_return : IsSimple parts path
     no_return i j node before at_i at_j =
-        let (m, below, same) = no_new_place (next_node parts way) (node_after parts way) (goes parts way) i j before (at_i ∙ sym at_j) hops in
-        absurd (none-some node (sym (none_later (next_node parts way) (node_after parts way) (goes parts way) j (suc m) (omega arith) (sym same ∙ nothing)) ∙ at_j))
+        let (m, below, same) = no_new_place (next_node parts path) (node_after_hops parts path) (goes parts path) i j before (at_i ∙ sym at_j) hops in
+        absurd (none-some node (sym (none_later (next_node parts path) (node_after_hops parts path) (goes parts path) j (suc m) (omega arith) (sym same ∙ nothing)) ∙ at_j))
 
--- a way that goes on for as many hops as there are nodes comes to a node again, and to no new ones after that
-pub returned : (parts : ScenarioParts) (way : Way) (here : ℕ) → IsInLimits parts → way.start < length parts.nodes → IsUnbrokenFor parts way (length parts.nodes)
-    → node_after parts way (length parts.nodes) ≡ Some here → IsUnbroken parts way × ¬ IsSimple parts way
-returned parts way here limits start unbroken at_here = (no_break, λ simple. simple repeat.0 repeat.1 (place repeat.0) repeat.2 first (sym same ∙ first))
+-- a path that goes on for as many hops as there are nodes comes to a node again, and to no new ones after that
+pub returned : (parts : ScenarioParts) (path : Path) (here : ℕ) → IsInLimits parts → path.start < length parts.nodes → IsUnbrokenFor parts path (length parts.nodes)
+    → node_after_hops parts path (length parts.nodes) ≡ Some here → IsUnbroken parts path × ¬ IsSimple parts path
+returned parts path here limits start unbroken at_here = (no_break, λ simple. simple repeat.0 repeat.1 (place repeat.0) repeat.2 first (sym same ∙ first))
   where
     count : ℕ
     count = length parts.nodes
 
     place : ℕ → ℕ
-    place k = unwrap_or (node_after parts way k) 0
+    place k = unwrap_or (node_after_hops parts path k) 0
 
-    there : (k : ℕ) → k ≤ count → node_after parts way k ≡ Some (place k)
-    there k most = let (node, is) = some_earlier (next_node parts way) (node_after parts way) (goes parts way) count k here most at_here in is ∙ ap Some (sym (ap (λ o. unwrap_or o 0) is))
+    there : (k : ℕ) → k ≤ count → node_after_hops parts path k ≡ Some (place k)
+    there k most = let (node, is) = some_earlier (next_node parts path) (node_after_hops parts path) (goes parts path) count k here most at_here in is ∙ ap Some (sym (ap (λ o. unwrap_or o 0) is))
 
     repeat : HasRepeat count place
-    repeat = pigeonhole count place (λ k most. node_below parts way k (place k) limits start (there k most))
+    repeat = pigeonhole count place (λ k most. node_below parts path k (place k) limits start (there k most))
 
-    first : node_after parts way repeat.0 ≡ Some (place repeat.0)
+    first : node_after_hops parts path repeat.0 ≡ Some (place repeat.0)
     first = there repeat.0 (omega (arith, repeat.2, repeat.3))
 
-    same : node_after parts way repeat.0 ≡ node_after parts way repeat.1
+    same : node_after_hops parts path repeat.0 ≡ node_after_hops parts path repeat.1
     same = first ∙ ap Some repeat.4 ∙ sym (there repeat.1 repeat.3)
 
-    no_break : IsUnbroken parts way
+    no_break : IsUnbroken parts path
     no_break k node at_node =
-        let (m, below, is) = no_new_place (next_node parts way) (node_after parts way) (goes parts way) repeat.0 repeat.1 repeat.2 same k in
+        let (m, below, is) = no_new_place (next_node parts path) (node_after_hops parts path) (goes parts path) repeat.0 repeat.1 repeat.2 same k in
         unbroken m node (omega (arith, below, repeat.3)) (sym is ∙ at_node)
 
--- one more hop of a way that has come only where it may
-pub unbroken_more : (parts : ScenarioParts) (way : Way) (hops here next : ℕ) → IsUnbrokenFor parts way hops → node_after parts way hops ≡ Some here → next_node parts way here ≡ Some next → MayPass parts way next → IsUnbrokenFor parts way (hops + 1)
-unbroken_more parts way hops here next unbroken at_here is passes k node below at_node =
+-- one more hop of a path that has come only where it may
+pub unbroken_more : (parts : ScenarioParts) (path : Path) (hops here next : ℕ) → IsUnbrokenFor parts path hops → node_after_hops parts path hops ≡ Some here → next_node parts path here ≡ Some next → MayPass parts path next → IsUnbrokenFor parts path (hops + 1)
+unbroken_more parts path hops here next unbroken at_here is passes k node below at_node =
     ⊎_elim (λ (before : k < hops). unbroken k node before at_node)
     (λ (last : hops ≤ k). let now : k ≡ hops = omega arith in
-    let there : Some next ≡ Some node = sym (next_after parts way hops here (Some next) at_here is) ∙ ap (λ (j : ℕ). node_after parts way (suc j)) (sym now) ∙ at_node in
-    subst (MayPass parts way) (same_Some next node there) passes) (cases_lt k hops)
+    let there : Some next ≡ Some node = sym (next_after parts path hops here (Some next) at_here is) ∙ ap (λ (j : ℕ). node_after_hops parts path (suc j)) (sym now) ∙ at_node in
+    subst (MayPass parts path) (same_Some next node there) passes) (cases_lt k hops)
 
-pub node_more : (parts : ScenarioParts) (way : Way) (hops here next : ℕ) → node_after parts way hops ≡ Some here → next_node parts way here ≡ Some next → node_after parts way (hops + 1) ≡ Some next
-node_more parts way hops here next at_here is = subst (λ (j : ℕ). node_after parts way j ≡ Some next) {x = suc hops} {y = hops + 1} (omega arith) (next_after parts way hops here (Some next) at_here is)
+pub node_more : (parts : ScenarioParts) (path : Path) (hops here next : ℕ) → node_after_hops parts path hops ≡ Some here → next_node parts path here ≡ Some next → node_after_hops parts path (hops + 1) ≡ Some next
+node_more parts path hops here next at_here is = subst (λ (j : ℕ). node_after_hops parts path j ≡ Some next) {x = suc hops} {y = hops + 1} (omega arith) (next_after parts path hops here (Some next) at_here is)
 
--- a way that comes where it may not
-pub breaks : (parts : ScenarioParts) (way : Way) (hops here next : ℕ) → node_after parts way hops ≡ Some here → next_node parts way here ≡ Some next → ¬ MayPass parts way next → ¬ IsUnbroken parts way
-breaks parts way hops here next at_here is fails unbroken = fails (unbroken hops next (next_after parts way hops here (Some next) at_here is))
+-- a path that comes where it may not
+pub breaks : (parts : ScenarioParts) (path : Path) (hops here next : ℕ) → node_after_hops parts path hops ≡ Some here → next_node parts path here ≡ Some next → ¬ MayPass parts path next → ¬ IsUnbroken parts path
+breaks parts path hops here next at_here is fails unbroken = fails (unbroken hops next (next_after parts path hops here (Some next) at_here is))
 
--- what holds of both ways of each of the first flows
-abbrev pub EachWayBefore : ScenarioParts → ℕ → (Way → Type 0) → Type 0
-EachWayBefore parts count P = (number : ℕ) → number < count → (flow : FlowPart) → slice_get parts.flows number ≡ Some flow → P (data_way flow) × P (ack_way flow)
+-- what holds of both paths of each of the first flows
+abbrev pub EachPathBefore : ScenarioParts → ℕ → (Path → Type 0) → Type 0
+EachPathBefore parts count P = (number : ℕ) → number < count → (flow : FlowPart) → slice_get parts.flows number ≡ Some flow → P (data_path flow) × P (ack_path flow)
 
 -- the flow at a place of a list that is the flows
 pub flow_at : (P : FlowPart → Type 0) (flows items : List FlowPart) (number : ℕ) (flow default : FlowPart) → items ≡ flows → slice_get flows number ≡ Some flow → P (get_or items number default) → P flow

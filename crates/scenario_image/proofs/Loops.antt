@@ -3,7 +3,7 @@ use Rattle.std.proofs.Common.{◌≡◌, ℕ, suc, ◌+◌, ◌-◌, ◌*◌, �
 use Rattle.std.specs.Option.{option_map, option_and_then}
 use Rattle.std.proofs.lemmas.List.{append-nil, length-drop}
 use Rattle.scenario_image.specs.Layout.{link_size, links_size, flow_size}
-use Rattle.scenario_image.specs.Reading.{each_at, Fails, Gives, node_of_byte, nodes_at, link_at, links_at, flow_at, flows_at}
+use Rattle.scenario_image.specs.Reading.{each_at, Fails, Gives, node_of_byte, nodes_at, link_in_front, links_at, flow_at, flows_at}
 use Rattle.scenario_image.specs.declared.fault.LoadFault.{LoadFault}
 use Rattle.scenario_image.specs.declared.fault.LoadFault.TheVariants.{L1, L2, L3, L4, L5, L6, L7, L8, NoMemory}
 use Rattle.scenario_image.specs.declared.parts.NodeKind.{NodeKind}
@@ -85,7 +85,7 @@ one_more count done below = omega arith
 pub link_fits : (count : ℕ) (bytes : List ℕ) (done : ℕ) (front : List LinkPart) (rest : List ℕ) → done < count → AreLinksSoFar count bytes done front rest → link_size rest ≤ length rest
 link_fits count bytes done front rest below so_far = omega (arith, so_far.enough, ap (λ n. links_size n rest) (one_more count done below))
 
-pub link_next : (count : ℕ) (bytes : List ℕ) (done : ℕ) (front : List LinkPart) (rest : List ℕ) (link : LinkPart) → done < count → link_at rest ≡ Some link → AreLinksSoFar count bytes done front rest
+pub link_next : (count : ℕ) (bytes : List ℕ) (done : ℕ) (front : List LinkPart) (rest : List ℕ) (link : LinkPart) → done < count → link_in_front rest ≡ Some link → AreLinksSoFar count bytes done front rest
     → AreLinksSoFar count bytes (done + 1) (front ++ link ∷ []) (drop (link_size rest) rest)
 link_next count bytes done front rest link below is so_far = record {
   all = links_regroup front link (links_at (count - (done + 1)) (drop (link_size rest) rest))
@@ -94,7 +94,7 @@ link_next count bytes done front rest link below is so_far = record {
   enough = omega (arith, so_far.enough, ap (λ n. links_size n rest) (one_more count done below), length-drop (link_size rest) rest);
 }
 
-pub no_link : (count : ℕ) (bytes : List ℕ) (done : ℕ) (front : List LinkPart) (rest : List ℕ) → done < count → link_at rest ≡ None → AreLinksSoFar count bytes done front rest → links_at count bytes ≡ None
+pub no_link : (count : ℕ) (bytes : List ℕ) (done : ℕ) (front : List LinkPart) (rest : List ℕ) → done < count → link_in_front rest ≡ None → AreLinksSoFar count bytes done front rest → links_at count bytes ≡ None
 no_link count bytes done front rest below is so_far =
     sym so_far.all ∙ ap (λ n. links_before front (links_at n rest)) (one_more count done below) ∙ ap (λ first. links_before front (first_link rest (count - (done + 1)) first)) is
 
@@ -143,7 +143,7 @@ flows_done version count bytes done front rest above so_far =
     sym so_far.all ∙ ap (λ n. flows_before front (flows_at version n rest)) {x = count - done} {y = 0} (omega arith) ∙ ap Some (append-nil front)
 
 -- what is read of one link fails as what is read of all
-pub link_fails : (fault : LoadFault) (count : ℕ) (bytes : List ℕ) (done : ℕ) (front : List LinkPart) (rest : List ℕ) → done < count → Fails fault (link_at rest) → AreLinksSoFar count bytes done front rest → Fails fault (links_at count bytes)
+pub link_fails : (fault : LoadFault) (count : ℕ) (bytes : List ℕ) (done : ℕ) (front : List LinkPart) (rest : List ℕ) → done < count → Fails fault (link_in_front rest) → AreLinksSoFar count bytes done front rest → Fails fault (links_at count bytes)
 link_fails L1 count bytes done front rest below is so_far = absurd is
 link_fails L2 count bytes done front rest below is so_far = absurd is
 link_fails L3 count bytes done front rest below is so_far = no_link count bytes done front rest below is so_far

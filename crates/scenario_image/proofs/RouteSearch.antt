@@ -11,7 +11,7 @@ use Rattle.std.specs.List.Sorted.{IsBinarySearchResult, IsPartitionPoint, IsSort
 use Rattle.std.specs.declared.cmp.Ordering.TheVariants.{Less, Equal, Greater}
 use Rattle.scenario_image.specs.Limits.{IsInLimits}
 use Rattle.scenario_image.specs.RouteLimits.{IsRouteBefore, IsRouteInLimits, route_key}
-use Rattle.scenario_image.specs.Ways.{is_route_for, route_link}
+use Rattle.scenario_image.specs.Paths.{is_route_for, route_link}
 use Rattle.scenario_image.specs.declared.parts.RoutePart.{RoutePart}
 use Rattle.scenario_image.specs.declared.parts.ScenarioParts.{ScenarioParts}
 

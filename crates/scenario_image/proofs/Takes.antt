@@ -10,7 +10,7 @@ use Rattle.sim_time.specs.declared.variant.Iw.TheVariants.{Iw3, Iw10}
 use Rattle.sim_time.specs.declared.variant.Variant.{Variant}
 use Rattle.scenario_image.specs.Image.{magic, node_byte, queue_byte, codel_image, link_image, variant_byte, flow_image, route_image, image, reno_iw3, MayStandIn}
 use Rattle.scenario_image.specs.Layout.{version_of, node_count, link_count, flow_count, route_count, link_size, links_size, flow_size, layout_size}
-use Rattle.scenario_image.specs.Reading.{each_at, node_of_byte, nodes_at, codel_at, queue_of_byte, link_with, link_at, links_at, variant_of_byte, flow_with, flow_at, flows_at, route_at, parts_with, parts_behind, parts_at}
+use Rattle.scenario_image.specs.Reading.{each_at, node_of_byte, nodes_at, codel_at, queue_of_byte, link_with, link_in_front, links_at, variant_of_byte, flow_with, flow_at, flows_at, route_at, parts_with, parts_behind, parts_at}
 use Rattle.scenario_image.proofs.Courses.{mapped_some}
 use Rattle.scenario_image.proofs.Numbers.{IsBytes, bytes_drop, one, two, four, eight}
 use Rattle.scenario_image.specs.declared.parts.NodeKind.{NodeKind}
@@ -172,7 +172,7 @@ with_takes bytes q fits long is =
     ∙ ap (λ (xs : List ℕ). raw_link bytes (queue_byte q) (codel_image q) (length lose) xs) lost
     ∙ raw_spelled bytes q (drop (link_size bytes) bytes)
 
-link_takes : (bytes : List ℕ) (link : LinkPart) → IsBytes bytes → link_size bytes ≤ length bytes → link_at bytes ≡ Some link → bytes ≡ link_image link ++ drop (link_size bytes) bytes
+link_takes : (bytes : List ℕ) (link : LinkPart) → IsBytes bytes → link_size bytes ≤ length bytes → link_in_front bytes ≡ Some link → bytes ≡ link_image link ++ drop (link_size bytes) bytes
 link_takes bytes link fits long is =
     let (q, read, same) = mapped_some (link_with bytes) (queue_of_byte (get_or bytes 20 0) (codel_at bytes)) link is in
     with_takes bytes q fits long (queue_takes (get_or bytes 20 0) (codel_at bytes) q read) ∙ ap (λ l. link_image l ++ drop (link_size bytes) bytes) same
@@ -188,7 +188,7 @@ links_take zero bytes links fits long is =
     let none : List LinkPart × List ℕ = ([], bytes) in
     subst (LinksTaken 0 bytes) (same_Some none links is) (record { spelled = refl; counted = refl; behind = refl })
 links_take (suc more) bytes links fits long is =
-    option_and_then_some (λ link. option_map (λ others. (link ∷ others.0, others.1)) (links_at more (drop (link_size bytes) bytes))) (link_at bytes) links is (λ link at rest.
+    option_and_then_some (λ link. option_map (λ others. (link ∷ others.0, others.1)) (links_at more (drop (link_size bytes) bytes))) (link_in_front bytes) links is (λ link at rest.
     let (others, later, same) = mapped_some (λ (others : List LinkPart × List ℕ). (link ∷ others.0, others.1)) (links_at more (drop (link_size bytes) bytes)) links rest in
     let taken : LinksTaken more (drop (link_size bytes) bytes) others =
     links_take more (drop (link_size bytes) bytes) others (bytes_drop (link_size bytes) bytes fits) (omega (arith, long, length-drop (link_size bytes) bytes)) later in

@@ -3,7 +3,7 @@ use Rattle.std.specs.Prelude.{◌≡◌, ℕ, List, [], ◌∷◌, ◌⊎◌, co
 use Rattle.scenario_image.specs.Limits.{IsInLimits}
 use Rattle.scenario_image.specs.Ends.{HasItsEnds}
 use Rattle.scenario_image.specs.Kinds.{HasItsKinds}
-use Rattle.scenario_image.specs.Ways.{EachWay, IsUnbroken, IsSimple}
+use Rattle.scenario_image.specs.Paths.{EachPath, IsUnbroken, IsSimple}
 use Rattle.scenario_image.specs.declared.fault.LoadFault.{LoadFault}
 use Rattle.scenario_image.specs.declared.fault.LoadFault.TheVariants.{L1, L2, L3, L4, L5, L6, L7, L8, NoMemory}
 use Rattle.scenario_image.specs.declared.parts.ScenarioParts.{ScenarioParts}
@@ -28,8 +28,8 @@ IsFreeOf parts L3 = IsInLimits parts
 IsFreeOf parts L4 = Unit {0}
 IsFreeOf parts L5 = HasItsEnds parts
 IsFreeOf parts L6 = HasItsKinds parts
-IsFreeOf parts L7 = EachWay parts (IsUnbroken parts)
-IsFreeOf parts L8 = EachWay parts (IsSimple parts)
+IsFreeOf parts L7 = EachPath parts (IsUnbroken parts)
+IsFreeOf parts L8 = EachPath parts (IsSimple parts)
 IsFreeOf parts NoMemory = Unit {0}
 
 -- the faults that parts can have, in the order in which they are judged

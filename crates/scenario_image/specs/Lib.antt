@@ -5,10 +5,10 @@ pub mod RouteLimits
 pub mod Limits
 pub mod Ends
 pub mod Kinds
-pub mod Ways
+pub mod Paths
 pub mod Scenario
 pub mod Fault
-pub mod WayLaws
+pub mod PathLaws
 pub mod Image
 pub mod Plain
 pub mod Settings

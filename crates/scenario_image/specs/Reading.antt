@@ -61,14 +61,14 @@ link_with bytes queue = record {
 }
 
 -- the link at the front
-abbrev pub link_at : List ℕ → Option LinkPart
-link_at bytes = option_map (link_with bytes) (queue_of_byte (slice_index bytes 20) (codel_at bytes))
+abbrev pub link_in_front : List ℕ → Option LinkPart
+link_in_front bytes = option_map (link_with bytes) (queue_of_byte (slice_index bytes 20) (codel_at bytes))
 
 -- so many links, and the bytes behind them
 abbrev pub links_at : ℕ → List ℕ → Option (List LinkPart × List ℕ)
 links_at zero bytes = Some ([], bytes)
 links_at (suc more) bytes =
-    option_and_then (λ link. option_map (λ others. (link ∷ others.0, others.1)) (links_at more (drop (link_size bytes) bytes))) (link_at bytes)
+    option_and_then (λ link. option_map (λ others. (link ∷ others.0, others.1)) (links_at more (drop (link_size bytes) bytes))) (link_in_front bytes)
 
 -- the variant that a byte stands for
 abbrev pub variant_of_byte : ℕ → Option Variant

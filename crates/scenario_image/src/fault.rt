@@ -24,10 +24,10 @@ pub enum LoadFault {
     /// A flow does not go from a sender to a receiver, a link goes into the node that it leaves, or
     /// a route is not a router's, for a sender or receiver, over a link that leaves the router.
     L6,
-    /// Some flow's way, for data or for acknowledgements, comes to a router without a route for the
-    /// way's end, or to a sender or receiver that is not the way's end.
+    /// Some flow's path, for data or for acknowledgements, comes to a router without a route for the
+    /// path's end, or to a sender or receiver that is not the path's end.
     L7,
-    /// Some flow's way comes to a node again.
+    /// Some flow's path comes to a node again.
     L8,
     /// There was no memory.
     NoMemory,

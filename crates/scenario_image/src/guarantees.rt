@@ -1,23 +1,23 @@
 //! What is so of each scenario: laws over the definitions alone, each the contract of a function
 //! that does nothing.
-ghost use Rattle.scenario_image.specs.WayLaws.{WaysArrive, WaysBegin, WaysGoOnOrEnd, EndsHaveOneFlow};
+ghost use Rattle.scenario_image.specs.PathLaws.{PathsArrive, PathsBegin, PathsGoOnOrEnd, EndsHaveOneFlow};
 ghost use Rattle.scenario_image.specs.ImageFault.{ImagesDiffer, SecondImagesAreOne, ImagesHaveNoFault, BytesHaveOneFault};
 
-/// Each way comes to its end after fewer hops than there are nodes, comes only where it may, is at
+/// Each path comes to its end after fewer hops than there are nodes, comes only where it may, is at
 /// no node twice, and goes no further.
-pub fn ways_arrive()
-    ensures { WaysArrive }
+pub fn paths_arrive()
+    ensures { PathsArrive }
 {}
 
-/// Each way begins with the one link that leaves its start.
-pub fn ways_begin()
-    ensures { WaysBegin }
+/// Each path begins with the one link that leaves its start.
+pub fn paths_begin()
+    ensures { PathsBegin }
 {}
 
-/// Where a link of a way ends, the way ends too; or there is a router with a route for the way's
-/// end, over a link that leaves the router and is on the way again.
-pub fn ways_go_on_or_end()
-    ensures { WaysGoOnOrEnd }
+/// Where a link of a path ends, the path ends too; or there is a router with a route for the path's
+/// end, over a link that leaves the router and is on the path again.
+pub fn paths_go_on_or_end()
+    ensures { PathsGoOnOrEnd }
 {}
 
 /// Only one flow names a sender or a receiver.

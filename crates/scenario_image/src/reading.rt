@@ -2,7 +2,7 @@
 ghost use Rattle.std.specs.Prelude.{◌≡◌, ◌≤◌, ◌*◌, ◌+◌, IfOk, length, take, drop, slice_index};
 ghost use Rattle.byteorder.specs.Endian.{big_number};
 ghost use Rattle.scenario_image.specs.Layout.{version_of as version_in, node_count as node_count_of, flow_count as flow_count_of, route_count as route_count_of, link_size as size_of_link, links_size, flow_size as size_of_flow, layout_size};
-ghost use Rattle.scenario_image.specs.Reading.{Gives, each_at, node_of_byte, nodes_at, codel_at, queue_of_byte, link_with, link_at, links_at, variant_of_byte, variant_at as variant_in, flow_with, flow_at, flows_at, route_at, parts_behind, parts_at};
+ghost use Rattle.scenario_image.specs.Reading.{Gives, each_at, node_of_byte, nodes_at, codel_at, queue_of_byte, link_with, link_in_front, links_at, variant_of_byte, variant_at as variant_in, flow_with, flow_at, flows_at, route_at, parts_behind, parts_at};
 
 use crate::fault::LoadFault;
 use crate::layout::{
@@ -100,7 +100,7 @@ fn new_link(bytes: &[u8], queue: QueueKind, lose: Records<u32>) -> LinkPart
 /// The link at the front.
 fn link_of(alloc: Global, bytes: &[u8]) -> Result<LinkPart, LoadFault>
     requires { size_of_link bytes.now ≤ length bytes.now }
-    ensures { Gives (λ link. link) result (link_at bytes.now) }
+    ensures { Gives (λ link. link) result (link_in_front bytes.now) }
 {
     let Some(queue) = queue_of(bytes[20], codel_of(bytes)) else {
         return Err(LoadFault::L3);

@@ -1,7 +1,7 @@
 //! Looking a route up.
 ghost use Rattle.std.specs.Prelude.{◌≡◌};
 ghost use Rattle.scenario_image.specs.Limits.{IsInLimits};
-ghost use Rattle.scenario_image.specs.Ways.{route_link as link_of_route};
+ghost use Rattle.scenario_image.specs.Paths.{route_link as link_of_route};
 ghost use Rattle.scenario_image.specs.RouteLimits.{route_key as key_of_route};
 
 use crate::parts::ScenarioParts;

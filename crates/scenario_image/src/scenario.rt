@@ -8,7 +8,7 @@ use crate::fault::LoadFault;
 use crate::kinds::has_its_kinds;
 use crate::limits::is_in_limits;
 use crate::parts::ScenarioParts;
-use crate::ways::{ways_are_simple, ways_are_unbroken};
+use crate::paths::{paths_are_simple, paths_are_unbroken};
 use std::marker::Model;
 
 /// A scenario that can be simulated. Contracts see its parts.
@@ -41,10 +41,10 @@ fn first_fault(parts: &ScenarioParts) -> Option<LoadFault>
     if !has_its_kinds(parts) {
         return Some(LoadFault::L6);
     }
-    if !ways_are_unbroken(parts) {
+    if !paths_are_unbroken(parts) {
         return Some(LoadFault::L7);
     }
-    if !ways_are_simple(parts) {
+    if !paths_are_simple(parts) {
         return Some(LoadFault::L8);
     }
     None

@@ -9,7 +9,7 @@ use Rattle.command_line.specs.declared.subcommand.Task.TheVariants.{Scenario, De
 use Rattle.sessions.specs.Asked.{IsTaskOnFile, IsOverFile, IsExplanation, IsNamedOn, IsAskedOn}
 use Rattle.sessions.specs.Answered.{IsExplained}
 use Rattle.sessions.specs.Debug.{IsDebugSession, IsDebugSessionOn, IsTaskOn}
-use Rattle.sessions.specs.Ended.{Ended, IsReadFault, reads_after, writes_after}
+use Rattle.sessions.specs.Ended.{SessionEnded, IsReadFault, reads_after, writes_after}
 use Rattle.sessions.specs.Prompt.{IsPromptOn}
 use Rattle.sessions.specs.Streams.{Streams, IsInputOf}
 use Rattle.sessions.proofs.DebugEnds.{unread_input}
@@ -31,7 +31,7 @@ debug_unread groups known fault before after of_input same_bytes same_writes rea
     }
 
 -- the input was read
-pub debug_read : (groups : List ℕ) (known : Option (List ℕ)) (input : List ℕ) (ended : Ended) (before after : Streams) → IsInputOf known input → IsDebugSession groups input ended before.written after.written
+pub debug_read : (groups : List ℕ) (known : Option (List ℕ)) (input : List ℕ) (ended : SessionEnded) (before after : Streams) → IsInputOf known input → IsDebugSession groups input ended before.written after.written
     → ended ≢ Err ReadFailed → after.read_failures ≡ before.read_failures → after.write_failures ≡ writes_after ended before.write_failures → IsDebugSessionOn groups known ended before after
 debug_read groups known input ended before after given session other reads writes =
     record { input = input; given = given; session = session; reads = reads ∙ reads_stay ended before.read_failures other; writes = writes }
@@ -54,7 +54,7 @@ task_never_begun task known before after same =
 
 -- so over a file
 pub file_never_begun : (task : Task) (file : List ℕ) (known : Option (List ℕ)) (before after : Streams) → after ≡ before → IsTaskOnFile task file known (Err NoMemory) before after
-file_never_begun task file known before after same = record { ended = Err NoMemory; is_told = refl; session = task_never_begun task known before after same }
+file_never_begun task file known before after same = record { ended = Err NoMemory; is_reported = refl; session = task_never_begun task known before after same }
 
 -- or at a prompt
 prompt_never_begun : (groups file : List ℕ) (known : Option (List ℕ)) (before after : Streams) → after ≡ before → IsPromptOn groups file known (Err NoMemory) before after

@@ -2,7 +2,7 @@
 use Rattle.std.proofs.Common.{◌≡◌, ◌∙◌, ℕ, zero, suc, ◌+◌, ◌-◌, ◌≤◌, List, [], ◌∷◌, ◌++◌, arith, None, Some, refl, sym, subst, ap}
 use Rattle.std.specs.Option.{option_map, option_and_then}
 use Rattle.node_core.specs.TraceLine.{TraceLine}
-use Rattle.table_run.specs.State.{State, run, step, one_more}
+use Rattle.table_run.specs.State.{State, run, step, one_step_more}
 use Rattle.sessions.specs.Trace.{IsTooLong}
 use Rattle.sessions.proofs.Lines.{due_steps}
 use Rattle.command_line.proofs.Options.{some_none, same_some}
@@ -12,7 +12,7 @@ none_after : (s : State) (n : ℕ) → run s n ≡ None → (k : ℕ) → run s 
 none_after s n none zero = let same : n ≡ 0 + n = omega arith in subst (λ m. run s m ≡ None) same none
 none_after s n none (suc k) =
     let same : suc (k + n) ≡ suc k + n = omega arith in
-    let more : run s (suc (k + n)) ≡ None = ap (option_and_then one_more) (none_after s n none k) in
+    let more : run s (suc (k + n)) ≡ None = ap (option_and_then one_step_more) (none_after s n none k) in
     subst (λ m. run s m ≡ None) same more
 
 -- a run that has ended has no event due later
@@ -20,7 +20,7 @@ no_more : (s : State) (n m : ℕ) (lines lines' : List TraceLine) (last last' : 
 no_more s n m lines lines' last last' few is final later = go (m - n) refl
   where
     next : run s (suc n) ≡ None
-    next = ap (option_and_then one_more) is ∙ ap (option_map (λ (next : TraceLine × State). (lines ++ next.0 ∷ [], next.1))) final
+    next = ap (option_and_then one_step_more) is ∙ ap (option_map (λ (next : TraceLine × State). (lines ++ next.0 ∷ [], next.1))) final
 
     go : (k : ℕ) → m - n ≡ k → step last' ≡ None
     go zero e =

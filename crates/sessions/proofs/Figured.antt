@@ -2,7 +2,7 @@
 use Rattle.std.proofs.Common.{◌≡◌, ◌≤◌, ℕ, min, List, [], Option, None, Some, Result, Ok, Err, IfOk, refl, ap, subst, arith}
 use Rattle.std.specs.Option.{option_map}
 use Rattle.scenario_image.specs.declared.parts.ScenarioParts.{ScenarioParts}
-use Rattle.table_run.specs.State.{State, due, opening, run, step_at}
+use Rattle.table_run.specs.State.{State, due, initial, run, step_at}
 use Rattle.table_run.proofs.Runs.{run_end}
 use Rattle.net_machine.specs.Run.{Reached}
 use Rattle.net_watch.specs.RunsBefore.{IsHeldAt}
@@ -19,7 +19,7 @@ use Rattle.sessions.specs.Written.{Writes}
 
 -- a scenario's run goes on to the scenario's end
 pub end_of_run : (p : ScenarioParts) (r : Reached) → HasCome p r → r.state.end ≡ p.end
-end_of_run p r come = run_end r.position (opening p) r.state come.lines come.comes
+end_of_run p r come = run_end r.position (initial p) r.state come.lines come.comes
 
 -- what is due at or past a moment is so past the lesser of that and the run's end
 pub none_before : (since moment end : ℕ) (s : State) → since ≡ min moment end → IsHeldAt moment s → NoneBefore since s
@@ -43,7 +43,7 @@ where_ok (Err e) a = tt
 -- where counting was stopped there is no table
 pub count_refused : (p : ScenarioParts) (r : Reached) (fault : SessionFault) → HasCome p r → IsCountFault r fault → IsRunFault p fault
 count_refused p r NoMemory come stops = tt
-count_refused p r CountFull come stops = record { lines = come.lines; last = r.state; is_run = subst (λ n. run (opening p) n ≡ Some (come.lines, r.state)) stops.1 come.comes; one_due = stops.0 }
+count_refused p r CountFull come stops = record { lines = come.lines; last = r.state; is_run = subst (λ n. run (initial p) n ≡ Some (come.lines, r.state)) stops.1 come.comes; one_due = stops.0 }
 count_refused p r _ come stops = absurd stops
 
 -- what is counted from where a run stands at a moment is counted from that moment on

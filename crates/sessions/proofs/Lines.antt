@@ -9,7 +9,7 @@ use Rattle.sim_time.specs.declared.key.Key.{Key}
 use Rattle.node_core.specs.declared.event.Event.{Event}
 use Rattle.net_machine.specs.declared.net.StepFault.{StepFault}
 use Rattle.net_machine.specs.declared.net.StepFault.TheVariants.{NoMemory as step_NoMemory, CountFull as step_CountFull}
-use Rattle.table_run.specs.State.{State, due, run, step, step_at, one_more}
+use Rattle.table_run.specs.State.{State, due, run, step, step_at, one_step_more}
 use Rattle.net_machine.specs.Run.{Reached, Stepped}
 use Rattle.net_watch.specs.declared.run_end.RunEnd.{RunEnd}
 use Rattle.net_watch.specs.declared.run_end.RunEnd.TheVariants.{Done}
@@ -22,7 +22,7 @@ use Rattle.sessions.specs.Trace.{lines_bytes, IsTrace, IsTraceStart, IsTooLong, 
 use Rattle.sessions.specs.declared.fault.SessionFault.{SessionFault}
 use Rattle.sessions.specs.declared.fault.SessionFault.TheVariants.{WriteFailed, NoMemory, CountFull, NoWorker}
 use Rattle.sessions.specs.Faults.{of_step}
-use Rattle.sessions.specs.Ended.{Ended, IsRunOutput, writes_after}
+use Rattle.sessions.specs.Ended.{SessionEnded, IsRunOutput, writes_after}
 use Rattle.sessions.specs.Written.{Writes, WritesBefore, IsBeginningOf}
 use Rattle.sessions.specs.Traced.{IsAt, Made, HasEnded, IsPut}
 use Rattle.command_line.proofs.Options.{some_none}
@@ -44,7 +44,7 @@ lines_bytes-more xs x n h =
 -- the run, one event on
 run-suc : (s t u : State) (n : ℕ) (lines : List TraceLine) (x : TraceLine) → run s n ≡ Some (lines, t) → step t ≡ Some (x, u) → run s (suc n) ≡ Some (lines ++ x ∷ [], u)
 run-suc s t u n lines x h k =
-    ap (option_and_then one_more) h ∙ ap (option_map (λ (next : TraceLine × State). (lines ++ next.0 ∷ [], next.1))) k
+    ap (option_and_then one_step_more) h ∙ ap (option_map (λ (next : TraceLine × State). (lines ++ next.0 ∷ [], next.1))) k
 
 -- the net made a step, and its line was added
 pub at_next : (s : State) (old new : Reached) (made : List ℕ) (x : TraceLine) → IsAt s old made → Stepped old (Some x) new → IsAt s new (made ++ line_bytes new.position x)
@@ -121,9 +121,9 @@ pub written : (P : List ℕ → Type 0) (page : List ℕ) (a b c : Option (List 
 written P page a b c made h = (made.0 ++ page, appends_more a b c made.0 page made.1 h, made.2)
 
 -- memory was refused before the first event
-pub nothing_made : (s : State) (ended : Ended) (known : Option (List ℕ)) → ended ≡ Err NoMemory → Writes (IsRunOutput s ended) known known
+pub nothing_made : (s : State) (ended : SessionEnded) (known : Option (List ℕ)) → ended ≡ Err NoMemory → Writes (IsRunOutput s ended) known known
 nothing_made s ended known is =
-    let P : Ended → Type 0 = λ e. Writes (IsRunOutput s e) known known in
+    let P : SessionEnded → Type 0 = λ e. Writes (IsRunOutput s e) known known in
     subst P (sym is) ([], appends_nothing known, record { n = 0; lines = []; last = s; is_run = refl; bytes_are = refl })
 
 -- the line could not be added
@@ -131,7 +131,7 @@ pub line_written : (s : State) (net : Reached) (page : List ℕ) (a b c : Option
 line_written s net page a b c made part = begun (IsAt s net) (IsTraceOrStart s) page a b c (λ l at. inr (start_of s net l at)) made part
 
 -- but for a writer that failed, a run has written a trace or its first lines
-trace_or_start : (r : Ended) (s : State) (out : List ℕ) → r ≢ Err WriteFailed → IsRunOutput s r out → IsTraceOrStart s out
+trace_or_start : (r : SessionEnded) (s : State) (out : List ℕ) → r ≢ Err WriteFailed → IsRunOutput s r out → IsTraceOrStart s out
 trace_or_start (Ok u) s out other made = inl made
 trace_or_start (Err NoMemory) s out other made = inr made
 trace_or_start (Err NoWorker) s out other made = inr made
@@ -140,17 +140,17 @@ trace_or_start (Err WriteFailed) s out other made = absurd (other refl)
 trace_or_start _ s out other made = absurd made
 
 -- the run ended, and the writer failed at the page
-pub page_failed : (r : Ended) (s : State) (page : List ℕ) (a b c : Option (List ℕ)) → r ≢ Err WriteFailed → WritesBefore page (IsRunOutput s r) a b → Writes (IsBeginningOf (λ all. all ≡ page)) b c
+pub page_failed : (r : SessionEnded) (s : State) (page : List ℕ) (a b c : Option (List ℕ)) → r ≢ Err WriteFailed → WritesBefore page (IsRunOutput s r) a b → Writes (IsBeginningOf (λ all. all ≡ page)) b c
     → Writes (IsBeginningOf (IsTraceOrStart s)) a c
 page_failed r s page a b c other made part = begun (IsRunOutput s r) (IsTraceOrStart s) page a b c (λ l. trace_or_start r s l other) made part
 
-ok_not_failed : ◌≡◌ {A = Ended} (Ok tt) (Err WriteFailed) → ⊥
+ok_not_failed : ◌≡◌ {A = SessionEnded} (Ok tt) (Err WriteFailed) → ⊥
 ok_not_failed e = cc
 
-pub memory_not_failed : ◌≡◌ {A = Ended} (Err NoMemory) (Err WriteFailed) → ⊥
+pub memory_not_failed : ◌≡◌ {A = SessionEnded} (Err NoMemory) (Err WriteFailed) → ⊥
 memory_not_failed e = cc
 
-step_not_failed : (fault : StepFault) → ◌≡◌ {A = Ended} (Err (of_step fault)) (Err WriteFailed) → ⊥
+step_not_failed : (fault : StepFault) → ◌≡◌ {A = SessionEnded} (Err (of_step fault)) (Err WriteFailed) → ⊥
 step_not_failed step_NoMemory e = cc
 step_not_failed step_CountFull e = cc
 
@@ -180,8 +180,8 @@ module _ (s : State) (from net : Reached) (page : List ℕ) (a b : Option (List 
       record { made = λ _. made_so_far s net page page' a b so.0 e; failed_then = λ failed. absurd (memory_not_failed failed); failures_are = so.1 }
 
   -- no event was run
-  pub no_step : (fault : StepFault) (told : SessionFault) → end ≡ Err fault → told ≡ of_step fault → HasEnded s page a b f g (Err told)
-  no_step fault told is same =
+  pub no_step : (fault : StepFault) (reported : SessionFault) → end ≡ Err fault → reported ≡ of_step fault → HasEnded s page a b f g (Err reported)
+  no_step fault reported is same =
       let so = all_put (ap goes_on is) in
       subst (λ (e : SessionFault). HasEnded s page a b f g (Err e)) (sym same)
       (record {

@@ -7,8 +7,8 @@ use Rattle.command_line.specs.declared.subcommand.Task.{Task}
 use Rattle.command_line.specs.declared.subcommand.Task.TheVariants.{Scenario, Debug}
 use Rattle.sessions.specs.Asked.{IsTaskOnFile, IsOverFile, IsNamedOn}
 use Rattle.sessions.specs.Debug.{IsTaskOn}
-use Rattle.sessions.specs.Ended.{Ended, IsToldOf, reads_after}
-use Rattle.sessions.specs.Named.{IsInputFault, IsOver, input_reads_after, known_of, named_file}
+use Rattle.sessions.specs.Ended.{SessionEnded, IsReportedOf, reads_after}
+use Rattle.sessions.specs.Named.{IsInputFault, IsTaskOver, input_reads_after, known_of, named_file}
 use Rattle.sessions.specs.Prompt.{IsFileFault, IsPromptOn, line_reads_after}
 use Rattle.sessions.specs.Rest.{IsTaskWith}
 use Rattle.sessions.specs.Streams.{Streams, IsInputOf}
@@ -17,21 +17,21 @@ use Rattle.sessions.proofs.PromptEnds.{file_ending, file_over, file_reads, file_
 use Rattle.sessions.proofs.Reading.{read, unread}
 
 -- a session that read all is told as it ended
-told_same : (file : List ℕ) (ended : Ended) → ended ≢ Err ReadFailed → IsToldOf file ended ended
-told_same file (Err ReadFailed) other = absurd (other refl)
-told_same file (Ok done) other = refl
-told_same file (Err _) other = refl
+reported_same : (file : List ℕ) (ended : SessionEnded) → ended ≢ Err ReadFailed → IsReportedOf file ended ended
+reported_same file (Err ReadFailed) other = absurd (other refl)
+reported_same file (Ok done) other = refl
+reported_same file (Err _) other = refl
 
 -- a file was not read, of which something was to be made
 file_unread : (subcommand : Subcommand) (file : List ℕ) (known : Option (List ℕ)) (fault : SessionFault) (before after : Streams) → (input : List ℕ) × IsInputOf known input × IsFileFault file input fault
     → after.written ≡ before.written → after.write_failures ≡ before.write_failures → after.read_failures ≡ line_reads_after {T = Unit {0}} (Err fault) before.read_failures
     → IsTaskOnFile (Scenario subcommand) file known (Err fault) before after
 file_unread subcommand file known TooLong before after of_input written writes reads =
-    record { ended = Err TooLong; is_told = refl; session = unread subcommand known TooLong before after (of_input.0, of_input.1, of_input.2) written writes reads }
+    record { ended = Err TooLong; is_reported = refl; session = unread subcommand known TooLong before after (of_input.0, of_input.1, of_input.2) written writes reads }
 file_unread subcommand file known NoMemory before after of_input written writes reads =
-    record { ended = Err NoMemory; is_told = refl; session = unread subcommand known NoMemory before after (of_input.0, of_input.1, tt) written writes reads }
+    record { ended = Err NoMemory; is_reported = refl; session = unread subcommand known NoMemory before after (of_input.0, of_input.1, tt) written writes reads }
 file_unread subcommand file known (CannotRead name) before after of_input written writes reads =
-    record { ended = Err ReadFailed; is_told = of_input.2; session = unread subcommand known ReadFailed before after (of_input.0, of_input.1, tt) written writes reads }
+    record { ended = Err ReadFailed; is_reported = of_input.2; session = unread subcommand known ReadFailed before after (of_input.0, of_input.1, tt) written writes reads }
 file_unread subcommand file known _ before after of_input written writes reads = absurd of_input.2
 
 -- so a file over which commands were to be typed
@@ -49,17 +49,17 @@ prompt_unread groups file known fault before after of_input typed written writes
 -- the input was not read
 pub over_unread : (task : Task) (file known : Option (List ℕ)) (bytes_of : List ℕ → Option (List ℕ)) (fault : SessionFault) (before after : Streams)
     → (input : List ℕ) × IsInputOf (known_of file known bytes_of) input × IsInputFault file input fault → after.typed ≡ before.typed → after.written ≡ before.written → after.write_failures ≡ before.write_failures
-    → after.read_failures ≡ input_reads_after {T = Unit {0}} file (Err fault) before.read_failures → IsOver task file known bytes_of (Err fault) before after
+    → after.read_failures ≡ input_reads_after {T = Unit {0}} file (Err fault) before.read_failures → IsTaskOver task file known bytes_of (Err fault) before after
 over_unread task None known bytes_of fault before after of_input typed written writes reads = task_unread task known fault before after of_input written writes reads
 over_unread (Scenario subcommand) (Some file) known bytes_of fault before after of_input typed written writes reads = file_unread subcommand file (bytes_of file) fault before after of_input written writes reads
 over_unread (Debug sharing) (Some file) known bytes_of fault before after of_input typed written writes reads = prompt_unread sharing.groups file (bytes_of file) fault before after of_input typed written writes reads
 
 -- the input was read
-pub over_read : (task : Task) (file known : Option (List ℕ)) (bytes_of : List ℕ → Option (List ℕ)) (input : List ℕ) (ended : Ended) (before after : Streams) → IsInputOf (known_of file known bytes_of) input
-    → IsTaskWith task file input before ended after → IsOver task file known bytes_of ended before after
+pub over_read : (task : Task) (file known : Option (List ℕ)) (bytes_of : List ℕ → Option (List ℕ)) (input : List ℕ) (ended : SessionEnded) (before after : Streams) → IsInputOf (known_of file known bytes_of) input
+    → IsTaskWith task file input before ended after → IsTaskOver task file known bytes_of ended before after
 over_read (Scenario subcommand) None known bytes_of input ended before after given done = read subcommand known input ended before after given done.session done.no_read done.reads done.writes
 over_read (Scenario subcommand) (Some file) known bytes_of input ended before after given done =
-    record { ended = ended; is_told = told_same file ended done.no_read; session = read subcommand (bytes_of file) input ended before after given done.session done.no_read done.reads done.writes }
+    record { ended = ended; is_reported = reported_same file ended done.no_read; session = read subcommand (bytes_of file) input ended before after given done.session done.no_read done.reads done.writes }
 over_read (Debug sharing) None known bytes_of input ended before after given done = debug_read sharing.groups known input ended before after given done.session done.no_read done.reads done.writes
 over_read (Debug sharing) (Some file) known bytes_of input ended before after given done =
     record {
@@ -99,12 +99,12 @@ pub of_ok : {T : Type 0} (P : T → Type 0) (result : Result T SessionFault) (va
 of_ok {T} P result value is says = subst (λ (r : Result T SessionFault). IfOk r P) is says
 
 -- the session over the file that a word names is that of what the word names
-pub named : (task : Task) (word known : Option (List ℕ)) (bytes_of : List ℕ → Option (List ℕ)) (ended : Ended) (before after : Streams) → IsOver task (named_file word) known bytes_of ended before after
+pub named : (task : Task) (word known : Option (List ℕ)) (bytes_of : List ℕ → Option (List ℕ)) (ended : SessionEnded) (before after : Streams) → IsTaskOver task (named_file word) known bytes_of ended before after
     → IsNamedOn task word known bytes_of ended before after
 named task None known bytes_of ended before after over = over
 named task (Some word) known bytes_of ended before after over = go (bytes_eq word (codes "-")) over
   where
-    go : (dash : Bool) → IsOver task (if dash then None else Some word) known bytes_of ended before after
+    go : (dash : Bool) → IsTaskOver task (if dash then None else Some word) known bytes_of ended before after
         → MatchBool dash (IsTaskOn task known ended before after) (IsOverFile task word (bytes_of word) ended before after)
     go true over = over
     go false over = over

@@ -1,8 +1,8 @@
 -- How a session at a prompt ends, over a scenario, an input and a file.
 use Rattle.std.proofs.Common.{◌≡◌, ◌∙◌, ◌⊎◌, inl, inr, ℕ, Bool, true, false, MatchBool, List, [], Option, None, Result, Ok, Err, IfOk, IfErr, refl, sym, ap, subst}
 use Rattle.scenario_image.specs.declared.parts.ScenarioParts.{ScenarioParts}
-use Rattle.table_run.specs.State.{opening}
-use Rattle.debugger.specs.Debugging.{Debugging, opened}
+use Rattle.table_run.specs.State.{initial}
+use Rattle.debugger.specs.Debugging.{Debugging, debugging_opened}
 use Rattle.debug_session.specs.declared.command.Limits.{Limits}
 use Rattle.debug_session.specs.declared.dialogue.Dialogue.{Dialogue}
 use Rattle.debug_session.specs.declared.memo.Memo.{Memo}
@@ -12,8 +12,8 @@ use Rattle.debug_session.specs.Sessions.{limits_of}
 use Rattle.debug_session.specs.Prompt.{Typing, Typed, at_prompt, unmoved}
 use Rattle.sessions.specs.declared.fault.SessionFault.{SessionFault}
 use Rattle.sessions.specs.declared.fault.SessionFault.TheVariants.{TooLong, Refused, RefusedImage, Groups, ReadFailed, CannotRead, WriteFailed, NoMemory}
-use Rattle.sessions.specs.Ended.{Ended, reads_after, writes_after}
-use Rattle.sessions.specs.Input.{HasScenario, HasFault, Reads, is_image}
+use Rattle.sessions.specs.Ended.{SessionEnded, reads_after, writes_after}
+use Rattle.sessions.specs.Input.{InputHasScenario, InputHasFault, Reads, is_image}
 use Rattle.sessions.specs.Nodes.{HasGroups, LacksGroups}
 use Rattle.sessions.specs.Prompt.{IsFileFault, IsOverScenario, IsPromptEnding, IsPromptOver, IsTypedSession, IsUnbegun, line_reads_after}
 use Rattle.sessions.specs.Session.{IsWithin}
@@ -24,22 +24,22 @@ pub unbegun : (streams : Streams) → IsUnbegun streams streams
 unbegun streams = record { untyped = none_typed streams.typed; unwritten = refl }
 
 -- lines were typed over a scenario
-pub over_scenario : (p : ScenarioParts) (ended : Ended) (before after : Streams) → IsTypedSession (limits_of p) (opening p) (unmoved (standing (opened (opening p)))) ended before after → IsOverScenario p ended before after
+pub over_scenario : (p : ScenarioParts) (ended : SessionEnded) (before after : Streams) → IsTypedSession (limits_of p) (initial p) (unmoved (standing (debugging_opened (initial p)))) ended before after → IsOverScenario p ended before after
 over_scenario p (Err NoMemory) before after session = absurd session.ending
 over_scenario p _ before after session = session
 
-pub typed_over : (p : ScenarioParts) (d : Dialogue) (limits : Limits) (ended : Ended) (before after : Streams) → d.debugger ≡ opened (opening p) → d.memo ≡ no_memo → limits ≡ limits_of p
+pub typed_over : (p : ScenarioParts) (d : Dialogue) (limits : Limits) (ended : SessionEnded) (before after : Streams) → d.debugger ≡ debugging_opened (initial p) → d.memo ≡ no_memo → limits ≡ limits_of p
     → IsTypedSession limits d.debugger.start (at_prompt d) ended before after → IsOverScenario p ended before after
 typed_over p d limits ended before after is none bounds session =
     let bounded = subst (λ (l : Limits). IsTypedSession l d.debugger.start (at_prompt d) ended before after) bounds session in
     let unasked = subst (λ (m : Memo). IsTypedSession (limits_of p) d.debugger.start (record { standing = standing d.debugger; memo = m }) ended before after) none bounded in
     over_scenario p ended before after (subst (λ (e : Debugging). IsTypedSession (limits_of p) e.start (unmoved (standing e)) ended before after) is unasked)
 
-pub no_memory_over : (p : ScenarioParts) (ended : Ended) (streams : Streams) → ended ≡ Err NoMemory → IsOverScenario p ended streams streams
-no_memory_over p ended streams is = subst (λ (e : Ended). IsOverScenario p e streams streams) (sym is) (unbegun streams)
+pub no_memory_over : (p : ScenarioParts) (ended : SessionEnded) (streams : Streams) → ended ≡ Err NoMemory → IsOverScenario p ended streams streams
+no_memory_over p ended streams is = subst (λ (e : SessionEnded). IsOverScenario p e streams streams) (sym is) (unbegun streams)
 
 -- the input has a scenario, over which a session ended so
-pub input_over : (groups input : List ℕ) (p : ScenarioParts) (ended : Ended) (before after : Streams) → IsWithin input → HasScenario input p → HasGroups groups p → IsOverScenario p ended before after
+pub input_over : (groups input : List ℕ) (p : ScenarioParts) (ended : SessionEnded) (before after : Streams) → IsWithin input → InputHasScenario input p → HasGroups groups p → IsOverScenario p ended before after
     → IsPromptOver groups input ended before after
 input_over groups input p (Err NoMemory) before after within means has over = over
 input_over groups input p (Err (Refused line fault)) before after within means has over = absurd over.ending
@@ -61,27 +61,27 @@ pub record IsRefused (groups input : List ℕ) (fault : SessionFault) (streams :
 short_refused : (groups input : List ℕ) (streams : Streams) → IsRefused groups input NoMemory streams
 short_refused groups input streams = record { over = unbegun streams; reads = λ n. refl; writes = λ n. refl }
 
-fault_refused : (groups input : List ℕ) (fault : SessionFault) (streams : Streams) → IsWithin input → HasFault input fault → IsRefused groups input fault streams
+fault_refused : (groups input : List ℕ) (fault : SessionFault) (streams : Streams) → IsWithin input → InputHasFault input fault → IsRefused groups input fault streams
 fault_refused groups input (Refused line fault) streams within has = record { over = (within, has, unbegun streams); reads = λ n. refl; writes = λ n. refl }
 fault_refused groups input (RefusedImage fault) streams within has = record { over = (within, has, unbegun streams); reads = λ n. refl; writes = λ n. refl }
 fault_refused groups input _ streams within has = absurd (no_fault (is_image input) has)
 
-pub input_refused : (groups input : List ℕ) (fault : SessionFault) (read : Result ScenarioParts SessionFault) (streams : Streams) → IsWithin input → read ≡ Err fault → Reads (HasScenario input) (HasFault input) read
+pub input_refused : (groups input : List ℕ) (fault : SessionFault) (read : Result ScenarioParts SessionFault) (streams : Streams) → IsWithin input → read ≡ Err fault → Reads (InputHasScenario input) (InputHasFault input) read
     → IsRefused groups input fault streams
 input_refused groups input fault read streams within is says =
-    elim (subst (λ r. IfErr r (λ f. (f ≡ NoMemory) ⊎ HasFault input f)) is says.fault) [
+    elim (subst (λ r. IfErr r (λ f. (f ≡ NoMemory) ⊎ InputHasFault input f)) is says.fault) [
       | inl short ↦ subst (λ f. IsRefused groups input f streams) (sym short) (short_refused groups input streams)
       | inr has ↦ fault_refused groups input fault streams within has
     ]
 
 -- or the text names no groups for its nodes
-pub groups_refused : (groups input : List ℕ) (p : ScenarioParts) (fault : SessionFault) (streams : Streams) → IsWithin input → HasScenario input p → LacksGroups groups p fault → IsRefused groups input fault streams
+pub groups_refused : (groups input : List ℕ) (p : ScenarioParts) (fault : SessionFault) (streams : Streams) → IsWithin input → InputHasScenario input p → LacksGroups groups p fault → IsRefused groups input fault streams
 groups_refused groups input p NoMemory streams within means lacks = short_refused groups input streams
 groups_refused groups input p Groups streams within means lacks = record { over = ((within, (p, means, lacks)), unbegun streams); reads = λ n. refl; writes = λ n. refl }
 groups_refused groups input p _ streams within means lacks = absurd lacks
 
-pub scenario_of : (input : List ℕ) (read : Result ScenarioParts SessionFault) (p : ScenarioParts) → read ≡ Ok p → Reads (HasScenario input) (HasFault input) read → HasScenario input p
-scenario_of input read p is says = subst (λ r. IfOk r (HasScenario input)) is says.scenario
+pub scenario_of : (input : List ℕ) (read : Result ScenarioParts SessionFault) (p : ScenarioParts) → read ≡ Ok p → Reads (InputHasScenario input) (InputHasFault input) read → InputHasScenario input p
+scenario_of input read p is says = subst (λ r. IfOk r (InputHasScenario input)) is says.scenario
 
 -- the file was not read
 pub file_ending : (groups file input : List ℕ) (fault : SessionFault) (before after : Streams) → IsFileFault file input fault → IsUnbegun before after → IsPromptEnding groups file input (Err fault) before after
@@ -103,12 +103,12 @@ file_writes file input WriteFailed n faulty = absurd faulty
 file_writes file input _ n faulty = refl
 
 -- the file was read
-pub file_over : (groups file input : List ℕ) (ended : Ended) (before after : Streams) → IsPromptOver groups input ended before after → IsPromptEnding groups file input ended before after
+pub file_over : (groups file input : List ℕ) (ended : SessionEnded) (before after : Streams) → IsPromptOver groups input ended before after → IsPromptEnding groups file input ended before after
 file_over groups file input (Err TooLong) before after over = absurd over.1.3.ending
 file_over groups file input (Err (CannotRead name)) before after over = absurd over.1.3.ending
 file_over groups file input _ before after over = over
 
-pub over_reads : (groups input : List ℕ) (ended : Ended) (before after : Streams) (n : ℕ) → IsPromptOver groups input ended before after → reads_after ended n ≡ line_reads_after ended n
+pub over_reads : (groups input : List ℕ) (ended : SessionEnded) (before after : Streams) (n : ℕ) → IsPromptOver groups input ended before after → reads_after ended n ≡ line_reads_after ended n
 over_reads groups input (Err ReadFailed) before after n over = refl
 over_reads groups input (Err (CannotRead name)) before after n over = absurd over.1.3.ending
 over_reads groups input _ before after n over = refl

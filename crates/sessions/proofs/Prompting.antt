@@ -9,7 +9,7 @@ use Rattle.table_run.specs.State.{State}
 use Rattle.debug_session.specs.declared.command.Limits.{Limits}
 use Rattle.debug_session.specs.declared.refusal.Refusal.TheVariants.{B2}
 use Rattle.debug_session.specs.Answers.{refusal_line}
-use Rattle.debug_session.specs.Prompt.{Ask, AnswersTyped, AtPrompt, Rests, Typing, Typed, TypedAnswers, TypedRan, AreInTime, IsSoFar, IsTypedOut, is_long, is_quit, lines_in, none_quits, put_out, quits}
+use Rattle.debug_session.specs.Prompt.{Ask, AnswersTyped, AtPrompt, Rests, Typing, Typed, TypedAnswers, TypedRan, AreInTime, IsSoFar, IsTypedOut, is_long, is_quit, lines_in, none_quits, answer_out, quits}
 use Rattle.debug_session.specs.Input.{words_in}
 use Rattle.debug_session.specs.Taking.{Takes}
 use Rattle.sessions.specs.declared.fault.SessionFault.{SessionFault}
@@ -81,11 +81,11 @@ file_hindered {T} (Err other) known file is =
 
 -- one line more is answered
 ran_more : (limits : Limits) (start : State) (lines : List (List ℕ)) (line : List ℕ) (old between new : AtPrompt) (made said : List ℕ)
-    → TypedRan limits start lines old between made → TypedAnswers limits start line between new said → TypedRan limits start (lines ++ line ∷ []) old new (made ++ put_out said)
+    → TypedRan limits start lines old between made → TypedAnswers limits start line between new said → TypedRan limits start (lines ++ line ∷ []) old new (made ++ answer_out said)
 ran_more limits start [] line old between new made said ran one =
-    (new, said, [], subst (λ (at : AtPrompt). TypedAnswers limits start line at new said) ran.same one, record { same = refl; told = refl }, ap (λ l. l ++ put_out said) ran.told ∙ sym (append-nil (put_out said)))
+    (new, said, [], subst (λ (at : AtPrompt). TypedAnswers limits start line at new said) ran.same one, record { same = refl; reported = refl }, ap (λ l. l ++ answer_out said) ran.reported ∙ sym (append-nil (answer_out said)))
 ran_more limits start (l ∷ lines) line old between new made said ran one =
-    (ran.0, ran.1, ran.2 ++ put_out said, ran.3, ran_more limits start lines line ran.0 between new ran.2 said ran.4 one, ap (λ x. x ++ put_out said) ran.5 ∙ append_assoc (put_out ran.1) ran.2 (put_out said))
+    (ran.0, ran.1, ran.2 ++ answer_out said, ran.3, ran_more limits start lines line ran.0 between new ran.2 said ran.4 one, ap (λ x. x ++ answer_out said) ran.5 ∙ append_assoc (answer_out ran.1) ran.2 (answer_out said))
 
 -- one ask more
 lines_more : (asks : List Ask) (ask : Ask) → lines_in (asks ++ ask ∷ []) ≡ lines_in asks ++ ask.line ∷ []
@@ -130,7 +130,7 @@ pub record SoFar (limits : Limits) (start : State) (old now : AtPrompt) (before 
   pub none : none_quits (lines_in asks) ≡ true
 
 pub none_yet : (limits : Limits) (start : State) (at : AtPrompt) (streams : Streams) → SoFar limits start at at streams streams
-none_yet limits start at streams = record { asks = []; typed = none_typed streams.typed; in_time = tt; answered = ([], Appends-nil streams.written, record { same = refl; told = refl }); none = refl }
+none_yet limits start at streams = record { asks = []; typed = none_typed streams.typed; in_time = tt; answered = ([], Appends-nil streams.written, record { same = refl; reported = refl }); none = refl }
 
 module _ (limits : Limits) (start : State) (old was : AtPrompt) (first before : Streams) (so_far : SoFar limits start old was first before) where
   answers_so_far : IsSoFar limits start old (lines_in so_far.asks) first.written before.written
@@ -150,9 +150,9 @@ module _ (limits : Limits) (start : State) (old was : AtPrompt) (first before : 
         typed = typed_more first.typed before.typed after.typed so_far.asks ask so_far.typed turn.asked.typed;
         in_time = asked_in_time ask turn.asked.seen;
         answered = (
-          made ++ put_out turn.said,
-          Appends-trans first.written before.written after.written made (put_out turn.said) so_far.answered.1 turn.put,
-          subst (λ (ls : List (List ℕ)). TypedRan limits start ls old now (made ++ put_out turn.said)) (sym (lines_more so_far.asks ask))
+          made ++ answer_out turn.said,
+          Appends-trans first.written before.written after.written made (answer_out turn.said) so_far.answered.1 turn.put,
+          subst (λ (ls : List (List ℕ)). TypedRan limits start ls old now (made ++ answer_out turn.said)) (sym (lines_more so_far.asks ask))
               (ran_more limits start (lines_in so_far.asks) ask.line old was now made turn.said so_far.answered.2 turn.answers),
         );
         none = none_more so_far.asks ask so_far.none turn.goes_on;
@@ -180,7 +180,7 @@ module _ (limits : Limits) (start : State) (old was : AtPrompt) (first before : 
         where
           go : (long : Bool) → is_long line ≡ long → MatchBool long (Rests was was [] (refusal_line B2)) (MatchBool (is_quit line) (Rests was was [] []) (AnswersTyped limits start line was was []))
           go true is = absurd (false≢true (sym (long_goes_on line is) ∙ quits))
-          go false is = subst (λ (t : Bool). MatchBool t (Rests was was [] []) (AnswersTyped limits start line was was [])) (sym quits) (record { same = refl; told = refl })
+          go false is = subst (λ (t : Bool). MatchBool t (Rests was was [] []) (AnswersTyped limits start line was was [])) (sym quits) (record { same = refl; reported = refl })
 
   -- no line was typed
   unanswered : (now : AtPrompt) (after : Streams) → IsSilent was now before after → IsSoFar limits start old (lines_in so_far.asks) first.written after.written
@@ -210,8 +210,8 @@ module _ (limits : Limits) (start : State) (old was : AtPrompt) (first before : 
       let made = so_far.answered.0 in
       let put = turn.put.0 in
       let rest = turn.put.2.0 in
-      let ran : TypedRan limits start (lines_in so_far.asks ++ ask.line ∷ []) old now (made ++ put_out turn.said) = ran_more limits start (lines_in so_far.asks) ask.line old was now made turn.said so_far.answered.2 turn.answers in
-      let all : made ++ put_out turn.said ≡ (made ++ put) ++ rest = ap (λ l. made ++ l) (sym turn.put.2.1) ∙ sym (append_assoc made put rest) in
+      let ran : TypedRan limits start (lines_in so_far.asks ++ ask.line ∷ []) old now (made ++ answer_out turn.said) = ran_more limits start (lines_in so_far.asks) ask.line old was now made turn.said so_far.answered.2 turn.answers in
+      let all : made ++ answer_out turn.said ≡ (made ++ put) ++ rest = ap (λ l. made ++ l) (sym turn.put.2.1) ∙ sym (append_assoc made put rest) in
       record {
         asks = so_far.asks ++ ask ∷ [];
         typed = typed_more first.typed before.typed after.typed so_far.asks ask so_far.typed turn.asked.typed;

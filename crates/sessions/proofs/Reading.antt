@@ -4,7 +4,7 @@ use Rattle.std.proofs.lemmas.List.{append-nil}
 use Rattle.std.specs.Io.KnownBytes.{Consumes, IsAtEnd}
 use Rattle.sessions.specs.declared.fault.SessionFault.{SessionFault}
 use Rattle.sessions.specs.declared.fault.SessionFault.TheVariants.{TooLong, ReadFailed, WriteFailed}
-use Rattle.sessions.specs.Ended.{Ended, IsReadFault, reads_after, writes_after}
+use Rattle.sessions.specs.Ended.{SessionEnded, IsReadFault, reads_after, writes_after}
 use Rattle.sessions.specs.Streams.{Streams, IsInputOf}
 use Rattle.command_line.specs.declared.subcommand.Subcommand.{Subcommand}
 use Rattle.sessions.specs.Session.{IsSession, IsSessionOn}
@@ -73,7 +73,7 @@ unread subcommand known fault before after of_input same_bytes same_writes reads
     }
 
 -- the input was read
-pub read : (subcommand : Subcommand) (known : Option (List ℕ)) (input : List ℕ) (ended : Ended) (before after : Streams) → IsInputOf known input → IsSession subcommand input ended before.written after.written
+pub read : (subcommand : Subcommand) (known : Option (List ℕ)) (input : List ℕ) (ended : SessionEnded) (before after : Streams) → IsInputOf known input → IsSession subcommand input ended before.written after.written
     → ended ≢ Err ReadFailed → after.read_failures ≡ before.read_failures → after.write_failures ≡ writes_after ended before.write_failures → IsSessionOn subcommand known ended before after
 read subcommand known input ended before after given session other reads writes =
     record { input = input; given = given; session = session; reads = reads ∙ reads_stay ended before.read_failures other; writes = writes }

@@ -16,7 +16,7 @@ use Rattle.scenario_asm.specs.declared.fault.AsmFault.TheVariants.{At, NoMemory 
 use Rattle.sessions.specs.declared.fault.SessionFault.{SessionFault}
 use Rattle.sessions.specs.declared.fault.SessionFault.TheVariants.{Refused, RefusedImage, NoMemory}
 use Rattle.sessions.specs.Faults.{of_image, of_text}
-use Rattle.sessions.specs.Input.{is_image, IsImageOf, IsImageFault, IsTextFault, HasScenario, HasFault, Reads}
+use Rattle.sessions.specs.Input.{is_image, IsImageOf, IsImageFault, IsTextFault, InputHasScenario, InputHasFault, Reads}
 use Rattle.command_line.proofs.Options.{same_some}
 
 ok_err : {T E : Type 0} (value : T) (error : E) → ◌≡◌ {A = Result T E} (Ok value) (Err error) → ⊥
@@ -68,10 +68,10 @@ unfolding AreOfBytes is_memory
 of_bytes bytes fault first =
     among_bytes (AreBytesFreeOf bytes) judged_byte_faults fault (refl, (refl, (refl, (refl, (refl, (refl, (refl, (refl, tt)))))))) first
 
-told_fault : (fault : LoadFault) → is_memory fault ≡ false → of_image fault ≡ RefusedImage fault
+reported_fault : (fault : LoadFault) → is_memory fault ≡ false → of_image fault ≡ RefusedImage fault
 unfolding is_memory
-told_fault image_NoMemory is = absurd (false≢true (sym is))
-told_fault _ is = refl
+reported_fault image_NoMemory is = absurd (false≢true (sym is))
+reported_fault _ is = refl
 
 -- the image was loaded
 pub image_read : (bytes : List ℕ) (parts : ScenarioParts) (loaded : Result ScenarioParts LoadFault) → loaded ≡ Ok parts → IsScenario parts → Loads bytes loaded
@@ -98,12 +98,12 @@ image_refused bytes fault loaded is says = go (subst (Loads bytes) is says)
     found : (fault : LoadFault) → (fault ≡ image_NoMemory) ⊎ IsFirstByteFault bytes fault → (of_image fault ≡ NoMemory) ⊎ IsImageFault bytes (of_image fault)
     found fault has = elim has [
       | inl short ↦ inl (ap of_image short)
-      | inr first ↦ inr (subst (IsImageFault bytes) (sym (told_fault fault (of_bytes bytes fault first))) first)
+      | inr first ↦ inr (subst (IsImageFault bytes) (sym (reported_fault fault (of_bytes bytes fault first))) first)
     ]
 
     only : Loads bytes (Err fault) → (other : SessionFault) → IsImageFault bytes other → Same (Err (of_image fault)) (Err other) ⊎ Same (Err (of_image fault)) (Err NoMemory)
     only says (RefusedImage other) has = elim (says.only_fault other has) [
-      | inl is ↦ inl (ap Err (ap of_image (same_err fault other is) ∙ told_fault other (of_bytes bytes other has)))
+      | inl is ↦ inl (ap Err (ap of_image (same_err fault other is) ∙ reported_fault other (of_bytes bytes other has)))
       | inr is ↦ inr (ap Err (ap of_image (same_err fault image_NoMemory is)))
     ]
     only says _ has = absurd has
@@ -168,14 +168,14 @@ text_refused text fault made is says = go fault (subst (Assembles text) is says)
 -- what is read by the input's kind
 by_kind : (input : List ℕ) (read : Result ScenarioParts SessionFault) (kind : Bool) → is_image input ≡ kind
     → Reads (λ parts. MatchBool kind (IsImageOf input parts) (MeansScenario input parts)) (λ fault. MatchBool kind (IsImageFault input fault) (IsTextFault input fault)) read
-    → Reads (HasScenario input) (HasFault input) read
+    → Reads (InputHasScenario input) (InputHasFault input) read
 by_kind input read kind is says =
     let P : Bool → Type 0 = λ k. Reads (λ parts. MatchBool k (IsImageOf input parts) (MeansScenario input parts)) (λ fault. MatchBool k (IsImageFault input fault) (IsTextFault input fault)) read in
     subst P (sym is) says
 
 -- an image is read as one, and a text as one
-pub read_as_image : (input : List ℕ) (read : Result ScenarioParts SessionFault) → is_image input ≡ true → Reads (IsImageOf input) (IsImageFault input) read → Reads (HasScenario input) (HasFault input) read
+pub read_as_image : (input : List ℕ) (read : Result ScenarioParts SessionFault) → is_image input ≡ true → Reads (IsImageOf input) (IsImageFault input) read → Reads (InputHasScenario input) (InputHasFault input) read
 read_as_image input read is says = by_kind input read true is says
 
-pub read_as_text : (input : List ℕ) (read : Result ScenarioParts SessionFault) → is_image input ≡ false → Reads (MeansScenario input) (IsTextFault input) read → Reads (HasScenario input) (HasFault input) read
+pub read_as_text : (input : List ℕ) (read : Result ScenarioParts SessionFault) → is_image input ≡ false → Reads (MeansScenario input) (IsTextFault input) read → Reads (InputHasScenario input) (InputHasFault input) read
 read_as_text input read is says = by_kind input read false is says

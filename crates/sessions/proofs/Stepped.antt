@@ -9,7 +9,7 @@ use Rattle.sim_time.specs.declared.key.Key.{Key}
 use Rattle.scenario_image.specs.declared.parts.ScenarioParts.{ScenarioParts}
 use Rattle.node_core.specs.declared.event.Event.{Event}
 use Rattle.node_core.specs.TraceLine.{TraceLine}
-use Rattle.table_run.specs.State.{State, due, opening, run}
+use Rattle.table_run.specs.State.{State, due, initial, run}
 use Rattle.table_run.proofs.Due.{is_due}
 use Rattle.table_run.proofs.Lists.{all_append}
 use Rattle.table_run.proofs.Runs.{run_add}
@@ -20,13 +20,13 @@ use Rattle.figures.specs.Figures.{AreOfRun, AreOfSomeRun, base_at}
 use Rattle.figures.specs.Moments.{Base, moments}
 use Rattle.figures_text.specs.declared.step.Span.{Span}
 use Rattle.figures_text.specs.SeriesText.{series_heading}
-use Rattle.figures_text.specs.Steps.{IsSeriesBegun, AreRowsOf, AreSteps, GoesOn, HasComeTo, IsGoingOn, IsOver, begin_of, rows_over, span_of}
+use Rattle.figures_text.specs.Steps.{IsSeriesBegun, AreRowsOf, AreSteps, RunGoesOn, HasComeTo, IsGoingOn, RunIsOver, begin_of, rows_over, span_of}
 use Rattle.figures_text.specs.Summaries.{IsTableFrom}
 use Rattle.figures_text.specs.Table.{TextNames}
 use Rattle.window_engine.proofs.Bytes.{appends_more, appends_nothing}
 use Rattle.sessions.specs.declared.fault.SessionFault.{SessionFault}
 use Rattle.sessions.specs.declared.fault.SessionFault.TheVariants.{WriteFailed, NoMemory, CountFull}
-use Rattle.sessions.specs.Ended.{Ended}
+use Rattle.sessions.specs.Ended.{SessionEnded}
 use Rattle.sessions.specs.FiguresOutput.{IsBothOutput, IsSeriesOutput, AreRowsOfSteps, HasCome, IsCountFault, IsRowsOutput, IsStepBegun, StandsAt}
 use Rattle.sessions.specs.Output.{IsAllOrNothing}
 use Rattle.sessions.specs.Written.{Writes}
@@ -45,19 +45,19 @@ still_early begin until (line ∷ lines) le all = ((let here = all.0 in omega (a
 stands_on : (p : ScenarioParts) (begin until : ℕ) (r at : Reached) → begin ≤ until → StandsAt p begin r → RunsBefore until r at → IsHeldAt until at.state → StandsAt p until at
 stands_on p begin until r at le stands before held = record {
   lines = stands.lines ++ before.lines;
-  comes = subst (λ n. run (opening p) n ≡ Some (stands.lines ++ before.lines, at.state)) (sym before.position) (run_add (opening p) r.state at.state r.position (length before.lines) stands.lines before.lines stands.comes before.comes);
+  comes = subst (λ n. run (initial p) n ≡ Some (stands.lines ++ before.lines, at.state)) (sym before.position) (run_add (initial p) r.state at.state r.position (length before.lines) stands.lines before.lines stands.comes before.comes);
   early = all_append (IsEarly until) stands.lines before.lines (still_early begin until stands.lines le stands.early) before.early;
   held = held;
 }
 
--- a run that was begun at its opening stands at the moment before which it runs
-pub stands_there : (p : ScenarioParts) (moment : ℕ) (old mid : Reached) → old ≡ record { state = opening p; position = 0 } → RunsBefore moment old mid → IsHeldAt moment mid.state → StandsAt p moment mid
+-- a run that was begun at its initial state stands at the moment before which it runs
+pub stands_there : (p : ScenarioParts) (moment : ℕ) (old mid : Reached) → old ≡ record { state = initial p; position = 0 } → RunsBefore moment old mid → IsHeldAt moment mid.state → StandsAt p moment mid
 stands_there p moment old mid at before held =
     let first : old.position ≡ 0 = ap (λ (x : Reached). x.position) at in
     let far : length before.lines ≡ mid.position = (let moved = before.position in omega (arith, moved, first)) in
     record {
       lines = before.lines;
-      comes = subst (λ n. run (opening p) n ≡ Some (before.lines, mid.state)) far (subst (λ (x : Reached). run x.state (length before.lines) ≡ Some (before.lines, mid.state)) at before.comes);
+      comes = subst (λ n. run (initial p) n ≡ Some (before.lines, mid.state)) far (subst (λ (x : Reached). run x.state (length before.lines) ≡ Some (before.lines, mid.state)) at before.comes);
       early = before.early;
       held = held;
     }
@@ -73,7 +73,7 @@ below_next (suc k) (suc n) under = elim (below_next k n (omega (arith, under))) 
 ]
 
 -- one step more
-steps_more : (column : Option TextNames) (p : ScenarioParts) (from every : ℕ) (steps : List (List ℕ)) (rows : List ℕ) → AreSteps column p from every steps → (0 < length steps → GoesOn p (begin_of from every (length steps)))
+steps_more : (column : Option TextNames) (p : ScenarioParts) (from every : ℕ) (steps : List (List ℕ)) (rows : List ℕ) → AreSteps column p from every steps → (0 < length steps → RunGoesOn p (begin_of from every (length steps)))
     → AreRowsOf column p (span_of from every (length steps)) rows → AreSteps column p from every (steps ++ rows ∷ [])
 steps_more column p from every steps rows are goes its = record {
   each = λ k under. elim (below_next k (length steps) (let long = length-append steps (rows ∷ []) in omega (arith, under, long))) [
@@ -82,7 +82,7 @@ steps_more column p from every steps rows are goes its = record {
   ];
   on = λ k some under. elim (below_next k (length steps) (let long = length-append steps (rows ∷ []) in omega (arith, under, long))) [
     | inl less ↦ are.on k some less
-    | inr same ↦ subst (λ n. GoesOn p (begin_of from every n)) (sym same) (goes (omega (arith, some, same)))
+    | inr same ↦ subst (λ n. RunGoesOn p (begin_of from every n)) (sym same) (goes (omega (arith, some, same)))
   ];
 }
 
@@ -91,7 +91,7 @@ pub record IsSoFar (column : Option TextNames) (p : ScenarioParts) (from every b
   pub steps : List (List ℕ)
   pub are : AreSteps column p from every steps
   pub at : begin ≡ begin_of from every (length steps)
-  pub on : 0 < length steps → GoesOn p begin
+  pub on : 0 < length steps → RunGoesOn p begin
   pub written : Appends old now (concat steps)
   pub begun : IsStepBegun p begin f r
   pub some : AreOfSomeRun f r
@@ -168,7 +168,7 @@ module _ (column : Option TextNames) (p : ScenarioParts) (from every begin until
 
     pub more_steps : AreSteps column p from every (so.steps ++ step_rows ∷ [])
     more_steps =
-        steps_more column p from every so.steps step_rows so.are (λ some. subst (GoesOn p) so.at (so.on some))
+        steps_more column p from every so.steps step_rows so.are (λ some. subst (RunGoesOn p) so.at (so.on some))
         (subst (λ (span : Span). AreRowsOf column p span step_rows) its_span its_rows)
 
     joined : concat (so.steps ++ step_rows ∷ []) ≡ concat so.steps ++ step_rows
@@ -213,7 +213,7 @@ module _ (column : Option TextNames) (p : ScenarioParts) (from every begin until
         record {
           rows = rows_of_steps;
           some = omega (arith, one_more_step);
-          over = subst (IsOver p) its_until (record { state = at.state; come = come_to; over = over });
+          over = subst (RunIsOver p) its_until (record { state = at.state; come = come_to; over = over });
         },
       )
 
@@ -257,7 +257,7 @@ heading_cut column p from every _ old new (bytes, takes, made) = absurd made
 abbrev behind : (column : Option TextNames) (p : ScenarioParts) (from every : ℕ) (rows : List ℕ) → AreRowsOfSteps column p from every rows → IsSeriesBegun column p from every (series_heading column ++ rows)
 behind column p from every rows are = record { steps = are.steps; are = are.are; bytes_are = ap (λ xs. series_heading column ++ xs) are.out_is }
 
-pub behind_heading : (column : Option TextNames) (p : ScenarioParts) (from every : ℕ) (ended : Ended) (old mid new : Option (List ℕ)) → Appends old mid (series_heading column) → Writes (IsRowsOutput column p from every ended) mid new
+pub behind_heading : (column : Option TextNames) (p : ScenarioParts) (from every : ℕ) (ended : SessionEnded) (old mid new : Option (List ℕ)) → Appends old mid (series_heading column) → Writes (IsRowsOutput column p from every ended) mid new
     → Writes (IsSeriesOutput column p from every ended) old new
 behind_heading column p from every (Ok u) old mid new heads (bytes, takes, made) =
     (series_heading column ++ bytes, appends_more old mid new (series_heading column) bytes heads takes, record { begun = behind column p from every bytes made.rows; some = made.some; over = made.over })
@@ -272,7 +272,7 @@ behind_heading column p from every (Err WriteFailed) old mid new heads (bytes, t
 behind_heading column p from every (Err _) old mid new heads (bytes, takes, made) = absurd made
 
 -- a series behind its table
-pub behind_table : (column : Option TextNames) (p : ScenarioParts) (from every : ℕ) (ended : Ended) (old mid new : Option (List ℕ)) → Writes (IsTableFrom column p from) old mid → Writes (IsSeriesOutput column p from every ended) mid new
+pub behind_table : (column : Option TextNames) (p : ScenarioParts) (from every : ℕ) (ended : SessionEnded) (old mid new : Option (List ℕ)) → Writes (IsTableFrom column p from) old mid → Writes (IsSeriesOutput column p from every ended) mid new
     → Writes (IsBothOutput column p from every ended) old new
 behind_table column p from every (Ok u) old mid new (table, heads, is) (rest, takes, made) = (table ++ rest, appends_more old mid new table rest heads takes, record { table = table; rest = rest; is_table = is; is_rest = made; out_is = refl })
 behind_table column p from every (Err fault) old mid new (table, heads, is) (rest, takes, made) = (table ++ rest, appends_more old mid new table rest heads takes, inr (record { table = table; rest = rest; is_table = is; is_rest = made; out_is = refl }))

@@ -3,7 +3,7 @@ use Rattle.std.proofs.Common.{◌≡◌, ◌∙◌, ℕ, ◌≤◌, ◌+◌, Lis
 use Rattle.std.specs.Option.{option_map}
 use Rattle.std.proofs.lemmas.List.{take-append-drop}
 use Rattle.std.specs.Io.KnownBytes.{Appends}
-use Rattle.ranking.specs.Keyed.{least}
+use Rattle.tournament.specs.Keyed.{least}
 use Rattle.node_core.specs.TraceLine.{TraceLine}
 use Rattle.table_run.specs.State.{State, below, due, run, step_at}
 use Rattle.table_run.proofs.Runs.{run_add, run_end}
@@ -14,14 +14,14 @@ use Rattle.window_engine.specs.declared.fault.EngineFault.{EngineFault}
 use Rattle.window_engine.specs.declared.fault.EngineFault.TheVariants.{NoMemory as engine_NoMemory, CountFull as engine_CountFull, NoWorker as engine_NoWorker, Sink, Failed}
 use Rattle.window_engine.specs.declared.fault.Stop.{Stop}
 use Rattle.window_engine.specs.declared.fault.Stop.TheVariants.{End, Until}
-use Rattle.window_engine.specs.Engines.{Commits, EngineValue, IsStop, Takes, sink_failures}
+use Rattle.window_engine.specs.Engines.{Commits, EngineValue, IsStop, SinkTakes, sink_failures}
 use Rattle.window_engine.specs.Text.{text_from}
 use Rattle.window_engine.proofs.Bytes.{appends_more, appends_nothing, take_past}
 use Rattle.window_engine.proofs.Numbered.{text_both}
 use Rattle.window_engine.proofs.TooMany.{earlier_full}
 use Rattle.sessions.specs.declared.fault.SessionFault.{SessionFault}
 use Rattle.sessions.specs.declared.fault.SessionFault.TheVariants.{WriteFailed, NoMemory}
-use Rattle.sessions.specs.Ended.{Ended, IsRunOutput, writes_after}
+use Rattle.sessions.specs.Ended.{SessionEnded, IsRunOutput, writes_after}
 use Rattle.sessions.specs.Faults.{of_engine}
 use Rattle.sessions.specs.Trace.{lines_bytes, IsTrace, IsTraceStart, IsTraceOrStart}
 use Rattle.sessions.specs.Worked.{EndsRun, HasRun, RunsTo, TakesAll, at_first}
@@ -34,7 +34,7 @@ text_more xs ys n at =
     text_both 1 xs ys ∙ ap (λ k. lines_bytes xs ++ text_from k ys) first
 
 -- what a call takes, behind what was taken
-takes_more : (r : Result Stop EngineFault) (xs ys : List ℕ) (a b c : Option (List ℕ)) → Appends a b xs → Takes r ys b c → TakesAll r (xs ++ ys) a c
+takes_more : (r : Result Stop EngineFault) (xs ys : List ℕ) (a b c : Option (List ℕ)) → Appends a b xs → SinkTakes r ys b c → TakesAll r (xs ++ ys) a c
 takes_more (Ok stop) xs ys a b c first then = appends_more a b c xs ys first then
 takes_more (Err engine_NoMemory) xs ys a b c first then = appends_more a b c xs ys first then
 takes_more (Err engine_CountFull) xs ys a b c first then = appends_more a b c xs ys first then
@@ -160,7 +160,7 @@ module _ (s : State) (end events : ℕ) (stop : Stop) (engine : EngineValue) (a 
   few : engine.net.position ≤ 1000000000000000
   few = (fits has.failed).position_fits
 
-  last_line : (ended : Ended) → EndsRun (Ok stop) events ended b c → Writes (IsRunOutput s ended) a c
+  last_line : (ended : SessionEnded) → EndsRun (Ok stop) events ended b c → Writes (IsRunOutput s ended) a c
   last_line (Ok u) put = all_written s engine.net a b stop has.runs c events put.0 stops few at put.2 put.1
   last_line (Err NoMemory) put =
       let wrote = last_refused s engine.net a b stop has.runs in
@@ -170,16 +170,16 @@ module _ (s : State) (end events : ℕ) (stop : Stop) (engine : EngineValue) (a 
   last_line _ put = absurd put.2
 
 -- what a run by windows that was ended has written
-pub run_ended : (s : State) (end events : ℕ) (r : Result Stop EngineFault) (engine : EngineValue) (ended : Ended) (a b c : Option (List ℕ)) → HasRun s end r engine a b → (engine.failed ≡ false → IsRun engine.net)
+pub run_ended : (s : State) (end events : ℕ) (r : Result Stop EngineFault) (engine : EngineValue) (ended : SessionEnded) (a b c : Option (List ℕ)) → HasRun s end r engine a b → (engine.failed ≡ false → IsRun engine.net)
     → events ≡ engine.net.position → EndsRun r events ended b c → Writes (IsRunOutput s ended) a c
 run_ended s end events (Ok stop) engine ended a b c has fits at put = last_line s end events stop engine a b c has fits at ended put
 run_ended s end events (Err fault) engine ended a b c has fits at put =
     let wrote = engine_failed s fault engine.net a b has.runs has.full in
-    subst (λ (x : Option (List ℕ)). Writes (IsRunOutput s ended) a x) (sym put.1) (subst (λ (x : Ended). Writes (IsRunOutput s x) a b) (sym put.0) wrote)
+    subst (λ (x : Option (List ℕ)). Writes (IsRunOutput s ended) a x) (sym put.1) (subst (λ (x : SessionEnded). Writes (IsRunOutput s x) a b) (sym put.0) wrote)
 
 -- what failed of the engine is counted of the writer
-pub engine_writes : (fault : EngineFault) (told : SessionFault) (n m : ℕ) → told ≡ of_engine fault → m ≡ sink_failures {T = Stop} (Err fault) n → m ≡ writes_after {T = Unit {0}} (Err told) n
-engine_writes fault told n m is counts = counts ∙ go fault ∙ ap (λ (f : SessionFault). writes_after {T = Unit {0}} (Err f) n) (sym is)
+pub engine_writes : (fault : EngineFault) (reported : SessionFault) (n m : ℕ) → reported ≡ of_engine fault → m ≡ sink_failures {T = Stop} (Err fault) n → m ≡ writes_after {T = Unit {0}} (Err reported) n
+engine_writes fault reported n m is counts = counts ∙ go fault ∙ ap (λ (f : SessionFault). writes_after {T = Unit {0}} (Err f) n) (sym is)
   where
     go : (f : EngineFault) → sink_failures {T = Stop} (Err f) n ≡ writes_after {T = Unit {0}} (Err (of_engine f)) n
     go (Sink written) = refl

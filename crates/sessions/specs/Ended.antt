@@ -8,11 +8,11 @@ use Rattle.sessions.specs.Trace.{IsTrace, IsTraceStart, IsTooLong, IsTraceOrStar
 use Rattle.sessions.specs.Written.{IsBeginningOf}
 use Rattle.window_engine.specs.Failures.{counted}
 
-abbrev pub Ended : Type 0
-Ended = Result (Unit {0}) SessionFault
+abbrev pub SessionEnded : Type 0
+SessionEnded = Result (Unit {0}) SessionFault
 
 -- the reader failed, the writer failed, memory was refused, or a worker could not be had
-abbrev pub IsHindered : Ended → Type 0
+abbrev pub IsHindered : SessionEnded → Type 0
 IsHindered (Err ReadFailed) = Unit {0}
 IsHindered (Err WriteFailed) = Unit {0}
 IsHindered (Err NoMemory) = Unit {0}
@@ -20,7 +20,7 @@ IsHindered (Err NoWorker) = Unit {0}
 IsHindered _ = ⊥
 
 -- what a run from a state that ended so has written: its trace; the lines of its first events, it having more than 10^15; the lines of its first events; a beginning of any of these
-abbrev pub IsRunOutput : State → Ended → List ℕ → Type 0
+abbrev pub IsRunOutput : State → SessionEnded → List ℕ → Type 0
 IsRunOutput s (Ok done) out = IsTrace s out
 IsRunOutput s (Err CountFull) out = IsTooLong s × IsTraceStart s out
 IsRunOutput s (Err NoMemory) out = IsTraceStart s out
@@ -41,10 +41,10 @@ reads_after (Err ReadFailed) n = counted n
 reads_after _ n = n
 
 -- how the end of a session over a file is told: where reading failed, it was this file that could not be read, its name as it is shown; any other end as it is
-abbrev pub IsToldOf : List ℕ → Ended → Ended → Type 0
-IsToldOf file (Err ReadFailed) (Err (CannotRead name)) = string_bytes name ≡ shown_name file
-IsToldOf file (Err ReadFailed) _ = ⊥
-IsToldOf file ended told = told ≡ ended
+abbrev pub IsReportedOf : List ℕ → SessionEnded → SessionEnded → Type 0
+IsReportedOf file (Err ReadFailed) (Err (CannotRead name)) = string_bytes name ≡ shown_name file
+IsReportedOf file (Err ReadFailed) _ = ⊥
+IsReportedOf file ended reported = reported ≡ ended
 
 -- the writer's count of failures after what ended so
 abbrev pub writes_after : {T : Type 0} → Result T SessionFault → ℕ → ℕ

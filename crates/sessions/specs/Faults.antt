@@ -10,8 +10,8 @@ use Rattle.scenario_asm.specs.declared.fault.AsmFault.{AsmFault}
 use Rattle.scenario_asm.specs.declared.fault.AsmFault.TheVariants.{At, NoMemory as text_NoMemory}
 use Rattle.window_engine.specs.declared.fault.EngineFault.{EngineFault}
 use Rattle.window_engine.specs.declared.fault.EngineFault.TheVariants.{NoMemory as engine_NoMemory, CountFull as engine_CountFull, NoWorker as engine_NoWorker, Sink, Failed}
-use Rattle.debug_session.specs.declared.session.SessionFault.{SessionFault as CommandsFault}
-use Rattle.debug_session.specs.declared.session.SessionFault.TheVariants.{NoMemory as commands_NoMemory, OutputFailed}
+use Rattle.debug_session.specs.declared.session.DialogueFault.{DialogueFault as CommandsFault}
+use Rattle.debug_session.specs.declared.session.DialogueFault.TheVariants.{NoMemory as commands_NoMemory, OutputFailed}
 use Rattle.sessions.specs.declared.fault.SessionFault.{SessionFault}
 use Rattle.sessions.specs.declared.figures_fault.FiguresFault.TheVariants.{NoMoment, NoStep, TooManyRows}
 use Rattle.sessions.specs.declared.fault.SessionFault.TheVariants.{TooLong, Refused, RefusedImage, CommandLine, NoSuchCode, WordsNotUtf8, Groups, Figures, ReadFailed, CannotRead, WriteFailed, NoMemory, CountFull, NoWorker}

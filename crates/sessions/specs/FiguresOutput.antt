@@ -2,7 +2,7 @@
 use Rattle.std.specs.Prelude.{◌≡◌, ◌≢◌, ◌⊎◌, ◌<◌, ◌++◌, ℕ, min, Bool, List, [], length, Option, None, Result, Ok, Err}
 use Rattle.std.specs.List.{AllByRecursion, concat}
 use Rattle.scenario_image.specs.declared.parts.ScenarioParts.{ScenarioParts}
-use Rattle.table_run.specs.State.{due, opening}
+use Rattle.table_run.specs.State.{due, initial}
 use Rattle.net_machine.specs.Run.{Reached}
 use Rattle.net_watch.specs.RunsBefore.{IsHeldAt}
 use Rattle.node_core.specs.TraceLine.{TraceLine}
@@ -10,7 +10,7 @@ use Rattle.table_run.specs.Laws.{ComesTo}
 use Rattle.figures.specs.Moments.{Base}
 use Rattle.figures.specs.Figures.{AreOfRun, base_at, whole}
 use Rattle.figures.specs.declared.figures.Figures.{Figures}
-use Rattle.figures_text.specs.Steps.{AreSteps, IsOver, IsSeries, IsSeriesStart, begin_of}
+use Rattle.figures_text.specs.Steps.{AreSteps, RunIsOver, IsSeries, IsSeriesStart, begin_of}
 use Rattle.figures_text.specs.Summaries.{IsCountedFrom, IsTableFrom}
 use Rattle.figures_text.specs.Table.{TextNames}
 use Rattle.command_line.specs.declared.subcommand.Counting.{Counting}
@@ -19,7 +19,7 @@ use Rattle.sessions.specs.declared.fault.SessionFault.TheVariants.{Figures as No
 use Rattle.sessions.specs.declared.figures_fault.FiguresFault.{FiguresFault}
 use Rattle.sessions.specs.declared.figures_plan.FiguresPlan.{FiguresPlan}
 use Rattle.sessions.specs.declared.figures_plan.FiguresPlan.TheVariants.{Table, Both, Series}
-use Rattle.sessions.specs.Ended.{Ended}
+use Rattle.sessions.specs.Ended.{SessionEnded}
 use Rattle.sessions.specs.FiguresPlan.{plan_of}
 use Rattle.sessions.specs.NameColumns.{IsColumnOf}
 use Rattle.sessions.specs.Trace.{IsTooLong}
@@ -33,7 +33,7 @@ IsCountFault net _ = ⊥
 
 -- nothing of a scenario's run is counted, and none of its events was run
 pub record IsOpenedRun (p : ScenarioParts) (f : Figures) (r : Reached) : Type 0 where
-  pub at : r ≡ record { state = opening p; position = 0 }
+  pub at : r ≡ record { state = initial p; position = 0 }
   pub of : AreOfRun p (whole p) f r
 
 -- a scenario's run has come here
@@ -62,7 +62,7 @@ pub record AreCounted (p : ScenarioParts) (moment : ℕ) (f : Figures) (r : Reac
 -- why a scenario's run was not counted to its end: memory was refused, or it has more than 10^15 events
 abbrev pub IsRunFault : ScenarioParts → SessionFault → Type 0
 IsRunFault p NoMemory = Unit {0}
-IsRunFault p CountFull = IsTooLong (opening p)
+IsRunFault p CountFull = IsTooLong (initial p)
 IsRunFault p _ = ⊥
 
 -- the rows of the first steps of a scenario's run
@@ -75,29 +75,29 @@ pub record AreRowsOfSteps (column : Option TextNames) (p : ScenarioParts) (from 
 pub record AreAllRows (column : Option TextNames) (p : ScenarioParts) (from every : ℕ) (out : List ℕ) : Type 0 where
   pub rows : AreRowsOfSteps column p from every out
   pub some : 0 < length rows.steps
-  pub over : IsOver p (begin_of from every (length rows.steps))
+  pub over : RunIsOver p (begin_of from every (length rows.steps))
 
 -- what was written of these rows by the end
-abbrev pub IsRowsOutput : Option TextNames → ScenarioParts → ℕ → ℕ → Ended → List ℕ → Type 0
+abbrev pub IsRowsOutput : Option TextNames → ScenarioParts → ℕ → ℕ → SessionEnded → List ℕ → Type 0
 IsRowsOutput column p from every (Ok done) out = AreAllRows column p from every out
 IsRowsOutput column p from every (Err NoMemory) out = AreRowsOfSteps column p from every out
-IsRowsOutput column p from every (Err CountFull) out = IsTooLong (opening p) × AreRowsOfSteps column p from every out
+IsRowsOutput column p from every (Err CountFull) out = IsTooLong (initial p) × AreRowsOfSteps column p from every out
 IsRowsOutput column p from every (Err WriteFailed) out = IsBeginningOf (AreRowsOfSteps column p from every) out
 IsRowsOutput column p from every _ out = ⊥
 
 -- what was written of a series by the end: all of it; nothing, or the rows of its first steps, where memory was refused, or as the run has more than 10^15 events; a beginning of such where the writer failed
-abbrev pub IsSeriesOutput : Option TextNames → ScenarioParts → ℕ → ℕ → Ended → List ℕ → Type 0
+abbrev pub IsSeriesOutput : Option TextNames → ScenarioParts → ℕ → ℕ → SessionEnded → List ℕ → Type 0
 IsSeriesOutput column p from every (Ok done) out = IsSeries column p from every out
 IsSeriesOutput column p from every (Err NoMemory) out = IsSeriesStart column p from every out
-IsSeriesOutput column p from every (Err CountFull) out = IsTooLong (opening p) × IsSeriesStart column p from every out
+IsSeriesOutput column p from every (Err CountFull) out = IsTooLong (initial p) × IsSeriesStart column p from every out
 IsSeriesOutput column p from every (Err WriteFailed) out = IsBeginningOf (IsSeriesStart column p from every) out
 IsSeriesOutput column p from every _ out = ⊥
 
 -- what was written of a table by the end: the table; nothing where memory was refused, or as the run has more than 10^15 events; a beginning of the table where the writer failed
-abbrev pub IsTableOutput : Option TextNames → ScenarioParts → ℕ → Ended → List ℕ → Type 0
+abbrev pub IsTableOutput : Option TextNames → ScenarioParts → ℕ → SessionEnded → List ℕ → Type 0
 IsTableOutput column p from (Ok done) out = IsTableFrom column p from out
 IsTableOutput column p from (Err NoMemory) out = out ≡ []
-IsTableOutput column p from (Err CountFull) out = IsTooLong (opening p) × (out ≡ [])
+IsTableOutput column p from (Err CountFull) out = IsTooLong (initial p) × (out ≡ [])
 IsTableOutput column p from (Err WriteFailed) out = IsBeginningOf (IsTableFrom column p from) out
 IsTableOutput column p from _ out = ⊥
 
@@ -110,28 +110,28 @@ pub record IsBehindTable (column : Option TextNames) (p : ScenarioParts) (from :
   pub out_is : out ≡ table ++ rest
 
 -- what was written of both by the end: of the table alone where it was not written whole
-abbrev pub IsBothOutput : Option TextNames → ScenarioParts → ℕ → ℕ → Ended → List ℕ → Type 0
+abbrev pub IsBothOutput : Option TextNames → ScenarioParts → ℕ → ℕ → SessionEnded → List ℕ → Type 0
 IsBothOutput column p from every (Ok done) out = IsBehindTable column p from (IsSeriesOutput column p from every (Ok done)) out
 IsBothOutput column p from every (Err fault) out = IsTableOutput column p from (Err fault) out ⊎ IsBehindTable column p from (IsSeriesOutput column p from every (Err fault)) out
 
 -- what was written by the end of what was planned
-abbrev pub IsPlannedOutput : Option TextNames → ScenarioParts → FiguresPlan → Ended → List ℕ → Type 0
+abbrev pub IsPlannedOutput : Option TextNames → ScenarioParts → FiguresPlan → SessionEnded → List ℕ → Type 0
 IsPlannedOutput column p (Table from) ended out = IsTableOutput column p from ended out
 IsPlannedOutput column p (Both from every) ended out = IsBothOutput column p from every ended out
 IsPlannedOutput column p (Series from every) ended out = IsSeriesOutput column p from every ended out
 
 -- with a column of names, if one is wished; where memory was refused it may have been for that
-pub record IsNamedOutput (names : Bool) (input : List ℕ) (p : ScenarioParts) (plan : FiguresPlan) (ended : Ended) (out : List ℕ) : Type 0 where
+pub record IsNamedOutput (names : Bool) (input : List ℕ) (p : ScenarioParts) (plan : FiguresPlan) (ended : SessionEnded) (out : List ℕ) : Type 0 where
   pub column : Option TextNames
   pub of : IsColumnOf names input column
   pub planned : IsPlannedOutput column p plan ended out
 
 -- what was written by the end by a plan: nothing where there is none
-abbrev pub IsPlanOutput : Bool → List ℕ → ScenarioParts → Result FiguresPlan FiguresFault → Ended → List ℕ → Type 0
+abbrev pub IsPlanOutput : Bool → List ℕ → ScenarioParts → Result FiguresPlan FiguresFault → SessionEnded → List ℕ → Type 0
 IsPlanOutput names input p (Err fault) ended out = (ended ≡ Err (NoFigures fault)) × (out ≡ [])
 IsPlanOutput names input p (Ok plan) (Err NoMemory) out = (out ≡ []) ⊎ IsNamedOutput names input p plan (Err NoMemory) out
 IsPlanOutput names input p (Ok plan) ended out = IsNamedOutput names input p plan ended out
 
 -- what was written of an input's scenario by the end: the figures that are asked for, or nothing where they cannot be
-abbrev pub IsFiguresOutput : Counting → List ℕ → ScenarioParts → Ended → List ℕ → Type 0
+abbrev pub IsFiguresOutput : Counting → List ℕ → ScenarioParts → SessionEnded → List ℕ → Type 0
 IsFiguresOutput counting input p ended out = IsPlanOutput counting.names input p (plan_of counting p) ended out

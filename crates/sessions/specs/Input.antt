@@ -18,8 +18,8 @@ abbrev pub IsImageOf : List ℕ → ScenarioParts → Type 0
 IsImageOf bytes parts = IsScenario parts × IsImage bytes parts
 
 -- the scenario of an input: the one that the image has, or that the text means
-abbrev pub HasScenario : List ℕ → ScenarioParts → Type 0
-HasScenario input parts = MatchBool (is_image input) (IsImageOf input parts) (MeansScenario input parts)
+abbrev pub InputHasScenario : List ℕ → ScenarioParts → Type 0
+InputHasScenario input parts = MatchBool (is_image input) (IsImageOf input parts) (MeansScenario input parts)
 
 -- the fault that an image is refused for
 abbrev pub IsImageFault : List ℕ → SessionFault → Type 0
@@ -32,8 +32,8 @@ IsTextFault text (Refused line fault) = MeansFault text line fault
 IsTextFault text _ = ⊥
 
 -- the fault that an input is refused for
-abbrev pub HasFault : List ℕ → SessionFault → Type 0
-HasFault input fault = MatchBool (is_image input) (IsImageFault input fault) (IsTextFault input fault)
+abbrev pub InputHasFault : List ℕ → SessionFault → Type 0
+InputHasFault input fault = MatchBool (is_image input) (IsImageFault input fault) (IsTextFault input fault)
 
 -- a reading answers by what is meant, a scenario or a fault, or memory was refused
 pub record Reads (IsMeant : ScenarioParts → Type 0) (IsFault : SessionFault → Type 0) (read : Result ScenarioParts SessionFault) : Type 0 where

@@ -2,7 +2,7 @@
 use Rattle.std.specs.Prelude.{◌≡◌, ℕ, Bool, true, false, MatchBool, List, [], Option, None, Some}
 use Rattle.std.specs.List.{filter_map}
 use Rattle.scenario_asm.specs.declared.statement.Statement.{Statement}
-use Rattle.scenario_asm.specs.Lines.{lines_of}
+use Rattle.scenario_asm.specs.Lines.{lines_of_text}
 use Rattle.scenario_asm.specs.Meaning.{AreRead, statements_of}
 use Rattle.scenario_asm.specs.Text.{flow_name, link_name}
 use Rattle.figures_text.specs.Table.{TextNames}
@@ -14,7 +14,7 @@ names_in statements = record { flows = filter_map flow_name statements; links = 
 
 pub record IsTextColumn (text : List ℕ) (column : Option TextNames) : Type 0 where
   pub said : List (Option Statement)
-  pub all_read : AreRead (lines_of text) said
+  pub all_read : AreRead (lines_of_text text) said
   pub names : column ≡ Some (names_in (statements_of said))
 
 -- an image has no names

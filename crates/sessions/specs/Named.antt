@@ -4,7 +4,7 @@ use Rattle.sessions.specs.declared.fault.SessionFault.{SessionFault}
 use Rattle.command_line.specs.declared.subcommand.Task.{Task}
 use Rattle.sessions.specs.Asked.{IsOverFile}
 use Rattle.sessions.specs.Debug.{IsTaskOn}
-use Rattle.sessions.specs.Ended.{Ended, IsReadFault, reads_after}
+use Rattle.sessions.specs.Ended.{SessionEnded, IsReadFault, reads_after}
 use Rattle.sessions.specs.Prompt.{IsFileFault, line_reads_after}
 use Rattle.sessions.specs.Streams.{Streams}
 
@@ -29,6 +29,6 @@ input_reads_after None read n = reads_after read n
 input_reads_after (Some file) read n = line_reads_after read n
 
 -- the session of a task over it
-abbrev pub IsOver : Task → Option (List ℕ) → Option (List ℕ) → (List ℕ → Option (List ℕ)) → Ended → Streams → Streams → Type 0
-IsOver task None known bytes_of = IsTaskOn task known
-IsOver task (Some file) known bytes_of = IsOverFile task file (bytes_of file)
+abbrev pub IsTaskOver : Task → Option (List ℕ) → Option (List ℕ) → (List ℕ → Option (List ℕ)) → SessionEnded → Streams → Streams → Type 0
+IsTaskOver task None known bytes_of = IsTaskOn task known
+IsTaskOver task (Some file) known bytes_of = IsOverFile task file (bytes_of file)

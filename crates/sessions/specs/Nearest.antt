@@ -2,12 +2,12 @@
 use Rattle.std.specs.Prelude.{◌≡◌, ◌<◌, ◌≤◌, ℕ, nat_eq, nat_lt, List, ◌∷◌, ◌++◌, if◌then◌else◌, codes, length, Option, None, Some}
 use Rattle.std.specs.List.{All}
 use Rattle.strsim.specs.Edits.{levenshtein_row}
-use Rattle.debug_session.specs.declared.name.Name.{Name}
-use Rattle.debug_session.specs.declared.name.Name.TheVariants.{Step, Back, Break, Breaks, Run, Reverse, Until, State, Lines, Delete, Clear, Help, Quit, Why, Goto, Where}
+use Rattle.debug_session.specs.declared.name.CommandName.{CommandName}
+use Rattle.debug_session.specs.declared.name.CommandName.TheVariants.{Step, Back, Break, Breaks, Run, Reverse, Until, State, Lines, Delete, Clear, Help, Quit, Why, Goto, Where}
 use Rattle.sessions.specs.declared.nearest.Near.{Near}
 
 -- how a name is spelled
-abbrev pub spelling : Name → List ℕ
+abbrev pub spelling : CommandName → List ℕ
 spelling Step = codes "step"
 spelling Back = codes "back"
 spelling Break = codes "break"
@@ -26,10 +26,10 @@ spelling Goto = codes "goto"
 spelling Where = codes "where"
 
 -- how many bytes have to be put in, taken out or replaced until a word is a name
-abbrev pub edits_to : List ℕ → Name → ℕ
+abbrev pub edits_to : List ℕ → CommandName → ℕ
 edits_to word name = levenshtein_row nat_eq word (spelling name) (length (spelling name))
 
-abbrev pub with_edits : List ℕ → Name → Near
+abbrev pub with_edits : List ℕ → CommandName → Near
 with_edits word name = record { name = name; edits = edits_to word name }
 
 abbrev pub nearer : Option Near → Near → Near
@@ -37,9 +37,9 @@ nearer None next = next
 nearer (Some found) next = if nat_lt next.edits found.edits then next else found
 
 -- none of the names is nearer to a word, and none before it is as near
-pub record IsNearest (word : List ℕ) (names : List Name) (found : Near) : Type 0 where
-  pub before : List Name
-  pub behind : List Name
+pub record IsNearest (word : List ℕ) (names : List CommandName) (found : Near) : Type 0 where
+  pub before : List CommandName
+  pub behind : List CommandName
   pub among : names ≡ before ++ found.name ∷ behind
   pub edits : found.edits ≡ edits_to word found.name
   pub first : All (λ other. found.edits < edits_to word other) before

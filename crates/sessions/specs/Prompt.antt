@@ -1,8 +1,8 @@
 -- What a debugging session at a prompt comes to: its scenario is a file's, and its commands are typed, one a line.
 use Rattle.std.specs.Prelude.{◌≡◌, ◌<◌, ℕ, true, List, [], length, string_bytes, Option, Result, Ok, Err}
 use Rattle.scenario_image.specs.declared.parts.ScenarioParts.{ScenarioParts}
-use Rattle.table_run.specs.State.{State, opening}
-use Rattle.debugger.specs.Debugging.{opened}
+use Rattle.table_run.specs.State.{State, initial}
+use Rattle.debugger.specs.Debugging.{debugging_opened}
 use Rattle.debug_session.specs.declared.command.Limits.{Limits}
 use Rattle.debug_session.specs.Answers.{standing}
 use Rattle.debug_session.specs.Sessions.{limits_of}
@@ -10,8 +10,8 @@ use Rattle.debug_session.specs.Prompt.{Ask, AtPrompt, Typed, TypedOutput, AreInT
 use Rattle.sessions.specs.declared.fault.SessionFault.{SessionFault}
 use Rattle.sessions.specs.declared.fault.SessionFault.TheVariants.{TooLong, Refused, RefusedImage, Groups, ReadFailed, CannotRead, WriteFailed, NoMemory}
 use Rattle.sessions.specs.FileName.{shown_name}
-use Rattle.sessions.specs.Ended.{Ended, writes_after}
-use Rattle.sessions.specs.Input.{HasScenario, HasFault}
+use Rattle.sessions.specs.Ended.{SessionEnded, writes_after}
+use Rattle.sessions.specs.Input.{InputHasScenario, InputHasFault}
 use Rattle.sessions.specs.Nodes.{HasGroups}
 use Rattle.sessions.specs.Session.{IsWithin}
 use Rattle.sessions.specs.Streams.{Streams, IsInputOf}
@@ -19,14 +19,14 @@ use Rattle.sessions.specs.Written.{Writes, IsBeginningOf}
 use Rattle.window_engine.specs.Failures.{counted}
 
 -- how the lines that were typed ended a session, and what it has put out: done, the answers to the lines up to `quit`, or to all; where reading a line failed, the answers to the lines before; where the output failed, a beginning of the answers
-abbrev pub IsTypedEnd : Limits → State → AtPrompt → List (List ℕ) → Ended → Streams → Streams → Type 0
+abbrev pub IsTypedEnd : Limits → State → AtPrompt → List (List ℕ) → SessionEnded → Streams → Streams → Type 0
 IsTypedEnd limits start old lines (Ok done) before after = IsSoFar limits start old lines before.written after.written × IsToEnd lines after.typed
 IsTypedEnd limits start old lines (Err ReadFailed) before after = IsSoFar limits start old lines before.written after.written × (none_quits lines ≡ true)
 IsTypedEnd limits start old lines (Err WriteFailed) before after = Writes (IsBeginningOf (TypedOutput limits start lines old)) before.written after.written × (none_quits lines ≡ true)
 IsTypedEnd limits start old lines _ before after = ⊥
 
 -- a session at a prompt that ended so, from where it stands: whenever it asked for a line, it had answered those before it, whatever came later
-pub record IsTypedSession (limits : Limits) (start : State) (old : AtPrompt) (ended : Ended) (before after : Streams) : Type 0 where
+pub record IsTypedSession (limits : Limits) (start : State) (old : AtPrompt) (ended : SessionEnded) (before after : Streams) : Type 0 where
   pub asks : List Ask
   pub typed : Typed before.typed after.typed asks
   pub in_time : AreInTime limits start old before.written [] asks
@@ -38,29 +38,29 @@ pub record IsUnbegun (before after : Streams) : Type 0 where
   pub unwritten : after.written ≡ before.written
 
 -- the input has a scenario, for whose nodes the text names groups, and a session at a prompt over it ended so
-abbrev pub IsAtPrompt : List ℕ → List ℕ → Ended → Streams → Streams → Type 0
+abbrev pub IsAtPrompt : List ℕ → List ℕ → SessionEnded → Streams → Streams → Type 0
 IsAtPrompt groups input ended before after =
-    IsWithin input × ((p : ScenarioParts) × HasScenario input p × HasGroups groups p × IsTypedSession (limits_of p) (opening p) (unmoved (standing (opened (opening p)))) ended before after)
+    IsWithin input × ((p : ScenarioParts) × InputHasScenario input p × HasGroups groups p × IsTypedSession (limits_of p) (initial p) (unmoved (standing (debugging_opened (initial p)))) ended before after)
 
 -- the input has a scenario, for whose nodes the text names no groups
 abbrev pub IsUngrouped : List ℕ → List ℕ → Type 0
-IsUngrouped groups input = IsWithin input × ((p : ScenarioParts) × HasScenario input p × ¬ HasGroups groups p)
+IsUngrouped groups input = IsWithin input × ((p : ScenarioParts) × InputHasScenario input p × ¬ HasGroups groups p)
 
 -- a session at a prompt over a scenario ended so: memory was refused before the first line, or lines were typed
-abbrev pub IsOverScenario : ScenarioParts → Ended → Streams → Streams → Type 0
+abbrev pub IsOverScenario : ScenarioParts → SessionEnded → Streams → Streams → Type 0
 IsOverScenario p (Err NoMemory) before after = IsUnbegun before after
-IsOverScenario p ended before after = IsTypedSession (limits_of p) (opening p) (unmoved (standing (opened (opening p)))) ended before after
+IsOverScenario p ended before after = IsTypedSession (limits_of p) (initial p) (unmoved (standing (debugging_opened (initial p)))) ended before after
 
 -- why a session at a prompt over this input ends so, and what came of its streams by then: each end has its row
-abbrev pub IsPromptOver : List ℕ → List ℕ → Ended → Streams → Streams → Type 0
-IsPromptOver groups input (Err (Refused line fault)) before after = IsWithin input × HasFault input (Refused line fault) × IsUnbegun before after
-IsPromptOver groups input (Err (RefusedImage fault)) before after = IsWithin input × HasFault input (RefusedImage fault) × IsUnbegun before after
+abbrev pub IsPromptOver : List ℕ → List ℕ → SessionEnded → Streams → Streams → Type 0
+IsPromptOver groups input (Err (Refused line fault)) before after = IsWithin input × InputHasFault input (Refused line fault) × IsUnbegun before after
+IsPromptOver groups input (Err (RefusedImage fault)) before after = IsWithin input × InputHasFault input (RefusedImage fault) × IsUnbegun before after
 IsPromptOver groups input (Err Groups) before after = IsUngrouped groups input × IsUnbegun before after
 IsPromptOver groups input (Err NoMemory) before after = IsUnbegun before after
 IsPromptOver groups input ended before after = IsAtPrompt groups input ended before after
 
 -- and over the file of this name, which has this input
-abbrev pub IsPromptEnding : List ℕ → List ℕ → List ℕ → Ended → Streams → Streams → Type 0
+abbrev pub IsPromptEnding : List ℕ → List ℕ → List ℕ → SessionEnded → Streams → Streams → Type 0
 IsPromptEnding groups file input (Err TooLong) before after = (16777216 < length input) × IsUnbegun before after
 IsPromptEnding groups file input (Err (CannotRead name)) before after = (string_bytes name ≡ shown_name file) × IsUnbegun before after
 IsPromptEnding groups file input ended before after = IsPromptOver groups input ended before after
@@ -79,7 +79,7 @@ line_reads_after (Err (CannotRead name)) n = counted n
 line_reads_after _ n = n
 
 -- a session at a prompt over the file of this name, which gives these bytes where they are known
-pub record IsPromptOn (groups file : List ℕ) (known : Option (List ℕ)) (ended : Ended) (before after : Streams) : Type 0 where
+pub record IsPromptOn (groups file : List ℕ) (known : Option (List ℕ)) (ended : SessionEnded) (before after : Streams) : Type 0 where
   pub input : List ℕ
   pub given : IsInputOf known input
   pub ending : IsPromptEnding groups file input ended before after

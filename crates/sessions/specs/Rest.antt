@@ -4,7 +4,7 @@ use Rattle.scenario_image.specs.declared.parts.ScenarioParts.{ScenarioParts}
 use Rattle.debug_session.specs.Input.{command_lines}
 use Rattle.debug_session.specs.Prompt.{at_prompt}
 use Rattle.debug_session.specs.Sessions.{IsEnding as IsCommandsEnding}
-use Rattle.debug_session.specs.declared.session.SessionFault.TheVariants.{NoMemory as commands_NoMemory, OutputFailed}
+use Rattle.debug_session.specs.declared.session.DialogueFault.TheVariants.{NoMemory as commands_NoMemory, OutputFailed}
 use Rattle.sessions.specs.declared.debug.Commands.{Commands}
 use Rattle.sessions.specs.declared.fault.SessionFault.{SessionFault}
 use Rattle.sessions.specs.declared.fault.SessionFault.TheVariants.{ReadFailed, WriteFailed, NoMemory}
@@ -16,7 +16,7 @@ use Rattle.command_line.specs.declared.subcommand.Task.{Task}
 use Rattle.command_line.specs.declared.subcommand.Task.TheVariants.{Scenario, Debug}
 use Rattle.sessions.specs.declared.workers.WindowRun.{WindowRun}
 use Rattle.sessions.specs.Debug.{IsDebugSession}
-use Rattle.sessions.specs.Ended.{Ended, IsRunOutput, reads_after, writes_after}
+use Rattle.sessions.specs.Ended.{SessionEnded, IsRunOutput, reads_after, writes_after}
 use Rattle.sessions.specs.Prompt.{IsPromptOver, IsTypedSession}
 use Rattle.sessions.specs.Session.{IsSession}
 use Rattle.sessions.specs.Streams.{Streams}
@@ -35,39 +35,39 @@ pub record IsLeft (run : WindowRun) : Type 0 where
   pub several : 1 < run.workers
 
 -- what was begun has ended so, or a run is left and nothing else, and whatever end that has is an end of the whole
-abbrev pub BeginsRun : (Ended → Option (List ℕ) → Type 0) → Result Rest SessionFault → Option (List ℕ) → Type 0
+abbrev pub BeginsRun : (SessionEnded → Option (List ℕ) → Type 0) → Result Rest SessionFault → Option (List ℕ) → Type 0
 BeginsRun IsEnd (Err fault) now = IsEnd (Err fault) now
 BeginsRun IsEnd (Ok Nothing) now = IsEnd (Ok tt) now
 BeginsRun IsEnd (Ok (Shared run)) now =
-    IsLeft run × ((ended : Ended) (after : Option (List ℕ)) → Writes (IsRunOutput run.engine.net.state ended) now after → IsEnd ended after)
+    IsLeft run × ((ended : SessionEnded) (after : Option (List ℕ)) → Writes (IsRunOutput run.engine.net.state ended) now after → IsEnd ended after)
 BeginsRun IsEnd (Ok _) now = ⊥
 
 -- what ended so has nothing left
-abbrev pub nothing_left : Ended → Result Rest SessionFault
+abbrev pub nothing_left : SessionEnded → Result Rest SessionFault
 nothing_left (Ok done) = Ok Nothing
 nothing_left (Err fault) = Err fault
 
 -- what the commands behind a text have put out where they ended so
-abbrev pub AreAnswered : ScenarioParts → List (List ℕ) → Ended → List ℕ → Type 0
+abbrev pub AreAnswered : ScenarioParts → List (List ℕ) → SessionEnded → List ℕ → Type 0
 AreAnswered p lines (Ok done) out = IsCommandsEnding p lines (Ok tt) out
 AreAnswered p lines (Err NoMemory) out = IsCommandsEnding p lines (Err commands_NoMemory) out
 AreAnswered p lines (Err WriteFailed) out = IsCommandsEnding p lines (Err OutputFailed) out
 AreAnswered p lines _ out = ⊥
 
 -- what was left ended so and has written this, and the reader was left alone
-pub record HasWritten (IsMade : Ended → List ℕ → Type 0) (ended : Ended) (now after : Streams) : Type 0 where
+pub record HasWritten (IsMade : SessionEnded → List ℕ → Type 0) (ended : SessionEnded) (now after : Streams) : Type 0 where
   pub output : Writes (IsMade ended) now.written after.written
   pub reads : after.read_failures ≡ now.read_failures
   pub writes : after.write_failures ≡ writes_after ended now.write_failures
 
 -- lines were typed, from where a prompt stands
-pub record WasTyped (prompt : Prompt) (ended : Ended) (now after : Streams) : Type 0 where
+pub record WasTyped (prompt : Prompt) (ended : SessionEnded) (now after : Streams) : Type 0 where
   pub session : IsTypedSession prompt.limits prompt.dialogue.debugger.start (at_prompt prompt.dialogue) ended now after
   pub reads : after.read_failures ≡ reads_after ended now.read_failures
   pub writes : after.write_failures ≡ writes_after ended now.write_failures
 
 -- what is left ended so
-abbrev pub RestEnds : Rest → Ended → Streams → Streams → Type 0
+abbrev pub RestEnds : Rest → SessionEnded → Streams → Streams → Type 0
 RestEnds Nothing ended now after = (ended ≡ Ok tt) × (after ≡ now)
 RestEnds (Shared run) ended now after = HasWritten (IsRunOutput run.engine.net.state) ended now after
 RestEnds (Listed commands) ended now after = HasWritten (AreAnswered commands.scenario (command_lines commands.input.items)) ended now after
@@ -92,37 +92,37 @@ IsReady (Listed commands) = AreLeft commands
 IsReady (Typed prompt) = 65536 < length prompt.room.items
 
 -- what was begun has ended so, or something is left, and whatever end that has is an end of the whole
-abbrev pub Begins : (Ended → Streams → Type 0) → Result Rest SessionFault → Streams → Type 0
-Begins IsEnd (Err fault) now = IsEnd (Err fault) now
-Begins IsEnd (Ok rest) now = IsReady rest × ((ended : Ended) (after : Streams) → RestEnds rest ended now after → IsEnd ended after)
+abbrev pub BeginsSession : (SessionEnded → Streams → Type 0) → Result Rest SessionFault → Streams → Type 0
+BeginsSession IsEnd (Err fault) now = IsEnd (Err fault) now
+BeginsSession IsEnd (Ok rest) now = IsReady rest × ((ended : SessionEnded) (after : Streams) → RestEnds rest ended now after → IsEnd ended after)
 
 -- these streams, with a writer as it is then
 abbrev pub written_by : {W : Type 0} → (W → ℕ) → (W → Option (List ℕ)) → Streams → W → Streams
 written_by failures contents now writer = record { read_failures = now.read_failures; typed = now.typed; write_failures = failures writer; written = contents writer }
 
 -- a session on an input that was read, which reads no more
-abbrev pub IsReadSession : Subcommand → List ℕ → Option (List ℕ) → Ended → Option (List ℕ) → Type 0
+abbrev pub IsReadSession : Subcommand → List ℕ → Option (List ℕ) → SessionEnded → Option (List ℕ) → Type 0
 IsReadSession subcommand input old ended new = IsSession subcommand input ended old new × (ended ≢ Err ReadFailed)
 
 -- a session of this kind on an input that was read ended so: it read no more, and the writer failed just where it ended for that
-pub record IsDone (IsOn : Ended → Option (List ℕ) → Option (List ℕ) → Type 0) (now : Streams) (ended : Ended) (after : Streams) : Type 0 where
+pub record SessionIsDone (IsOn : SessionEnded → Option (List ℕ) → Option (List ℕ) → Type 0) (now : Streams) (ended : SessionEnded) (after : Streams) : Type 0 where
   pub session : IsOn ended now.written after.written
   pub no_read : ended ≢ Err ReadFailed
   pub reads : after.read_failures ≡ now.read_failures
   pub writes : after.write_failures ≡ writes_after ended now.write_failures
 
 -- a session at a prompt over an input that was read ended so
-pub record IsPromptDone (groups input : List ℕ) (now : Streams) (ended : Ended) (after : Streams) : Type 0 where
+pub record IsPromptDone (groups input : List ℕ) (now : Streams) (ended : SessionEnded) (after : Streams) : Type 0 where
   pub over : IsPromptOver groups input ended now after
   pub reads : after.read_failures ≡ reads_after ended now.read_failures
   pub writes : after.write_failures ≡ writes_after ended now.write_failures
 
 -- a debugging session on an input that was read, of the reader or of a file
-abbrev pub IsDebugWith : List ℕ → Option (List ℕ) → List ℕ → Streams → Ended → Streams → Type 0
-IsDebugWith groups None input now = IsDone (IsDebugSession groups input) now
+abbrev pub IsDebugWith : List ℕ → Option (List ℕ) → List ℕ → Streams → SessionEnded → Streams → Type 0
+IsDebugWith groups None input now = SessionIsDone (IsDebugSession groups input) now
 IsDebugWith groups (Some file) input now = IsPromptDone groups input now
 
 -- a task on an input that was read, of the reader or of a file
-abbrev pub IsTaskWith : Task → Option (List ℕ) → List ℕ → Streams → Ended → Streams → Type 0
-IsTaskWith (Scenario subcommand) file input now = IsDone (IsSession subcommand input) now
+abbrev pub IsTaskWith : Task → Option (List ℕ) → List ℕ → Streams → SessionEnded → Streams → Type 0
+IsTaskWith (Scenario subcommand) file input now = SessionIsDone (IsSession subcommand input) now
 IsTaskWith (Debug sharing) file input now = IsDebugWith sharing.groups file input now

@@ -9,7 +9,7 @@ use Rattle.sessions.specs.declared.fault.SessionFault.{SessionFault}
 use Rattle.sessions.specs.declared.fault.SessionFault.TheVariants.{NoMemory, WriteFailed}
 use Rattle.sessions.specs.Written.{Writes, WritesBefore, IsBeginningOf}
 use Rattle.sessions.specs.Trace.{lines_bytes, IsTraceOrStart}
-use Rattle.sessions.specs.Ended.{Ended, IsRunOutput, writes_after}
+use Rattle.sessions.specs.Ended.{SessionEnded, IsRunOutput, writes_after}
 
 -- a net that started in this state has made these bytes
 pub record IsAt (s : State) (net : Reached) (made : List ℕ) : Type 0 where
@@ -23,7 +23,7 @@ abbrev pub Made : State → Reached → List ℕ → Option (List ℕ) → Optio
 Made s net page old new = WritesBefore page (IsAt s net) old new
 
 -- a run has ended so: but for a writer that failed, what was made was written, or waits
-pub record HasEnded (s : State) (page : List ℕ) (old new : Option (List ℕ)) (failed failures : ℕ) (ended : Ended) : Type 0 where
+pub record HasEnded (s : State) (page : List ℕ) (old new : Option (List ℕ)) (failed failures : ℕ) (ended : SessionEnded) : Type 0 where
   pub made : ended ≢ Err WriteFailed → WritesBefore page (IsRunOutput s ended) old new
   pub failed_then : ended ≡ Err WriteFailed → Writes (IsBeginningOf (IsTraceOrStart s)) old new
   pub failures_are : failures ≡ writes_after ended failed

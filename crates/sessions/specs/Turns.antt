@@ -3,7 +3,7 @@ use Rattle.std.specs.Prelude.{◌≡◌, ℕ, true, false, List, [], ◌∷◌, 
 use Rattle.std.specs.Io.KnownBytes.{Appends}
 use Rattle.table_run.specs.State.{State}
 use Rattle.debug_session.specs.declared.command.Limits.{Limits}
-use Rattle.debug_session.specs.Prompt.{Ask, AtPrompt, Typed, TypedAnswers, IsTypedOut, is_quit, put_out}
+use Rattle.debug_session.specs.Prompt.{Ask, AtPrompt, Typed, TypedAnswers, IsTypedOut, is_quit, answer_out}
 use Rattle.sessions.specs.declared.fault.SessionFault.{SessionFault}
 use Rattle.sessions.specs.declared.fault.SessionFault.TheVariants.{ReadFailed, WriteFailed}
 use Rattle.sessions.specs.declared.prompt.Turn.{Turn}
@@ -23,7 +23,7 @@ pub record IsAnswered (limits : Limits) (start : State) (old new : AtPrompt) (be
   pub goes_on : is_quit ask.line ≡ false
   pub said : List ℕ
   pub answers : TypedAnswers limits start ask.line old new said
-  pub put : Appends before.written after.written (put_out said)
+  pub put : Appends before.written after.written (answer_out said)
 
 -- or the writer failed over the answer
 pub record IsCutOff (limits : Limits) (start : State) (old new : AtPrompt) (before after : Streams) : Type 0 where
@@ -32,7 +32,7 @@ pub record IsCutOff (limits : Limits) (start : State) (old new : AtPrompt) (befo
   pub goes_on : is_quit ask.line ≡ false
   pub said : List ℕ
   pub answers : TypedAnswers limits start ask.line old new said
-  pub put : Writes (IsBeginningOf (λ all. all ≡ put_out said)) before.written after.written
+  pub put : Writes (IsBeginningOf (λ all. all ≡ answer_out said)) before.written after.written
 
 -- the line is `quit`
 pub record IsQuitting (old new : AtPrompt) (before after : Streams) : Type 0 where

@@ -11,7 +11,7 @@ use Rattle.window_engine.specs.declared.fault.EngineFault.TheVariants.{CountFull
 use Rattle.window_engine.specs.declared.fault.Stop.{Stop}
 use Rattle.window_engine.specs.Engines.{EngineValue, IsStop}
 use Rattle.window_engine.specs.Puts.{TakesFirst}
-use Rattle.sessions.specs.Ended.{Ended}
+use Rattle.sessions.specs.Ended.{SessionEnded}
 use Rattle.sessions.specs.Faults.{of_engine}
 use Rattle.sessions.specs.Output.{IsAllOrNothing}
 use Rattle.sessions.specs.Trace.{lines_bytes}
@@ -44,6 +44,6 @@ pub record HasRun (s : State) (end : ℕ) (r : Result Stop EngineFault) (engine 
   pub end_is : s.end ≡ end
 
 -- a run of so many events that came to this was ended: its last line was written, or nothing where it had a fault
-abbrev pub EndsRun : Result Stop EngineFault → ℕ → Ended → Option (List ℕ) → Option (List ℕ) → Type 0
+abbrev pub EndsRun : Result Stop EngineFault → ℕ → SessionEnded → Option (List ℕ) → Option (List ℕ) → Type 0
 EndsRun (Ok stop) events ended old new = Writes (IsAllOrNothing (end_bytes events) ended) old new
 EndsRun (Err fault) events ended old new = (ended ≡ Err (of_engine fault)) × (new ≡ old)

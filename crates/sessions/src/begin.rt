@@ -3,10 +3,10 @@
 ghost use Rattle.std.specs.Prelude.{◌≡◌};
 ghost use Rattle.sessions.specs.Asked.{IsAskedOn};
 ghost use Rattle.sessions.specs.Ended.{writes_after};
-ghost use Rattle.sessions.specs.Input.{HasScenario};
-ghost use Rattle.sessions.specs.Named.{IsOver};
+ghost use Rattle.sessions.specs.Input.{InputHasScenario};
+ghost use Rattle.sessions.specs.Named.{IsTaskOver};
 ghost use Rattle.sessions.specs.Output.{IsOutput};
-ghost use Rattle.sessions.specs.Rest.{Begins, BeginsRun, IsDebugWith, IsDone, IsReadSession, IsTaskWith, written_by};
+ghost use Rattle.sessions.specs.Rest.{BeginsSession, BeginsRun, IsDebugWith, SessionIsDone, IsReadSession, IsTaskWith, written_by};
 ghost use Rattle.sessions.specs.Session.{IsSession, IsWithin};
 ghost use Rattle.sessions.specs.Streams.{Streams, streams_of};
 ghost use Rattle.sessions.specs.Written.{Writes};
@@ -21,7 +21,7 @@ use crate::means::Means;
 use crate::prompt::begin_prompt;
 use crate::rest::{Rest, nothing_left};
 use crate::run::begin_run;
-use crate::scenario_input::told_scenario;
+use crate::scenario_input::reported_scenario;
 use crate::source::Source;
 use crate::why::tell_why;
 use command_line::notes::Notes;
@@ -40,7 +40,7 @@ fn begin_output<W: Sink, N: Notes>(
     writer: &mut W,
     notes: &mut N,
 ) -> Result<Rest, SessionFault>
-    requires { HasScenario input.now scenario.now }
+    requires { InputHasScenario input.now scenario.now }
     ensures output { BeginsRun (λ ended after. Writes (IsOutput subcommand.entry input.now scenario.now ended) (W.contents writer.old) after) result (W.contents writer.new) }
     ensures failures { W.failures writer.new ≡ writes_after result (W.failures writer.old) }
 {
@@ -66,7 +66,7 @@ fn begin_bytes<W: Sink, N: Notes>(
     ensures session { BeginsRun (IsReadSession subcommand.entry input.now (W.contents writer.old)) result (W.contents writer.new) }
     ensures failures { W.failures writer.new ≡ writes_after result (W.failures writer.old) }
 {
-    let scenario = told_scenario(means, input, notes)?;
+    let scenario = reported_scenario(means, input, notes)?;
     begin_output(means, subcommand, input, &scenario, writer, notes)
 }
 
@@ -79,7 +79,7 @@ fn begin_subcommand<W: Sink, N: Notes>(
     notes: &mut N,
 ) -> Result<Rest, SessionFault>
     requires { IsWithin input.now }
-    ensures { (now : Streams) → let at = written_by W.failures W.contents now in Begins (IsDone (IsSession subcommand.entry input.now) (at writer.old)) result (at writer.new) }
+    ensures { (now : Streams) → let at = written_by W.failures W.contents now in BeginsSession (SessionIsDone (IsSession subcommand.entry input.now) (at writer.old)) result (at writer.new) }
 {
     begin_bytes(means, subcommand, input, writer, notes)
 }
@@ -95,7 +95,7 @@ fn begin_debug<W: Sink, N: Notes>(
     notes: &mut N,
 ) -> Result<Rest, SessionFault>
     requires { IsWithin input.items }
-    ensures { (now : Streams) → let at = written_by W.failures W.contents now in Begins (IsDebugWith sharing.now.groups file.now input.items (at writer.old)) result (at writer.new) }
+    ensures { (now : Streams) → let at = written_by W.failures W.contents now in BeginsSession (IsDebugWith sharing.now.groups file.now input.items (at writer.old)) result (at writer.new) }
 {
     match file.get() {
         Some(_) => begin_prompt(means, sharing, input.as_slice(), notes),
@@ -113,7 +113,7 @@ fn begin_task<W: Sink, N: Notes>(
     notes: &mut N,
 ) -> Result<Rest, SessionFault>
     requires { IsWithin input.items }
-    ensures { (now : Streams) → let at = written_by W.failures W.contents now in Begins (IsTaskWith task.entry file.now input.items (at writer.old)) result (at writer.new) }
+    ensures { (now : Streams) → let at = written_by W.failures W.contents now in BeginsSession (IsTaskWith task.entry file.now input.items (at writer.old)) result (at writer.new) }
 {
     match task {
         Task::Scenario(subcommand) => {
@@ -132,7 +132,7 @@ fn begin_named<R: Source, W: Sink, N: Notes>(
     writer: &mut W,
     notes: &mut N,
 ) -> Result<Rest, SessionFault>
-    ensures { let seen = streams_of R.failures R.typed W.failures W.contents in Begins (λ ended after. IsOver task.entry file.now (R.remaining reader.old) (R.bytes_of reader.old) ended (seen reader.old writer.old) after) result (seen reader.new writer.new) }
+    ensures { let seen = streams_of R.failures R.typed W.failures W.contents in BeginsSession (λ ended after. IsTaskOver task.entry file.now (R.remaining reader.old) (R.bytes_of reader.old) ended (seen reader.old writer.old) after) result (seen reader.new writer.new) }
 {
     let read = read_named(means.alloc, file, reader);
     if let Err(fault) = &read {
@@ -166,7 +166,7 @@ pub(crate) fn begin<R: Source, W: Sink, N: Notes>(
     writer: &mut W,
     notes: &mut N,
 ) -> Result<Rest, SessionFault>
-    ensures { let seen = streams_of R.failures R.typed W.failures W.contents in Begins (λ ended after. IsAskedOn asked.entry (R.remaining reader.old) (R.bytes_of reader.old) ended (seen reader.old writer.old) after) result (seen reader.new writer.new) }
+    ensures { let seen = streams_of R.failures R.typed W.failures W.contents in BeginsSession (λ ended after. IsAskedOn asked.entry (R.remaining reader.old) (R.bytes_of reader.old) ended (seen reader.old writer.old) after) result (seen reader.new writer.new) }
 {
     match asked {
         Asked::Session(task, word, wishes) => {

@@ -37,15 +37,19 @@ impl Counter {
     ghost use Rattle.figures_text.specs.Steps.{IsGoingOn};
     ghost use Rattle.sessions.specs.FiguresOutput.{AreCounted, HasCome, IsOpenedRun, IsStepBegun, IsCountFault};
 
-    /// The opening of a scenario's run, of which nothing is counted. It tells how far it is where that is wanted.
-    pub(crate) fn new(alloc: Global, told: bool, scenario: &Scenario) -> Result<Counter, AllocError>
+    /// The initial state of a scenario's run, of which nothing is counted. It tells how far it is where that is wanted.
+    pub(crate) fn new(
+        alloc: Global,
+        reported: bool,
+        scenario: &Scenario,
+    ) -> Result<Counter, AllocError>
         ensures opened { IfOk result (λ counter. IsOpenedRun scenario.now counter.figures counter.net) }
         ensures some { IfOk result (λ counter. AreOfSomeRun counter.figures counter.net) }
     {
         let _parts = scenario.parts();
         let net = Net::new(alloc, scenario)?;
         let figures = Figures::new(alloc, &net)?;
-        let progress = Progress::new(told, net.end());
+        let progress = Progress::new(reported, net.end());
         Ok(Counter {
             alloc,
             net,

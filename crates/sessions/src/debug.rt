@@ -3,8 +3,8 @@ ghost use Rattle.std.specs.Prelude.{◌≡◌};
 ghost use Rattle.debug_session.specs.Input.{command_lines};
 ghost use Rattle.sessions.specs.Debug.{IsDebugSession, IsDebugSessionOn};
 ghost use Rattle.sessions.specs.Ended.{writes_after};
-ghost use Rattle.sessions.specs.Rest.{AreAnswered, AreReady, Begins, IsDone, written_by};
-ghost use Rattle.sessions.specs.Session.{IsWithin, Tells};
+ghost use Rattle.sessions.specs.Rest.{AreAnswered, AreReady, BeginsSession, SessionIsDone, written_by};
+ghost use Rattle.sessions.specs.Session.{IsWithin, OutcomeTells};
 ghost use Rattle.sessions.specs.Streams.{Streams, streams_of};
 ghost use Rattle.sessions.specs.Written.{Writes};
 
@@ -13,7 +13,7 @@ use crate::means::Means;
 use crate::outcome::Outcome;
 use crate::rest::{Rest, nothing_left};
 use crate::run::{groups_to_debug, is_alone};
-use crate::scenario_input::told_text;
+use crate::scenario_input::reported_text;
 use crate::session::run_task;
 use crate::source::Source;
 use command_line::notes::Notes;
@@ -50,10 +50,10 @@ pub(crate) fn begin_commands<W: Sink, N: Notes>(
     notes: &mut N,
 ) -> Result<Rest, SessionFault>
     requires { IsWithin input.items }
-    ensures { (now : Streams) → let at = written_by W.failures W.contents now in Begins (IsDone (IsDebugSession sharing.now.groups input.items) (at writer.old)) result (at writer.new) }
+    ensures { (now : Streams) → let at = written_by W.failures W.contents now in BeginsSession (SessionIsDone (IsDebugSession sharing.now.groups input.items) (at writer.old)) result (at writer.new) }
 {
     let (text, _commands) = split(input.as_slice());
-    let scenario = told_text(means, text, notes)?;
+    let scenario = reported_text(means, text, notes)?;
     let partition = groups_to_debug(means, sharing, &scenario, notes)?;
     let workers = sharing.workers();
     let commands = Commands {
@@ -109,7 +109,7 @@ pub fn run_debug<R: Source, W: Sink, H: Threads + Wait + Sync>(
     reader: &mut R,
     writer: &mut W,
 ) -> Outcome
-    ensures { let seen = streams_of R.failures R.typed W.failures W.contents in Tells result (λ ended. IsDebugSessionOn sharing.now.groups (R.remaining reader.old) ended (seen reader.old writer.old) (seen reader.new writer.new)) }
+    ensures { let seen = streams_of R.failures R.typed W.failures W.contents in OutcomeTells result (λ ended. IsDebugSessionOn sharing.now.groups (R.remaining reader.old) ended (seen reader.old writer.old) (seen reader.new writer.new)) }
 {
     let same = Sharing::new(sharing.workers(), sharing.groups());
     run_task(rt, alloc, Task::Debug(same), gate, reader, writer)

@@ -177,15 +177,15 @@ impl From<EngineFault> for SessionFault {
     }
 }
 
-impl From<debug_session::SessionFault> for SessionFault {
+impl From<debug_session::DialogueFault> for SessionFault {
     ghost use Rattle.sessions.specs.Faults.{of_commands};
 
     ghost from_gives = { λ fault e. e ≡ of_commands fault };
 
-    fn from(fault: debug_session::SessionFault) -> SessionFault {
+    fn from(fault: debug_session::DialogueFault) -> SessionFault {
         match fault {
-            debug_session::SessionFault::NoMemory => SessionFault::NoMemory,
-            debug_session::SessionFault::OutputFailed => SessionFault::WriteFailed,
+            debug_session::DialogueFault::NoMemory => SessionFault::NoMemory,
+            debug_session::DialogueFault::OutputFailed => SessionFault::WriteFailed,
         }
     }
 }

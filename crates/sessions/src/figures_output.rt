@@ -3,7 +3,7 @@ ghost use Rattle.std.specs.Prelude.{◌≡◌};
 ghost use Rattle.sessions.specs.Ended.{writes_after};
 ghost use Rattle.sessions.specs.FiguresOutput.{IsFiguresOutput, IsPlannedOutput};
 ghost use Rattle.sessions.specs.FiguresPlan.{IsSoundPlan};
-ghost use Rattle.sessions.specs.Input.{HasScenario};
+ghost use Rattle.sessions.specs.Input.{InputHasScenario};
 ghost use Rattle.sessions.specs.Written.{Writes};
 
 use crate::fault::SessionFault;
@@ -11,7 +11,7 @@ use crate::figures_plan::{FiguresPlan, plan_of};
 use crate::figures_table::put_table;
 use crate::means::Means;
 use crate::name_column::column_of;
-use crate::series::{Pace, put_series};
+use crate::series::{RowSteps, put_series};
 use command_line::notes::Notes;
 use command_line::subcommand::Counting;
 use figures_text::NameColumn;
@@ -34,11 +34,25 @@ fn put_planned<W: Sink, N: Notes>(
     match plan {
         FiguresPlan::Table(from) => put_table(means, column, from, scenario, writer, notes),
         FiguresPlan::Series(from, every) => {
-            put_series(means, column, Pace { from, every }, scenario, writer, notes)
+            put_series(
+                means,
+                column,
+                RowSteps { from, every },
+                scenario,
+                writer,
+                notes,
+            )
         }
         FiguresPlan::Both(from, every) => {
             put_table(means, column, from, scenario, writer, notes)?;
-            put_series(means, column, Pace { from, every }, scenario, writer, notes)
+            put_series(
+                means,
+                column,
+                RowSteps { from, every },
+                scenario,
+                writer,
+                notes,
+            )
         }
     }
 }
@@ -52,7 +66,7 @@ pub(crate) fn put_figures<W: Sink, N: Notes>(
     writer: &mut W,
     notes: &mut N,
 ) -> Result<(), SessionFault>
-    requires { HasScenario input.now scenario.now }
+    requires { InputHasScenario input.now scenario.now }
     ensures output { Writes (IsFiguresOutput counting.now input.now scenario.now result) (W.contents writer.old) (W.contents writer.new) }
     ensures failures { W.failures writer.new ≡ writes_after result (W.failures writer.old) }
 {

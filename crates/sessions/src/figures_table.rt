@@ -19,7 +19,7 @@ use sim_time::Time;
 use window_engine::Sink;
 
 /// Runs it to its end, and counts from a moment on.
-fn count_told<N: Notes>(
+fn count_reported<N: Notes>(
     counter: &mut Counter,
     moment: Time,
     notes: &mut N,
@@ -49,7 +49,7 @@ fn table_from<N: Notes>(
     ensures faults { IfErr result (IsRunFault scenario.now) }
 {
     let mut counter = Counter::new(means.alloc, means.wishes.progress, scenario)?;
-    count_told(&mut counter, moment, notes)?;
+    count_reported(&mut counter, moment, notes)?;
     let text = run_text(
         means.alloc,
         column,

@@ -17,7 +17,7 @@ pub(crate) struct Means<'m> {
 
 /// What is done with several workers, or by commands, is done with.
 #[derive(Drop)]
-pub(crate) struct Crew<'m, H> {
+pub(crate) struct SessionTools<'m, H> {
     /// Where memory is taken.
     pub alloc: Global,
     /// Where threads are started, and waited for.

@@ -2,7 +2,7 @@
 ghost use Rattle.std.specs.Prelude.{◌≡◌, false, IfOk};
 ghost use Rattle.scenario_image.specs.declared.parts.ScenarioParts.{ScenarioParts};
 ghost use Rattle.scenario_asm.specs.Meaning.{MeansScenario};
-ghost use Rattle.sessions.specs.Input.{HasScenario, is_image};
+ghost use Rattle.sessions.specs.Input.{InputHasScenario, is_image};
 ghost use Rattle.sessions.specs.NameColumns.{IsTextColumn, IsColumnOf};
 
 use figures_text::NameColumn;
@@ -26,7 +26,7 @@ pub(crate) fn column_of<'a>(
     wished: bool,
     input: &'a [u8],
 ) -> Result<NameColumn<'a>, AllocError>
-    requires { (p : ScenarioParts) × HasScenario input.now p }
+    requires { (p : ScenarioParts) × InputHasScenario input.now p }
     ensures { IfOk result (IsColumnOf wished input.now) }
 {
     if !wished {

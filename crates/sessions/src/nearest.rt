@@ -4,7 +4,7 @@ ghost use Rattle.sessions.specs.Nearest.{IsNearest, nearer, spelling, with_edits
 
 use command_line::notes::Notes;
 use command_line::reasons::shown_bytes;
-use debug_session::Name;
+use debug_session::CommandName;
 use std::alloc::{AllocError, Global};
 use strsim::generic_levenshtein;
 
@@ -12,58 +12,58 @@ use strsim::generic_levenshtein;
 const MOST_WORD: usize = 32;
 
 /// The names, in the order in which a word that begins several of them is read.
-const NAMES: [Name; 16] = [
-    Name::Step,
-    Name::Back,
-    Name::Break,
-    Name::Breaks,
-    Name::Run,
-    Name::Reverse,
-    Name::Until,
-    Name::State,
-    Name::Lines,
-    Name::Delete,
-    Name::Clear,
-    Name::Help,
-    Name::Quit,
-    Name::Why,
-    Name::Goto,
-    Name::Where,
+const NAMES: [CommandName; 16] = [
+    CommandName::Step,
+    CommandName::Back,
+    CommandName::Break,
+    CommandName::Breaks,
+    CommandName::Run,
+    CommandName::Reverse,
+    CommandName::Until,
+    CommandName::State,
+    CommandName::Lines,
+    CommandName::Delete,
+    CommandName::Clear,
+    CommandName::Help,
+    CommandName::Quit,
+    CommandName::Why,
+    CommandName::Goto,
+    CommandName::Where,
 ];
 
 /// How a name is spelled.
-fn spelling(name: Name) -> &'static str
+fn spelling(name: CommandName) -> &'static str
     ensures { result.now ≡ spelling name }
 {
     match name {
-        Name::Step => "step",
-        Name::Back => "back",
-        Name::Break => "break",
-        Name::Breaks => "breaks",
-        Name::Run => "run",
-        Name::Reverse => "reverse",
-        Name::Until => "until",
-        Name::State => "state",
-        Name::Lines => "lines",
-        Name::Delete => "delete",
-        Name::Clear => "clear",
-        Name::Help => "help",
-        Name::Quit => "quit",
-        Name::Why => "why",
-        Name::Goto => "goto",
-        Name::Where => "where",
+        CommandName::Step => "step",
+        CommandName::Back => "back",
+        CommandName::Break => "break",
+        CommandName::Breaks => "breaks",
+        CommandName::Run => "run",
+        CommandName::Reverse => "reverse",
+        CommandName::Until => "until",
+        CommandName::State => "state",
+        CommandName::Lines => "lines",
+        CommandName::Delete => "delete",
+        CommandName::Clear => "clear",
+        CommandName::Help => "help",
+        CommandName::Quit => "quit",
+        CommandName::Why => "why",
+        CommandName::Goto => "goto",
+        CommandName::Where => "where",
     }
 }
 
 /// A name, and how many edits lead to it from a word.
 #[derive(Clone, Copy)]
 struct Near {
-    name: Name,
+    name: CommandName,
     edits: usize,
 }
 
 /// A name, with the edits that lead to it from a word.
-fn with_edits(alloc: Global, word: &[u8], name: Name) -> Result<Near, AllocError>
+fn with_edits(alloc: Global, word: &[u8], name: CommandName) -> Result<Near, AllocError>
     ensures { IfOk result (λ found. found ≡ with_edits word.now name) }
 {
     let edits = generic_levenshtein(alloc, word, spelling(name).as_bytes())?;
@@ -87,7 +87,7 @@ fn nearer(best: Option<Near>, next: Near) -> Near
 }
 
 /// The nearest of names to a word, the first of those that are as near.
-fn nearest(alloc: Global, names: &[Name], word: &[u8]) -> Result<Option<Near>, AllocError>
+fn nearest(alloc: Global, names: &[CommandName], word: &[u8]) -> Result<Option<Near>, AllocError>
     ensures { IfOk result (λ found. MatchOption found (names.now ≡ []) (IsNearest word.now names.now)) }
 {
     let mut best = None;
@@ -113,7 +113,7 @@ pub(crate) fn first_word(line: &[u8]) -> &[u8] {
 }
 
 /// The first name that a word begins.
-fn name_begun(word: &[u8]) -> Option<Name> {
+fn name_begun(word: &[u8]) -> Option<CommandName> {
     for name in &NAMES {
         if spelling(*name).as_bytes().starts_with(word) {
             return Some(*name);
@@ -123,7 +123,7 @@ fn name_begun(word: &[u8]) -> Option<Name> {
 }
 
 /// The command whose name the first word of a line begins.
-pub(crate) fn command_begun(line: &[u8]) -> Option<Name> {
+pub(crate) fn command_begun(line: &[u8]) -> Option<CommandName> {
     name_begun(first_word(line))
 }
 

@@ -1,14 +1,14 @@
 //! A debugging session at a prompt: the scenario is a file's, and commands are typed, one a line.
 ghost use Rattle.std.specs.Prelude.{◌≡◌, ◌<◌, ◌≤◌, false, length, IfOk, OnOk, OnErr};
 ghost use Rattle.std.specs.Io.KnownBytes.{Appends};
-ghost use Rattle.table_run.specs.State.{opening};
-ghost use Rattle.debugger.specs.Debugging.{opened};
-ghost use Rattle.debug_session.specs.Prompt.{TypedAnswers, at_prompt, is_quit, put_out};
+ghost use Rattle.table_run.specs.State.{initial};
+ghost use Rattle.debugger.specs.Debugging.{debugging_opened};
+ghost use Rattle.debug_session.specs.Prompt.{TypedAnswers, at_prompt, is_quit, answer_out};
 ghost use Rattle.debug_session.specs.Memos.{no_memo};
 ghost use Rattle.debug_session.specs.Sessions.{limits_of};
 ghost use Rattle.sessions.specs.Ended.{writes_after, reads_after};
 ghost use Rattle.sessions.specs.Prompt.{IsTypedSession};
-ghost use Rattle.sessions.specs.Rest.{Begins, IsPromptDone, WasTyped};
+ghost use Rattle.sessions.specs.Rest.{BeginsSession, IsPromptDone, WasTyped};
 ghost use Rattle.sessions.specs.Session.{IsWithin};
 ghost use Rattle.sessions.specs.Streams.{Streams, streams_of};
 ghost use Rattle.sessions.specs.Turns.{IsTurn};
@@ -16,12 +16,12 @@ ghost use Rattle.sessions.specs.Written.{Writes, IsBeginningOf};
 ghost use Rattle.window_engine.specs.Failures.{failures_after};
 
 use crate::fault::SessionFault;
-use crate::means::{Crew, Means};
+use crate::means::{Means, SessionTools};
 use crate::output::put_all;
 use crate::refused_line::tell_refused;
 use crate::rest::Rest;
 use crate::run::{groups_to_debug, is_alone};
-use crate::scenario_input::told_scenario;
+use crate::scenario_input::reported_scenario;
 use crate::source::Source;
 use command_line::notes::Notes;
 use command_line::sharing::Sharing;
@@ -54,8 +54,8 @@ fn put_answer<W: Sink, N: Notes>(
     writer: &mut W,
     notes: &mut N,
 ) -> Result<(), SinkFail>
-    ensures ok { OnOk result (Appends (W.contents writer.old) (W.contents writer.new) (put_out said.now)) }
-    ensures err { OnErr result (Writes (IsBeginningOf (λ all. all ≡ put_out said.now)) (W.contents writer.old) (W.contents writer.new)) }
+    ensures ok { OnOk result (Appends (W.contents writer.old) (W.contents writer.new) (answer_out said.now)) }
+    ensures err { OnErr result (Writes (IsBeginningOf (λ all. all ≡ answer_out said.now)) (W.contents writer.old) (W.contents writer.new)) }
     ensures failures { W.failures writer.new ≡ failures_after result (W.failures writer.old) }
 {
     if is_refusal(said.as_slice()) {
@@ -67,7 +67,7 @@ fn put_answer<W: Sink, N: Notes>(
 
 /// Answers a line: by the calling thread, where that alone moves, and else by workers.
 fn answer_line<H: Threads + Wait + Sync>(
-    crew: &Crew<H>,
+    tools: &SessionTools<H>,
     dialogue: &mut Dialogue,
     limits: Limits,
     line: &[u8],
@@ -76,17 +76,17 @@ fn answer_line<H: Threads + Wait + Sync>(
     ensures answers { is_quit line.now ≡ false → TypedAnswers limits dialogue.old.debugger.start line.now (at_prompt dialogue.old) (at_prompt dialogue.new) said.new }
     ensures start { dialogue.new.debugger.start ≡ dialogue.old.debugger.start }
 {
-    if crew.is_alone {
-        answer_typed(&Alone, crew.gate, dialogue, limits, line, said);
+    if tools.is_alone {
+        answer_typed(&Alone, tools.gate, dialogue, limits, line, said);
     } else {
-        let hands = Several { rt: crew.rt };
-        answer_typed(&hands, crew.gate, dialogue, limits, line, said);
+        let hands = Several { rt: tools.rt };
+        answer_typed(&hands, tools.gate, dialogue, limits, line, said);
     }
 }
 
 /// Asks for a line, and answers it.
 fn take_turn<R: Source, W: Sink, H: Threads + Wait + Sync, N: Notes>(
-    crew: &Crew<H>,
+    tools: &SessionTools<H>,
     limits: Limits,
     dialogue: &mut Dialogue,
     room: &mut [u8],
@@ -110,15 +110,15 @@ fn take_turn<R: Source, W: Sink, H: Threads + Wait + Sync, N: Notes>(
     if is_quit(line) {
         return Ok(Turn::Quit);
     }
-    answer_line(crew, dialogue, limits, line, said);
-    put_answer(crew.alloc, limits, line, said, writer, notes)?;
+    answer_line(tools, dialogue, limits, line, said);
+    put_answer(tools.alloc, limits, line, said, writer, notes)?;
     Ok(Turn::Answered)
 }
 
 /// Answers the lines that are typed, each before the next one is asked for.
 #[tactic(none)]
 fn answer_lines<R: Source, W: Sink, H: Threads + Wait + Sync, N: Notes>(
-    crew: &Crew<H>,
+    tools: &SessionTools<H>,
     limits: Limits,
     dialogue: &mut Dialogue,
     room: &mut [u8],
@@ -132,8 +132,8 @@ fn answer_lines<R: Source, W: Sink, H: Threads + Wait + Sync, N: Notes>(
     ensures reads { R.failures reader.new ≡ reads_after result (R.failures reader.old) }
     ensures writes { W.failures writer.new ≡ writes_after result (W.failures writer.old) }
 {
-    for _ in crew.rt.forever() {
-        match take_turn(crew, limits, dialogue, room, said, reader, writer, notes)? {
+    for _ in tools.rt.forever() {
+        match take_turn(tools, limits, dialogue, room, said, reader, writer, notes)? {
             Turn::Answered => {}
             Turn::Quit => return Ok(()),
             Turn::NoLine => return Ok(()),
@@ -174,7 +174,7 @@ fn open_prompt(
     requires partition { length partition ≡ length scenario.now.nodes }
     requires workers { (0 < workers) × (workers ≤ 64) }
     ensures room { IfOk result (λ prompt. 65536 < length prompt.room.items) }
-    ensures debugger { IfOk result (λ prompt. prompt.dialogue.debugger ≡ opened (opening scenario.now)) }
+    ensures debugger { IfOk result (λ prompt. prompt.dialogue.debugger ≡ debugging_opened (initial scenario.now)) }
     ensures memo { IfOk result (λ prompt. prompt.dialogue.memo ≡ no_memo) }
     ensures limits { IfOk result (λ prompt. prompt.limits ≡ limits_of scenario.now) }
 {
@@ -199,9 +199,9 @@ pub(crate) fn begin_prompt<N: Notes>(
     notes: &mut N,
 ) -> Result<Rest, SessionFault>
     requires { IsWithin input.now }
-    ensures { (now : Streams) → Begins (IsPromptDone sharing.now.groups input.now now) result now }
+    ensures { (now : Streams) → BeginsSession (IsPromptDone sharing.now.groups input.now now) result now }
 {
-    let scenario = told_scenario(means, input, notes)?;
+    let scenario = reported_scenario(means, input, notes)?;
     let partition = groups_to_debug(means, sharing, &scenario, notes)?;
     let prompt = open_prompt(means.alloc, sharing.workers(), &scenario, partition)?;
     drop(scenario);
@@ -210,7 +210,7 @@ pub(crate) fn begin_prompt<N: Notes>(
 
 /// Answers the lines that are typed at a prompt.
 pub(crate) fn answer_prompt<R: Source, W: Sink, H: Threads + Wait + Sync, N: Notes>(
-    crew: &Crew<H>,
+    tools: &SessionTools<H>,
     prompt: Prompt,
     reader: &mut R,
     writer: &mut W,
@@ -220,14 +220,14 @@ pub(crate) fn answer_prompt<R: Source, W: Sink, H: Threads + Wait + Sync, N: Not
     ensures { let seen = streams_of R.failures R.typed W.failures W.contents in WasTyped prompt result (seen reader.old writer.old) (seen reader.new writer.new) }
 {
     let mut prompt = prompt;
-    let crew = Crew {
-        alloc: crew.alloc,
-        rt: crew.rt,
-        gate: crew.gate,
+    let tools = SessionTools {
+        alloc: tools.alloc,
+        rt: tools.rt,
+        gate: tools.gate,
         is_alone: prompt.is_alone,
     };
     let ended = answer_lines(
-        &crew,
+        &tools,
         prompt.limits,
         &mut prompt.dialogue,
         prompt.room.as_mut_slice(),

@@ -3,7 +3,7 @@
 use crate::nearest::{command_begun, first_word, tell_nearest};
 use command_line::notes::{Notes, Numbers};
 use command_line::reasons::meaning_of;
-use debug_session::{Limits, Name};
+use debug_session::{CommandName, Limits};
 use std::alloc::Global;
 use std::str;
 
@@ -17,7 +17,7 @@ fn code_in(refusal: &[u8]) -> Option<&str> {
 fn has_numbers(line: &[u8]) -> bool {
     matches!(
         command_begun(line),
-        Some(Name::Break) | Some(Name::State) | Some(Name::Why)
+        Some(CommandName::Break) | Some(CommandName::State) | Some(CommandName::Why)
     )
 }
 
@@ -48,7 +48,7 @@ fn of_other_debuggers(word: &[u8]) -> Option<&'static str> {
 /// Tells what there is in the place of a line that names no command, or no sort of condition.
 fn tell_instead<N: Notes>(alloc: Global, line: &[u8], notes: &mut N) {
     match command_begun(line) {
-        Some(Name::Break) => notes.refusal_means(CONDITIONS),
+        Some(CommandName::Break) => notes.refusal_means(CONDITIONS),
         Some(_) => {}
         None => match of_other_debuggers(first_word(line)) {
             Some(advice) => notes.refusal_means(advice),
@@ -59,7 +59,7 @@ fn tell_instead<N: Notes>(alloc: Global, line: &[u8], notes: &mut N) {
 
 /// Whether a line can have a time.
 fn has_time(line: &[u8]) -> bool {
-    matches!(command_begun(line), Some(Name::Until))
+    matches!(command_begun(line), Some(CommandName::Until))
 }
 
 /// Tells that a line is refused, and what that means; where it names no command, the nearest one, or

@@ -41,7 +41,7 @@ pub(crate) fn is_alone(workers: usize, partition: &Partition) -> bool
 
 /// The groups in which the nodes of a scenario are. Tells why they are refused, where that is wished
 /// and there is memory to say it.
-pub(crate) fn told_groups<N: Notes>(
+pub(crate) fn reported_groups<N: Notes>(
     means: &Means,
     sharing: &Sharing,
     scenario: &Scenario,
@@ -74,7 +74,7 @@ pub(crate) fn groups_to_debug<N: Notes>(
     ensures nodes { IfOk result (λ partition. length partition ≡ length scenario.now.nodes) }
     ensures faults { IfErr result (LacksGroups sharing.now.groups scenario.now) }
 {
-    let partition = told_groups(means, sharing, scenario, notes)?;
+    let partition = reported_groups(means, sharing, scenario, notes)?;
     if sharing.groups() == "auto" && partition.groups() < FEWEST_TO_DEBUG {
         return Ok(Partition::one(partition.nodes()));
     }
@@ -93,7 +93,7 @@ pub(crate) fn begin_run<W: Sink, N: Notes>(
     ensures output { BeginsRun (λ ended after. Writes (IsSharedOutput sharing.entry.groups scenario.now ended) (W.contents writer.old) after) result (W.contents writer.new) }
     ensures failures { W.failures writer.new ≡ writes_after result (W.failures writer.old) }
 {
-    let partition = told_groups(means, &sharing, scenario, notes)?;
+    let partition = reported_groups(means, &sharing, scenario, notes)?;
     let workers = sharing.workers();
     if is_alone(workers, &partition) {
         return nothing_left(run_scenario(means.alloc, means.wishes, scenario, writer, notes));

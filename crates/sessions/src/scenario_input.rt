@@ -1,5 +1,5 @@
 //! From the bytes of an input, an image or a text, to its scenario.
-ghost use Rattle.sessions.specs.Input.{IsImageOf, IsImageFault, IsTextFault, HasScenario, HasFault, Reads};
+ghost use Rattle.sessions.specs.Input.{IsImageOf, IsImageFault, IsTextFault, InputHasScenario, InputHasFault, Reads};
 ghost use Rattle.scenario_asm.specs.Meaning.{MeansScenario};
 
 use crate::fault::SessionFault;
@@ -30,7 +30,7 @@ fn read_text(alloc: Global, text: &[u8]) -> Result<Scenario, SessionFault>
 
 /// The scenario of an input: what begins with the bytes `TCB` is an image, and any other a text.
 pub fn read_scenario(alloc: Global, input: &[u8]) -> Result<Scenario, SessionFault>
-    ensures { Reads (HasScenario input.now) (HasFault input.now) result }
+    ensures { Reads (InputHasScenario input.now) (InputHasFault input.now) result }
 {
     if input.starts_with(b"TCB") {
         read_image(alloc, input)
@@ -41,12 +41,12 @@ pub fn read_scenario(alloc: Global, input: &[u8]) -> Result<Scenario, SessionFau
 
 /// The scenario of an input. Tells why it is refused, where that is wished and there is memory to say
 /// it.
-pub(crate) fn told_scenario<N: Notes>(
+pub(crate) fn reported_scenario<N: Notes>(
     means: &Means,
     input: &[u8],
     notes: &mut N,
 ) -> Result<Scenario, SessionFault>
-    ensures { Reads (HasScenario input.now) (HasFault input.now) result }
+    ensures { Reads (InputHasScenario input.now) (InputHasFault input.now) result }
 {
     let read = read_scenario(means.alloc, input);
     if let Err(fault) = &read {
@@ -57,7 +57,7 @@ pub(crate) fn told_scenario<N: Notes>(
 
 /// The scenario that a text means. Tells why it is refused, where that is wished and there is memory
 /// to say it.
-pub(crate) fn told_text<N: Notes>(
+pub(crate) fn reported_text<N: Notes>(
     means: &Means,
     text: &[u8],
     notes: &mut N,

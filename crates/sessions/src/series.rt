@@ -2,7 +2,7 @@
 ghost use Rattle.std.specs.Prelude.{◌≡◌, ◌<◌, ◌≤◌, [], IfOk, IfErr};
 ghost use Rattle.scenario_image.specs.Scenario.{IsScenario};
 ghost use Rattle.sim_time.specs.Moment.{IsMoment};
-ghost use Rattle.table_run.specs.State.{opening};
+ghost use Rattle.table_run.specs.State.{initial};
 ghost use Rattle.figures.specs.Figures.{AreOfRun, AreOfPart, AreOfSomeRun};
 ghost use Rattle.figures.specs.Moments.{Base, moments};
 ghost use Rattle.figures_text.specs.SeriesText.{series_heading};
@@ -25,7 +25,7 @@ use window_engine::Sink;
 
 /// Steps of the same length.
 #[derive(Clone, Copy, Debug, PartialEq, Eq)]
-pub(crate) struct Pace {
+pub(crate) struct RowSteps {
     /// When the first begins, in nanoseconds.
     pub from: Time,
     /// How long each is.
@@ -70,24 +70,24 @@ fn put_rows<W: Sink>(
 fn put_steps<W: Sink, N: Notes>(
     column: &NameColumn,
     scenario: &Scenario,
-    pace: Pace,
+    row_steps: RowSteps,
     counter: &mut Counter,
     writer: &mut W,
     notes: &mut N,
 ) -> Result<(), SessionFault>
-    requires begun { IsStepBegun scenario.now pace.from counter.old.figures counter.old.net }
+    requires begun { IsStepBegun scenario.now row_steps.from counter.old.figures counter.old.net }
     requires some { AreOfSomeRun counter.old.figures counter.old.net }
     requires scenario { IsScenario scenario.now }
-    requires from { IsMoment pace.from }
-    requires long { 0 < pace.every }
-    requires every { IsMoment pace.every }
-    ensures output { Writes (IsRowsOutput column.now scenario.now pace.from pace.every result) (W.contents writer.old) (W.contents writer.new) }
+    requires from { IsMoment row_steps.from }
+    requires long { 0 < row_steps.every }
+    requires every { IsMoment row_steps.every }
+    ensures output { Writes (IsRowsOutput column.now scenario.now row_steps.from row_steps.every result) (W.contents writer.old) (W.contents writer.new) }
     ensures failures { W.failures writer.new ≡ writes_after result (W.failures writer.old) }
 {
     let mut text = Vec::new(counter.alloc());
-    let mut begin = pace.from;
+    let mut begin = row_steps.from;
     loop {
-        let until = begin + pace.every;
+        let until = begin + row_steps.every;
         counter.run_before(until, notes)?;
         put_rows(
             column,
@@ -109,7 +109,7 @@ fn put_steps<W: Sink, N: Notes>(
 fn put_from<W: Sink, N: Notes>(
     column: &NameColumn,
     scenario: &Scenario,
-    pace: Pace,
+    row_steps: RowSteps,
     counter: &mut Counter,
     writer: &mut W,
     notes: &mut N,
@@ -117,14 +117,14 @@ fn put_from<W: Sink, N: Notes>(
     requires opened { IsOpenedRun scenario.now counter.old.figures counter.old.net }
     requires some { AreOfSomeRun counter.old.figures counter.old.net }
     requires scenario { IsScenario scenario.now }
-    requires from { IsMoment pace.from }
-    requires long { 0 < pace.every }
-    requires every { IsMoment pace.every }
-    ensures output { Writes (IsRowsOutput column.now scenario.now pace.from pace.every result) (W.contents writer.old) (W.contents writer.new) }
+    requires from { IsMoment row_steps.from }
+    requires long { 0 < row_steps.every }
+    requires every { IsMoment row_steps.every }
+    ensures output { Writes (IsRowsOutput column.now scenario.now row_steps.from row_steps.every result) (W.contents writer.old) (W.contents writer.new) }
     ensures failures { W.failures writer.new ≡ writes_after result (W.failures writer.old) }
 {
-    counter.begin_at(pace.from, notes)?;
-    put_steps(column, scenario, pace, counter, writer, notes)
+    counter.begin_at(row_steps.from, notes)?;
+    put_steps(column, scenario, row_steps, counter, writer, notes)
 }
 
 /// Runs a scenario to its end, and writes its figures by time: the heading, and the rows of each step as soon as it has
@@ -132,21 +132,21 @@ fn put_from<W: Sink, N: Notes>(
 pub(crate) fn put_series<W: Sink, N: Notes>(
     means: &Means,
     column: &NameColumn,
-    pace: Pace,
+    row_steps: RowSteps,
     scenario: &Scenario,
     writer: &mut W,
     notes: &mut N,
 ) -> Result<(), SessionFault>
-    requires from { IsMoment pace.from }
-    requires long { 0 < pace.every }
-    requires every { IsMoment pace.every }
-    ensures output { Writes (IsSeriesOutput column.now scenario.now pace.from pace.every result) (W.contents writer.old) (W.contents writer.new) }
+    requires from { IsMoment row_steps.from }
+    requires long { 0 < row_steps.every }
+    requires every { IsMoment row_steps.every }
+    ensures output { Writes (IsSeriesOutput column.now scenario.now row_steps.from row_steps.every result) (W.contents writer.old) (W.contents writer.new) }
     ensures failures { W.failures writer.new ≡ writes_after result (W.failures writer.old) }
 {
     let _parts = scenario.parts();
     let mut counter = Counter::new(means.alloc, means.wishes.progress, scenario)?;
     put_heading(means.alloc, column, writer)?;
-    let ended = put_from(column, scenario, pace, &mut counter, writer, notes);
+    let ended = put_from(column, scenario, row_steps, &mut counter, writer, notes);
     counter.tell_end(ended.is_ok(), notes);
     ended
 }

@@ -8,14 +8,14 @@ ghost use Rattle.command_line.specs.CommandLine.{word_faults, AskFor, AreMistake
 ghost use Rattle.sessions.specs.Answered.{IsRefusal, IsAnswer};
 ghost use Rattle.sessions.specs.Debug.{IsTaskOn};
 ghost use Rattle.sessions.specs.Ended.{writes_after};
-ghost use Rattle.sessions.specs.Session.{IsSessionOn, Tells};
+ghost use Rattle.sessions.specs.Session.{IsSessionOn, OutcomeTells};
 ghost use Rattle.sessions.specs.Streams.{streams_of};
 ghost use Rattle.sessions.specs.Written.{Writes};
 
 use crate::begin::begin;
 use crate::debug::answer_commands;
 use crate::fault::SessionFault;
-use crate::means::Crew;
+use crate::means::SessionTools;
 use crate::outcome::Outcome;
 use crate::output::put_all;
 use crate::prompt::answer_prompt;
@@ -34,7 +34,7 @@ use window_engine::{Gate, Several, Sink};
 
 /// Does what the words ask for: first all that waits for nobody, and then what is left.
 fn answer_asked<R: Source, W: Sink, H: Threads + Wait + Sync, N: Notes>(
-    crew: &Crew<H>,
+    tools: &SessionTools<H>,
     alloc: Global,
     asked: Asked,
     reader: &mut R,
@@ -43,13 +43,13 @@ fn answer_asked<R: Source, W: Sink, H: Threads + Wait + Sync, N: Notes>(
 ) -> Result<(), SessionFault>
     ensures { let seen = streams_of R.failures R.typed W.failures W.contents in IsAskedOn asked.entry (R.remaining reader.old) (R.bytes_of reader.old) result (seen reader.old writer.old) (seen reader.new writer.new) }
 {
-    let rest = begin(alloc, crew.gate, asked, reader, writer, notes)?;
+    let rest = begin(alloc, tools.gate, asked, reader, writer, notes)?;
     match rest {
         Rest::Nothing => Ok(()),
         Rest::Shared(shared) => {
             let mut run = shared;
             let ran = run_by_workers(
-                crew,
+                tools,
                 run.workers,
                 &run.progress,
                 &mut run.engine,
@@ -59,13 +59,13 @@ fn answer_asked<R: Source, W: Sink, H: Threads + Wait + Sync, N: Notes>(
             end_run(alloc, ran, run, writer, notes)
         }
         Rest::Listed(commands) => answer_commands(
-            &Several { rt: crew.rt },
-            crew.gate,
+            &Several { rt: tools.rt },
+            tools.gate,
             alloc,
             commands,
             writer,
         ),
-        Rest::Typed(prompt) => answer_prompt(crew, prompt, reader, writer, notes),
+        Rest::Typed(prompt) => answer_prompt(tools, prompt, reader, writer, notes),
     }
 }
 
@@ -78,7 +78,7 @@ pub fn run_session<R: Source, W: Sink, H: Threads + Wait + Sync>(
     reader: &mut R,
     writer: &mut W,
 ) -> Outcome
-    ensures { let seen = streams_of R.failures R.typed W.failures W.contents in Tells result (λ ended. IsSessionOn subcommand.entry (R.remaining reader.old) ended (seen reader.old writer.old) (seen reader.new writer.new)) }
+    ensures { let seen = streams_of R.failures R.typed W.failures W.contents in OutcomeTells result (λ ended. IsSessionOn subcommand.entry (R.remaining reader.old) ended (seen reader.old writer.old) (seen reader.new writer.new)) }
 {
     run_task(rt, alloc, Task::Scenario(subcommand), gate, reader, writer)
 }
@@ -92,16 +92,16 @@ pub fn run_task<R: Source, W: Sink, H: Threads + Wait + Sync>(
     reader: &mut R,
     writer: &mut W,
 ) -> Outcome
-    ensures { let seen = streams_of R.failures R.typed W.failures W.contents in Tells result (λ ended. IsTaskOn task.entry (R.remaining reader.old) ended (seen reader.old writer.old) (seen reader.new writer.new)) }
+    ensures { let seen = streams_of R.failures R.typed W.failures W.contents in OutcomeTells result (λ ended. IsTaskOn task.entry (R.remaining reader.old) ended (seen reader.old writer.old) (seen reader.new writer.new)) }
 {
-    let crew = Crew {
+    let tools = SessionTools {
         alloc,
         rt,
         gate,
         is_alone: false,
     };
     let asked = Asked::Session(task, OptionalWord::new(None), Wishes::NONE);
-    Outcome::from(answer_asked(&crew, alloc, asked, reader, writer, &mut NoNotes))
+    Outcome::from(answer_asked(&tools, alloc, asked, reader, writer, &mut NoNotes))
 }
 
 /// Writes what the command line asks to be shown.
@@ -142,20 +142,20 @@ pub fn run_noted<H: AllocGlobal + Threads + Wait + Sync, R: Source, W: Sink, S: 
     gate: &Gate,
     notes: &mut N,
 ) -> Outcome
-    ensures asked { let seen = streams_of R.failures R.typed W.failures W.contents in (asked : Asked) → AskFor (map S.text words.now) asked → Tells result (λ ended. IsAskedOn asked (R.remaining reader.old) (R.bytes_of reader.old) ended (seen reader.old writer.old) (seen reader.new writer.new)) }
-    ensures mistake { AreMistaken (map S.text words.now) → Tells result (IsRefusal (map S.text words.now)) × (writer.new ≡ writer.old) }
-    ensures request { AskForText (map S.text words.now) → Tells result (λ ended. Writes (IsAnswer ended) (W.contents writer.old) (W.contents writer.new) × (W.failures writer.new ≡ writes_after ended (W.failures writer.old))) }
+    ensures asked { let seen = streams_of R.failures R.typed W.failures W.contents in (asked : Asked) → AskFor (map S.text words.now) asked → OutcomeTells result (λ ended. IsAskedOn asked (R.remaining reader.old) (R.bytes_of reader.old) ended (seen reader.old writer.old) (seen reader.new writer.new)) }
+    ensures mistake { AreMistaken (map S.text words.now) → OutcomeTells result (IsRefusal (map S.text words.now)) × (writer.new ≡ writer.old) }
+    ensures request { AskForText (map S.text words.now) → OutcomeTells result (λ ended. Writes (IsAnswer ended) (W.contents writer.old) (W.contents writer.new) × (W.failures writer.new ≡ writes_after ended (W.failures writer.old))) }
     ensures unread { word_faults (map S.text words.now) ≢ [] → reader.new ≡ reader.old }
 {
     match read_words(rt.alloc(), words) {
         Ok(asked) => {
-            let crew = Crew {
+            let tools = SessionTools {
                 alloc: rt.alloc(),
                 rt,
                 gate,
                 is_alone: false,
             };
-            Outcome::from(answer_asked(&crew, rt.alloc(), asked, reader, writer, notes))
+            Outcome::from(answer_asked(&tools, rt.alloc(), asked, reader, writer, notes))
         }
         Err(error) => Outcome::from(answer_words(rt.alloc(), error, writer)),
     }
@@ -170,9 +170,9 @@ pub fn run_with<H: AllocGlobal + Threads + Wait + Sync, R: Source, W: Sink, S: A
     words: &[S],
     gate: &Gate,
 ) -> Outcome
-    ensures asked { let seen = streams_of R.failures R.typed W.failures W.contents in (asked : Asked) → AskFor (map S.text words.now) asked → Tells result (λ ended. IsAskedOn asked (R.remaining reader.old) (R.bytes_of reader.old) ended (seen reader.old writer.old) (seen reader.new writer.new)) }
-    ensures mistake { AreMistaken (map S.text words.now) → Tells result (IsRefusal (map S.text words.now)) × (writer.new ≡ writer.old) }
-    ensures request { AskForText (map S.text words.now) → Tells result (λ ended. Writes (IsAnswer ended) (W.contents writer.old) (W.contents writer.new) × (W.failures writer.new ≡ writes_after ended (W.failures writer.old))) }
+    ensures asked { let seen = streams_of R.failures R.typed W.failures W.contents in (asked : Asked) → AskFor (map S.text words.now) asked → OutcomeTells result (λ ended. IsAskedOn asked (R.remaining reader.old) (R.bytes_of reader.old) ended (seen reader.old writer.old) (seen reader.new writer.new)) }
+    ensures mistake { AreMistaken (map S.text words.now) → OutcomeTells result (IsRefusal (map S.text words.now)) × (writer.new ≡ writer.old) }
+    ensures request { AskForText (map S.text words.now) → OutcomeTells result (λ ended. Writes (IsAnswer ended) (W.contents writer.old) (W.contents writer.new) × (W.failures writer.new ≡ writes_after ended (W.failures writer.old))) }
     ensures unread { word_faults (map S.text words.now) ≢ [] → reader.new ≡ reader.old }
 {
     run_noted(rt, reader, writer, words, gate, &mut NoNotes)
@@ -185,9 +185,9 @@ pub fn run_all<H: AllocGlobal + Threads + Wait + Sync, R: Source, W: Sink, S: As
     writer: &mut W,
     words: &[S],
 ) -> Outcome
-    ensures asked { let seen = streams_of R.failures R.typed W.failures W.contents in (asked : Asked) → AskFor (map S.text words.now) asked → Tells result (λ ended. IsAskedOn asked (R.remaining reader.old) (R.bytes_of reader.old) ended (seen reader.old writer.old) (seen reader.new writer.new)) }
-    ensures mistake { AreMistaken (map S.text words.now) → Tells result (IsRefusal (map S.text words.now)) × (writer.new ≡ writer.old) }
-    ensures request { AskForText (map S.text words.now) → Tells result (λ ended. Writes (IsAnswer ended) (W.contents writer.old) (W.contents writer.new) × (W.failures writer.new ≡ writes_after ended (W.failures writer.old))) }
+    ensures asked { let seen = streams_of R.failures R.typed W.failures W.contents in (asked : Asked) → AskFor (map S.text words.now) asked → OutcomeTells result (λ ended. IsAskedOn asked (R.remaining reader.old) (R.bytes_of reader.old) ended (seen reader.old writer.old) (seen reader.new writer.new)) }
+    ensures mistake { AreMistaken (map S.text words.now) → OutcomeTells result (IsRefusal (map S.text words.now)) × (writer.new ≡ writer.old) }
+    ensures request { AskForText (map S.text words.now) → OutcomeTells result (λ ended. Writes (IsAnswer ended) (W.contents writer.old) (W.contents writer.new) × (W.failures writer.new ≡ writes_after ended (W.failures writer.old))) }
     ensures unread { word_faults (map S.text words.now) ≢ [] → reader.new ≡ reader.old }
 {
     run_with(rt, reader, writer, words, &Gate::open())

@@ -1,6 +1,6 @@
 //! A scenario's run, written as its trace.
 ghost use Rattle.std.specs.Prelude.{◌≡◌, ◌≢◌, ◌⊎◌, ℕ, List, Option, true, false, Err, []};
-ghost use Rattle.table_run.specs.State.{State, opening};
+ghost use Rattle.table_run.specs.State.{State, initial};
 ghost use Rattle.net_machine.specs.Run.{Reached};
 ghost use Rattle.net_watch.specs.Watched.{IsRunEnd, goes_on};
 ghost use Rattle.sessions.specs.Written.{Writes, WritesBefore, IsBeginningOf};
@@ -32,7 +32,7 @@ pub fn run_scenario<W: Sink, N: Notes>(
     writer: &mut W,
     notes: &mut N,
 ) -> Result<(), SessionFault>
-    ensures output { Writes (IsRunOutput (opening scenario.now) result) (W.contents writer.old) (W.contents writer.new) }
+    ensures output { Writes (IsRunOutput (initial scenario.now) result) (W.contents writer.old) (W.contents writer.new) }
     ensures failures { W.failures writer.new ≡ writes_after result (W.failures writer.old) }
 {
     let mut page = Page::new(alloc, PAGE)?;
@@ -66,7 +66,7 @@ fn run_net<W: Sink, N: Notes>(
     progress: &mut Progress,
     notes: &mut N,
 ) -> Result<(), SessionFault>
-    requires opening { net.old.position ≡ 0 }
+    requires initial { net.old.position ≡ 0 }
     requires empty { page.old ≡ [] }
     ensures output { Writes (IsRunOutput net.old.state result) (W.contents writer.old) (W.contents writer.new) }
     ensures failures { W.failures writer.new ≡ writes_after result (W.failures writer.old) }
@@ -108,7 +108,7 @@ impl<W: Sink> Watch for Tracing<'_, W> {
 
     ghost has = { λ began from w at goes_on. (w.page.ghost_name ≡ began.page.ghost_name) × (w.writer.ghost_name ≡ began.writer.ghost_name) × (from.position ≡ 0 → began.page.now ≡ [] → IsPut from.state at w.page.now (W.contents began.writer.now) (W.contents w.writer.now) (W.failures began.writer.now) (W.failures w.writer.now) w.refused goes_on) };
 
-    ghost begins = { λ w at. (refl, refl, λ opening empty. none_put at w.page.now (W.contents w.writer.now) (W.failures w.writer.now) w.refused opening empty) };
+    ghost begins = { λ w at. (refl, refl, λ initial empty. none_put at w.page.now (W.contents w.writer.now) (W.failures w.writer.now) w.refused initial empty) };
 
     #[inline(always)]
     fn ahead(&self, _at: &Net, _next: Option<Due>) -> Option<()> {
@@ -172,7 +172,7 @@ fn put_lines<W: Sink, N: Notes>(
     progress: &mut Progress,
     notes: &mut N,
 ) -> Result<(), SessionFault>
-    requires opening { net.old.position ≡ 0 }
+    requires initial { net.old.position ≡ 0 }
     requires empty { page.old ≡ [] }
     ensures made { result ≢ Err SessionFault.WriteFailed → WritesBefore page.new (IsRunOutput net.old.state result) (W.contents writer.old) (W.contents writer.new) }
     ensures failed { result ≡ Err SessionFault.WriteFailed → Writes (IsBeginningOf (IsTraceOrStart net.old.state)) (W.contents writer.old) (W.contents writer.new) }

@@ -1,6 +1,6 @@
 //! A scenario's run by windows, written as its trace.
 ghost use Rattle.std.specs.Prelude.{◌≡◌, ◌<◌, ◌≤◌, ℕ, List, length, Option, is_err, IfErr, IfOk};
-ghost use Rattle.table_run.specs.State.{State, opening};
+ghost use Rattle.table_run.specs.State.{State, initial};
 ghost use Rattle.trace_text.specs.End.{end_bytes};
 ghost use Rattle.window_core.specs.Full.{HasTooMany};
 ghost use Rattle.window_engine.specs.Engines.{IsStop, sink_failures};
@@ -11,7 +11,7 @@ ghost use Rattle.sessions.specs.Worked.{RunsTo, HasRun, EndsRun};
 ghost use Rattle.sessions.specs.Written.{Writes};
 
 use crate::fault::SessionFault;
-use crate::means::{Crew, Means};
+use crate::means::{Means, SessionTools};
 use crate::output::put_all;
 use crate::progress::{Progress, WHOLE, hundredths};
 use command_line::notes::Notes;
@@ -44,7 +44,7 @@ pub(crate) fn open_run(
     requires nodes { length partition ≡ length scenario.now.nodes }
     requires workers { (0 < workers) × (workers ≤ 64) }
     ensures start { IfOk result IsAtStart }
-    ensures state { IfOk result (λ run. run.engine.net.state ≡ opening scenario.now) }
+    ensures state { IfOk result (λ run. run.engine.net.state ≡ initial scenario.now) }
     ensures shared { IfOk result (λ run. run.workers ≡ workers) }
 {
     let engine = Engine::new(means.alloc, scenario, partition)?;
@@ -59,7 +59,7 @@ pub(crate) fn open_run(
 /// Runs an engine to a moment by several workers, for which it may wait, from one hundredth of it to
 /// the next where it is told how far it is.
 pub(crate) fn run_by_workers<W: Sink, H: Threads + Wait + Sync, N: Notes>(
-    crew: &Crew<H>,
+    tools: &SessionTools<H>,
     workers: usize,
     progress: &Progress,
     engine: &mut Engine,
@@ -74,16 +74,16 @@ pub(crate) fn run_by_workers<W: Sink, H: Threads + Wait + Sync, N: Notes>(
     ensures failed { engine.new.failed ≡ is_err result }
     ensures failures { W.failures writer.new ≡ sink_failures result (W.failures writer.old) }
 {
-    let hands = Several { rt: crew.rt };
+    let hands = Several { rt: tools.rt };
     for percent in progress.first()..WHOLE {
         let moment = hundredths(progress.end, percent);
-        let stop = engine.run(&hands, workers, crew.gate, moment, writer)?;
+        let stop = engine.run(&hands, workers, tools.gate, moment, writer)?;
         let events = engine.position();
         if stop == Stop::Until {
             progress.say(percent, events, notes);
         }
     }
-    engine.run(&hands, workers, crew.gate, progress.end, writer)
+    engine.run(&hands, workers, tools.gate, progress.end, writer)
 }
 
 /// Writes the last line of a run of so many events.

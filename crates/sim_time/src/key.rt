@@ -13,9 +13,9 @@ pub struct Key {
     pub time: Time,
     /// The node at which it is due.
     pub node: u16,
-    /// 0 for an alarm of the node itself; for a packet that arrives, one more than its link's number.
+    /// 0 for a timer of the node itself; for a packet that arrives, one more than its link's number.
     pub source: u16,
-    /// Which alarm of the node it is; for a packet, how many packets its link had sent with it.
+    /// Which timer of the node it is; for a packet, how many packets its link had sent with it.
     pub number: u64,
 }
 

@@ -10,27 +10,27 @@ use Rattle.packet_chain.specs.declared.packet.Kind.TheVariants.{Data, Ack}
 use Rattle.reno_sender.specs.Laws.{IsAckFor}
 use Rattle.reno_sender.specs.Table.{started, acknowledged, timed_out}
 use Rattle.reno_sender.proofs.Laws.{started_keeps, acknowledged_keeps, timed_out_keeps}
-use Rattle.reno_receiver.specs.Received.{data_came, alarm_came, next_of}
-use Rattle.reno_receiver.proofs.Laws.{data_keeps, alarm_keeps, next_holds}
+use Rattle.reno_receiver.specs.Received.{data_came, timer_came, next_of}
+use Rattle.reno_receiver.proofs.Laws.{data_keeps, timer_keeps, next_holds}
 use Rattle.scenario_image.specs.declared.parts.ScenarioParts.{ScenarioParts}
 use Rattle.scenario_image.specs.Scenario.{IsScenario}
-use Rattle.scenario_image.specs.Ways.{IsOnWay}
-use Rattle.scenario_image.specs.WayLaws.{GoesOn}
-use Rattle.scenario_image.proofs.Arrivals.{ways_go_on_or_end}
+use Rattle.scenario_image.specs.Paths.{IsOnWay}
+use Rattle.scenario_image.specs.PathLaws.{PathGoesOn}
+use Rattle.scenario_image.proofs.Arrivals.{paths_go_on_or_end}
 use Rattle.port.specs.Port.{taken, offered_one}
-use Rattle.node_core.specs.declared.alarm.Alarm.TheVariants.{Retransmission, Free as BecomesFree}
+use Rattle.node_core.specs.declared.timer.Timer.TheVariants.{Retransmission, Free as BecomesFree}
 use Rattle.node_core.specs.declared.event.Event.{Event}
 use Rattle.node_core.specs.declared.event.Event.TheVariants.{Start, Rto, DelAck, Free, Arrive}
 use Rattle.node_core.specs.declared.role.Role.{Role}
-use Rattle.node_core.specs.Alarms.{alarm_key}
+use Rattle.node_core.specs.Timers.{timer_key}
 use Rattle.node_core.specs.Part.{link_at}
 use Rattle.node_core.specs.Row.{start_row, rto_row, delack_row, free_row, arrival_row, at_sender, at_receiver, passed_on}
 use Rattle.node_core.specs.TraceLine.{TraceLine}
 use Rattle.table_run.specs.State.{State, part_at, effect_of, stepped}
-use Rattle.table_run.specs.Flow.{high_of, next_at, deadline_of, alarm_of, sent_high, received_next, way_of, IsSent, IsGiven, IsAnswerable, Carries, IsSoundFlow}
+use Rattle.table_run.specs.Flow.{high_of, next_at, deadline_of, timer_of, sent_high, received_next, path_of, IsSent, IsGiven, IsAnswerable, Carries, IsSoundFlow}
 use Rattle.table_run.specs.Sound.{Belongs, IsStart, IsTimeout, IsDelayed, IsFree, IsArrival, IsSoundAt}
 use Rattle.table_run.proofs.Due.{IsDue}
-use Rattle.table_run.proofs.EndFacts.{high_fits, some_flight, data_answer, alarm_answer, timeout_fresh, row_fresh, lower_source}
+use Rattle.table_run.proofs.EndFacts.{high_fits, some_flight, data_answer, timer_answer, timeout_fresh, row_fresh, lower_source}
 use Rattle.table_run.proofs.Exits.{has_exit, exit_by_table}
 use Rattle.table_run.proofs.Moved.{Shape, shaped}
 use Rattle.table_run.proofs.Rows.{IsRow}
@@ -72,8 +72,8 @@ module _ (p : ScenarioParts) (is_scenario : IsScenario p) (lines : List TraceLin
   rto_has : (number : ℕ) → IsDue s k (Rto number) → IsTimeout p s k number → HasRow p s k (Rto number)
   rto_has number due h =
       let F = S.each_flow number h.flow h.its_flow in
-      let at : k.node ≡ h.flow.sender = ap (λ (q : Key). q.node) h.alarm.is_key in
-      let set : F.fields.deadline ≡ Some k.time = sym (ap deadline_of F.sender_role) ∙ h.alarm.is_set in
+      let at : k.node ≡ h.flow.sender = ap (λ (q : Key). q.node) h.timer.is_key in
+      let set : F.fields.deadline ≡ Some k.time = sym (ap deadline_of F.sender_role) ∙ h.timer.is_set in
       let keeps = timed_out_keeps F.fields k.time F.sound moment (subst (λ (o : Option ℕ). IsSome o) (sym set) refl) in
       let more = some_flight F.fields F.sound k.time set in
       let high : sent_high s h.flow ≡ F.fields.high = ap high_of F.sender_role in
@@ -81,7 +81,7 @@ module _ (p : ScenarioParts) (is_scenario : IsScenario p) (lines : List TraceLin
         shape = sender.shape p is_scenario lines now s k (Rto number) S due number h.flow h.its_flow at (timed_out F.fields k.time);
         effect_is = ap (λ ρ. rto_row (part_at s k.node) ρ k) (role_at h.flow.sender at _ F.sender_role);
         row = sender.row p is_scenario lines now s k (Rto number) S due number h.flow h.its_flow at (timed_out F.fields k.time) keeps
-            (λ node index time same. not_link index (ap (λ (q : Key). q.number) (same ∙ h.alarm.is_key)))
+            (λ node index time same. not_link index (ap (λ (q : Key). q.number) (same ∙ h.timer.is_key)))
             (λ u is. timeout_fresh F.fields k.time u F.sound is)
             (λ none. absurd (omega (arith, none, more, high)));
       }
@@ -92,16 +92,16 @@ module _ (p : ScenarioParts) (is_scenario : IsScenario p) (lines : List TraceLin
   delack_has : (number : ℕ) → IsDue s k (DelAck number) → IsDelayed p s k number → HasRow p s k (DelAck number)
   delack_has number due h =
       let F = S.each_flow number h.flow h.its_flow in
-      let at : k.node ≡ h.flow.receiver = ap (λ (q : Key). q.node) h.alarm.is_key in
-      let set : F.received.alarm ≡ Some k.time = sym (ap alarm_of F.receiver_role) ∙ h.alarm.is_set in
+      let at : k.node ≡ h.flow.receiver = ap (λ (q : Key). q.node) h.timer.is_key in
+      let set : F.received.timer ≡ Some k.time = sym (ap timer_of F.receiver_role) ∙ h.timer.is_set in
       let waited : IsAnswerable h.flow.mss F.fields.high (next_of F.received) = subst (λ o. IfSome o (λ _. IsAnswerable h.flow.mss F.fields.high (next_of F.received))) set F.answer_waits in
       record {
-        shape = receiver.shape p is_scenario lines now s k (DelAck number) S due number h.flow h.its_flow at (alarm_came F.received);
+        shape = receiver.shape p is_scenario lines now s k (DelAck number) S due number h.flow h.its_flow at (timer_came F.received);
         effect_is = ap (λ ρ. delack_row (part_at s k.node) ρ k) (role_at h.flow.receiver at _ F.receiver_role);
-        row = receiver.row p is_scenario lines now s k (DelAck number) S due number h.flow h.its_flow at (alarm_came F.received)
-            (alarm_answer F.received k.time F.fields.high (alarm_came F.received) (next_holds F.received F.well_formed).least.multiple (subst (λ m. IsAnswerable m F.fields.high (next_of F.received)) (sym F.same_mss) waited)
-            (alarm_keeps F.received F.well_formed) (λ x got. subst (λ m. x + m ≤ F.fields.high) (sym F.same_mss) (F.received_sent x got)))
-            (λ node index time same. not_link index (ap (λ (q : Key). q.number) (same ∙ h.alarm.is_key)));
+        row = receiver.row p is_scenario lines now s k (DelAck number) S due number h.flow h.its_flow at (timer_came F.received)
+            (timer_answer F.received k.time F.fields.high (timer_came F.received) (next_holds F.received F.well_formed).least.multiple (subst (λ m. IsAnswerable m F.fields.high (next_of F.received)) (sym F.same_mss) waited)
+            (timer_keeps F.received F.well_formed) (λ x got. subst (λ m. x + m ≤ F.fields.high) (sym F.same_mss) (F.received_sent x got)))
+            (λ node index time same. not_link index (ap (λ (q : Key). q.number) (same ∙ h.timer.is_key)));
       }
     where
       not_link : (index : ℕ) → 3 + index ≡ 2 → ⊥
@@ -110,7 +110,7 @@ module _ (p : ScenarioParts) (is_scenario : IsScenario p) (lines : List TraceLin
   free_has : (number : ℕ) → IsDue s k (Free number) → IsFree s k number → HasRow p s k (Free number)
   free_has number due h =
       let step = taken k.time (link_at (part_at s k.node).links h.index).port in
-      let index : k.number - 3 ≡ h.index = (let is : k.number ≡ 3 + h.index = ap (λ (q : Key). q.number) h.alarm.is_key in omega (arith, is)) in
+      let index : k.number - 3 ≡ h.index = (let is : k.number ≡ 3 + h.index = ap (λ (q : Key). q.number) h.timer.is_key in omega (arith, is)) in
       record {
         shape = link.shape p is_scenario lines now s k (Free number) S due h.index h.link.within step;
         effect_is = ap (free_row (part_at s k.node) k) index;
@@ -125,10 +125,10 @@ module _ (p : ScenarioParts) (is_scenario : IsScenario p) (lines : List TraceLin
     timed_before = timed_later now k.time F.fields.timing (S.not_past k (Arrive x) due.pending) F.timed_before;
   }
 
-  passes : (x : Packet) → IsDue s k (Arrive x) → (h : IsArrival p s now k x) → GoesOn p (way_of x.kind h.under_way.flow) k.node → HasRow p s k (Arrive x)
+  passes : (x : Packet) → IsDue s k (Arrive x) → (h : IsArrival p s now k x) → PathGoesOn p (path_of x.kind h.under_way.flow) k.node → HasRow p s k (Arrive x)
   passes x due h on =
       let U = h.under_way in
-      let e = has_exit p lines now s k S (way_of x.kind U.flow) on in
+      let e = has_exit p lines now s k S (path_of x.kind U.flow) on in
       let step = offered_one k.time (link_at (part_at s k.node).links e.index).port x in
       record {
         shape = link.shape p is_scenario lines now s k (Arrive x) S due e.index e.within step;
@@ -136,7 +136,7 @@ module _ (p : ScenarioParts) (is_scenario : IsScenario p) (lines : List TraceLin
         row = pass_row_is p is_scenario lines now s k x S due e.index e.within (record { flow = U.flow; its_flow = U.its_flow; carries = U.carries; on_way = e.on_way }) h.number h.comes_over;
       }
 
-  not_link_of : (x : Packet) → IsArrival p s now k x → (node index time : ℕ) → alarm_key node (BecomesFree index) time ≢ k
+  not_link_of : (x : Packet) → IsArrival p s now k x → (node index time : ℕ) → timer_key node (BecomesFree index) time ≢ k
   not_link_of x h node index time same = none (ap (λ (q : Key). q.source) same)
     where
       none : 0 ≡ k.source → ⊥
@@ -182,8 +182,8 @@ module _ (p : ScenarioParts) (is_scenario : IsScenario p) (lines : List TraceLin
 
       set_later : (x : Packet) → IsDue s k (Arrive x) → (h : IsArrival p s now k x) → k.node ≡ h.under_way.flow.sender → (F : IsSoundFlow s now x.flow h.under_way.flow) → (d : ℕ) → F.fields.deadline ≡ Some d → k.time < d
       set_later x due h at F d was =
-          let q = alarm_key h.under_way.flow.sender Retransmission d in
-          let there : finmap.get s.pending q ≡ Some (Rto x.flow) = subst (λ o. IfSome o (λ t. finmap.get s.pending (alarm_key h.under_way.flow.sender Retransmission t) ≡ Some (Rto x.flow))) (ap deadline_of F.sender_role ∙ was) (S.alarms.timers x.flow h.under_way.flow h.under_way.its_flow) in
+          let q = timer_key h.under_way.flow.sender Retransmission d in
+          let there : finmap.get s.pending q ≡ Some (Rto x.flow) = subst (λ o. IfSome o (λ t. finmap.get s.pending (timer_key h.under_way.flow.sender Retransmission t) ≡ Some (Rto x.flow))) (ap deadline_of F.sender_role ∙ was) (S.timers.rto_timers x.flow h.under_way.flow h.under_way.its_flow) in
           let upto : k.time ≤ d = due.first q (Rto x.flow) there in
           let apart : k.time ≢ d = λ same. due.none_less q (Rto x.flow) there (lower_source q k (sym same) (sym at) (let over = h.comes_over in omega (arith, over))) in
           omega (arith, upto, apart)
@@ -195,18 +195,18 @@ module _ (p : ScenarioParts) (is_scenario : IsScenario p) (lines : List TraceLin
       by : (c : Kind) → x.kind ≡ c → HasRow p s k (Arrive x)
       by Data is =
           let U = h.under_way in
-          let on_way = subst (λ c. IsOnWay p (way_of c U.flow) h.number) is U.on_way in
+          let on_way = subst (λ c. IsOnWay p (path_of c U.flow) h.number) is U.on_way in
           ⊎_elim
           (λ (ends : h.link.to ≡ U.flow.receiver). data_ends x due h is (h.ends_here ∙ ends))
-          (λ (on : GoesOn p (way_of Data U.flow) h.link.to). passes x due h (subst (λ c. GoesOn p (way_of c U.flow) k.node) (sym is) (subst (GoesOn p (way_of Data U.flow)) (sym h.ends_here) on)))
-          ((ways_go_on_or_end p is_scenario x.flow U.flow U.its_flow).0 h.number h.link on_way h.its_link)
+          (λ (on : PathGoesOn p (path_of Data U.flow) h.link.to). passes x due h (subst (λ c. PathGoesOn p (path_of c U.flow) k.node) (sym is) (subst (PathGoesOn p (path_of Data U.flow)) (sym h.ends_here) on)))
+          ((paths_go_on_or_end p is_scenario x.flow U.flow U.its_flow).0 h.number h.link on_way h.its_link)
       by Ack is =
           let U = h.under_way in
-          let on_way = subst (λ c. IsOnWay p (way_of c U.flow) h.number) is U.on_way in
+          let on_way = subst (λ c. IsOnWay p (path_of c U.flow) h.number) is U.on_way in
           ⊎_elim
           (λ (ends : h.link.to ≡ U.flow.sender). ack_ends x due h is (h.ends_here ∙ ends))
-          (λ (on : GoesOn p (way_of Ack U.flow) h.link.to). passes x due h (subst (λ c. GoesOn p (way_of c U.flow) k.node) (sym is) (subst (GoesOn p (way_of Ack U.flow)) (sym h.ends_here) on)))
-          ((ways_go_on_or_end p is_scenario x.flow U.flow U.its_flow).1 h.number h.link on_way h.its_link)
+          (λ (on : PathGoesOn p (path_of Ack U.flow) h.link.to). passes x due h (subst (λ c. PathGoesOn p (path_of c U.flow) k.node) (sym is) (subst (PathGoesOn p (path_of Ack U.flow)) (sym h.ends_here) on)))
+          ((paths_go_on_or_end p is_scenario x.flow U.flow U.its_flow).1 h.number h.link on_way h.its_link)
 
   -- each event that is due
   pub has_row : (v : Event) → IsDue s k v → Belongs p s now k v → HasRow p s k v

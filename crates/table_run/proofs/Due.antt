@@ -11,8 +11,8 @@ use Rattle.sim_time.specs.Keys.{key_cmp}
 use Rattle.sim_time.proofs.Order.{keys_total, earlier_less}
 use Rattle.node_core.specs.declared.event.Event.{Event}
 use Rattle.node_core.specs.Pending.{Events}
-use Rattle.ranking.specs.Keyed.{least}
-use Rattle.ranking.proofs.Maps.{not_some, same_some, least_is}
+use Rattle.tournament.specs.Keyed.{least}
+use Rattle.tournament.proofs.Maps.{not_some, same_some, least_is}
 use Rattle.table_run.specs.State.{State, below, due}
 
 -- which event is due

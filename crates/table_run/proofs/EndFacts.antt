@@ -16,9 +16,9 @@ use Rattle.reno_sender.specs.Timer.{backed_off}
 use Rattle.reno_receiver.specs.declared.reply.Reply.{Reply}
 use Rattle.reno_receiver.specs.declared.reply.Reply.TheVariants.{AckNow, Wait}
 use Rattle.reno_receiver.specs.Received.{ReceiverState, Answered, IsReceived, IsWellFormed, next_of}
-use Rattle.reno_receiver.specs.Laws.{DataKeeps, AlarmKeeps}
+use Rattle.reno_receiver.specs.Laws.{DataKeeps, TimerKeeps}
 use Rattle.reno_receiver.proofs.Laws.{next_holds}
-use Rattle.ranking.proofs.Maps.{not_some, same_some}
+use Rattle.tournament.proofs.Maps.{not_some, same_some}
 use Rattle.table_run.specs.Flow.{IsAnswerable}
 use Rattle.table_run.proofs.ReceiverRow.{AnswerKeeps}
 
@@ -59,18 +59,18 @@ data_answer st seq now high a most whole keeps this those = record {
       subst (λ m. IsAnswerable m high (next_of a.state)) keeps.mss_stays
       (after_data a.state seq high keeps.well_formed ((keeps.members seq).1 (inl refl)) (subst (λ m. seq % m ≡ 0) (sym keeps.mss_stays) whole) (subst (λ m. seq + m ≤ high) (sym keeps.mss_stays) this));
   acknowledges = λ m is. (keeps.acknowledged m is).0;
-  alarm_soon = λ t is. soon a.reply t refl is;
+  timer_soon = λ t is. soon a.reply t refl is;
 }
   where
-    soon : (r : Reply) (t : ℕ) → a.reply ≡ r → a.state.alarm ≡ Some t → (now < t) × (t ≤ now + 500000000)
+    soon : (r : Reply) (t : ℕ) → a.reply ≡ r → a.state.timer ≡ Some t → (now < t) × (t ≤ now + 500000000)
     soon (AckNow m) t e is = absurd (not_some (sym (keeps.acknowledged m e).1 ∙ is))
     soon (Wait d) t e is =
         let waits = keeps.waits d e in
         let same : d ≡ t = same_some d t (sym waits.2 ∙ is) in
         (omega (arith, waits.0, waits.1, same), omega (arith, waits.0, most, same))
 
-pub alarm_answer : (st : ReceiverState) (now high : ℕ) (a : Answered) → next_of st % st.mss ≡ 0 → IsAnswerable st.mss high (next_of st) → AlarmKeeps st a → ((x : ℕ) → IsReceived st x → x + st.mss ≤ high) → AnswerKeeps st high now a
-alarm_answer st now high a whole waited keeps those = record {
+pub timer_answer : (st : ReceiverState) (now high : ℕ) (a : Answered) → next_of st % st.mss ≡ 0 → IsAnswerable st.mss high (next_of st) → TimerKeeps st a → ((x : ℕ) → IsReceived st x → x + st.mss ≤ high) → AnswerKeeps st high now a
+timer_answer st now high a whole waited keeps those = record {
   well_formed = keeps.well_formed;
   same_mss = keeps.mss_stays;
   same_delack = keeps.delack_stays;
@@ -79,7 +79,7 @@ alarm_answer st now high a whole waited keeps those = record {
   received_below = λ x is. those x (subst (λ received. IsReceived (record st { received = received }) x) keeps.received_stays is);
   answerable = subst (IsAnswerable st.mss high) (sym keeps.next_stays) waited;
   acknowledges = λ m is. reply_is m (sym keeps.acknowledged ∙ is) ∙ sym keeps.next_stays;
-  alarm_soon = λ t is. absurd (not_some (sym keeps.alarm_off ∙ is));
+  timer_soon = λ t is. absurd (not_some (sym keeps.timer_off ∙ is));
 }
   where
     reply_is : (m : ℕ) → AckNow (next_of st) ≡ AckNow m → m ≡ next_of st

@@ -10,17 +10,17 @@ use Rattle.sim_time.specs.declared.key.Key.{Key}
 use Rattle.sim_time.specs.Keys.{key_cmp}
 use Rattle.sim_time.proofs.Order.{exact_keys}
 use Rattle.node_core.specs.declared.event.Event.{Event}
-use Rattle.node_core.specs.Pending.{Events, Change}
+use Rattle.node_core.specs.Pending.{Events, EventChange}
 use Rattle.node_core.specs.TraceLine.{TraceLine}
-use Rattle.ranking.specs.Keyed.{least}
-use Rattle.ranking.proofs.Maps.{not_some, is_equal, least_is, none_least}
-use Rattle.table_run.specs.State.{State, opening, below, due, effect_of, stepped, line_of, run}
+use Rattle.tournament.specs.Keyed.{least}
+use Rattle.tournament.proofs.Maps.{not_some, is_equal, least_is, none_least}
+use Rattle.table_run.specs.State.{State, initial, below, due, effect_of, stepped, line_of, run}
 use Rattle.table_run.specs.Sound.{EachEvent}
 use Rattle.table_run.specs.Laws.{made_by, IsDueSoon, RunsEnd}
 use Rattle.table_run.proofs.Lists.{all_map}
 use Rattle.table_run.proofs.Changes.{of_changed}
 use Rattle.table_run.proofs.Due.{is_due, of_below, least_time}
-use Rattle.table_run.proofs.Opening.{each_applied}
+use Rattle.table_run.proofs.Initial.{each_applied}
 use Rattle.table_run.proofs.Runs.{Along, due_steps, run_cons, run_add, run_end, along_step, along_run, along_here}
 use Rattle.table_run.proofs.RunLaws.{effects_are_soon}
 
@@ -32,7 +32,7 @@ same_is a b e = exact_keys a b (is_equal (key_cmp a b) e)
 
 -- what an event sets is later in time
 abbrev MakesLater : State → Type 0
-MakesLater s = (k : Key) (v : Event) → due s ≡ Some (k, v) → AllByRecursion (λ (c : Change). IfSome c.1 (λ _. k.time < c.0.time)) (made_by s k v)
+MakesLater s = (k : Key) (v : Event) → due s ≡ Some (k, v) → AllByRecursion (λ (c : EventChange). IfSome c.1 (λ _. k.time < c.0.time)) (made_by s k v)
 
 among : Key → List Key → Bool
 among q ks = list_any (same q) ks
@@ -95,7 +95,7 @@ module _ (moment : ℕ) (ks : List Key) (s : State) (covers : Covers ks (moment 
   next_covers : Covers (without k ks) (moment + 1) (stepped s k (effect_of s (k, v)))
   next_covers =
       each_applied (λ q u. q.time < moment + 1 → among q (without k ks) ≡ true) (made_by s k v) (remove s.pending k)
-      (all_map (λ (c : Change). IfSome c.1 (λ _. k.time < c.0.time)) (λ (c : Change). IfSome c.1 (λ _. c.0.time < moment + 1 → among c.0 (without k ks) ≡ true)) (λ c h. at c.0 c.1 h) (made_by s k v) (later k v is))
+      (all_map (λ (c : EventChange). IfSome c.1 (λ _. k.time < c.0.time)) (λ (c : EventChange). IfSome c.1 (λ _. c.0.time < moment + 1 → among c.0 (without k ks) ≡ true)) (λ c h. at c.0 c.1 h) (made_by s k v) (later k v is))
       (left (λ q u. q.time < moment + 1 → among q (without k ks) ≡ true) s k (λ q u h other below. still_among k q ks (not_same k q other) (covers q u h below)))
     where
       at : (q : Key) (o : Option Event) → IfSome o (λ _. k.time < q.time) → IfSome o (λ _. q.time < moment + 1 → among q (without k ks) ≡ true)
@@ -105,7 +105,7 @@ module _ (moment : ℕ) (ks : List Key) (s : State) (covers : Covers ks (moment 
   next_late : AllFrom moment (stepped s k (effect_of s (k, v))).pending
   next_late =
       each_applied (λ q u. moment ≤ q.time) (made_by s k v) (remove s.pending k)
-      (all_map (λ (c : Change). IfSome c.1 (λ _. k.time < c.0.time)) (λ (c : Change). IfSome c.1 (λ _. moment ≤ c.0.time)) (λ c h. at c.0 c.1 h) (made_by s k v) (later k v is))
+      (all_map (λ (c : EventChange). IfSome c.1 (λ _. k.time < c.0.time)) (λ (c : EventChange). IfSome c.1 (λ _. moment ≤ c.0.time)) (λ c h. at c.0 c.1 h) (made_by s k v) (later k v is))
       (left (λ q u. moment ≤ q.time) s k (λ q u h other. late q u h))
     where
       at : (q : Key) (o : Option Event) → IfSome o (λ _. k.time < q.time) → IfSome o (λ _. moment ≤ q.time)
@@ -183,9 +183,9 @@ none_due s late (Some x) e = let d = is_due s x.0 x.1 e in let l = late x.0 x.1 
 
 pub runs_end : RunsEnd
 runs_end p is_scenario =
-    let later : Along MakesLater (opening p) = λ n lines u e k v is. all_map (λ (c : Change). IfSome c.1 (λ _. IsDueSoon k.time c.0)) (λ (c : Change). IfSome c.1 (λ _. k.time < c.0.time)) (λ c h. at k c.0 c.1 h) (made_by u k v) (effects_are_soon p n lines u is_scenario e k v is) in
-    let r = run_passes p.end (opening p) (omega arith) later in
-    let ends : r.state.end ≡ p.end = run_end r.n (opening p) r.state r.lines r.is_run in
+    let later : Along MakesLater (initial p) = λ n lines u e k v is. all_map (λ (c : EventChange). IfSome c.1 (λ _. IsDueSoon k.time c.0)) (λ (c : EventChange). IfSome c.1 (λ _. k.time < c.0.time)) (λ c h. at k c.0 c.1 h) (made_by u k v) (effects_are_soon p n lines u is_scenario e k v is) in
+    let r = run_passes p.end (initial p) (omega arith) later in
+    let ends : r.state.end ≡ p.end = run_end r.n (initial p) r.state r.lines r.is_run in
     record { steps = r.n; lines = r.lines; last = r.state; comes = r.is_run; none_due = none_due r.state (subst (λ m. AllFrom m r.state.pending) (sym ends) r.late) (due r.state) refl }
   where
     at : (k q : Key) (o : Option Event) → IfSome o (λ _. IsDueSoon k.time q) → IfSome o (λ _. k.time < q.time)

@@ -9,13 +9,13 @@ use Rattle.scenario_image.specs.declared.parts.LinkPart.{LinkPart}
 use Rattle.scenario_image.specs.declared.parts.ScenarioParts.{ScenarioParts}
 use Rattle.scenario_image.specs.Scenario.{IsScenario}
 use Rattle.port.specs.Port.{Departure}
-use Rattle.node_core.specs.declared.alarm.Alarm.TheVariants.{Retransmission, DelayedAcknowledgement, Free as BecomesFree}
+use Rattle.node_core.specs.declared.timer.Timer.TheVariants.{Retransmission, DelayedAcknowledgement, Free as BecomesFree}
 use Rattle.node_core.specs.declared.event.Event.{Event}
 use Rattle.node_core.specs.declared.event.Event.TheVariants.{Start, Rto, DelAck, Free, Arrive}
-use Rattle.node_core.specs.Alarms.{alarm_key}
+use Rattle.node_core.specs.Timers.{timer_key}
 use Rattle.node_core.specs.Part.{LinkState, link_at}
 use Rattle.node_core.specs.TraceLine.{TraceLine}
-use Rattle.ranking.proofs.Maps.{not_some, same_some}
+use Rattle.tournament.proofs.Maps.{not_some, same_some}
 use Rattle.table_run.specs.State.{State, part_at}
 use Rattle.table_run.specs.Flow.{IsUnderWay}
 use Rattle.table_run.specs.Sound.{EachEvent, Belongs, ArriveInOrder, IsLinkOf, IsArrival, IsSoundAt}
@@ -23,9 +23,9 @@ use Rattle.table_run.specs.Laws.{IsDueSoon}
 use Rattle.table_run.proofs.Due.{IsDue}
 use Rattle.table_run.proofs.Links.{IsPartOf, link_part, one_index, link_in_limits}
 use Rattle.table_run.proofs.PortMoves.{Outcome, Departs}
-use Rattle.table_run.proofs.Changes.{IsSet, timer, busy, arrival, WasPending, coming, of_changed, of_row}
+use Rattle.table_run.proofs.Changes.{IsSet, rto_timer, busy, arrival, WasPending, coming, of_changed, of_row}
 use Rattle.table_run.proofs.Moved.{Shape, IsMoved, AtChanged, AtOther, link_before, link_after, link_cases, link_on, changed_is, number_same}
-use Rattle.table_run.proofs.Rows.{IsRow, IsOffered, IsFreed, TimerStays, TimerMoves, under_way_on, busy_stays, sent_least, free_rises, entered_upto}
+use Rattle.table_run.proofs.Rows.{IsRow, IsOffered, IsFreed, RtoTimerStays, RtoTimerMoves, under_way_on, busy_stays, sent_least, free_rises, entered_upto}
 
 module _ (p : ScenarioParts) (is_scenario : IsScenario p) (lines : List TraceLine) (now : ℕ) (s t : State) (k : Key) (v : Event) (r : Shape) (S : IsSoundAt p lines now s) (due : IsDue s k v) (nodes : k.node < length p.nodes) (M : IsMoved s k r t) (R : IsRow p s k v r t) where
   abbrev D : Packet → Type 0
@@ -51,32 +51,32 @@ module _ (p : ScenarioParts) (is_scenario : IsScenario p) (lines : List TraceLin
   pub record IsOld (q : Key) (w : Event) : Type 0 where
     pub there : map.get s.pending q ≡ Some w
     pub other : q ≢ k
-    pub not_moved : (u : ℕ) → r.old ≡ Some u → q ≢ alarm_key k.node r.alarm u
+    pub not_moved : (u : ℕ) → r.old ≡ Some u → q ≢ timer_key k.node r.timer u
 
   abbrev pub IsNew : Key → Event → Type 0
-  IsNew q w = IsSet k.node r.alarm r.event r.new links_t r.index r.step.departure q w
+  IsNew q w = IsSet k.node r.timer r.event r.new links_t r.index r.step.departure q w
 
   pub old_or_new : (q : Key) (w : Event) → map.get t.pending q ≡ Some w → IsOld q w ⊎ IsNew q w
   old_or_new q w e =
       ⊎_elim
-      (λ (h : WasPending (map.remove s.pending k) k.node r.alarm r.old q w).
+      (λ (h : WasPending (map.remove s.pending k) k.node r.timer r.old q w).
       ⊎_elim (λ (g : (q ≡ k) × (None ≡ Some w)). absurd (not_some g.1))
       (λ (g : (q ≢ k) × (map.get s.pending q ≡ Some w)). inl (record { there = g.1; other = g.0; not_moved = h.not_moved }))
       (of_changed s.pending k None q w h.there))
       (λ (h : IsNew q w). inr h)
-      (of_row k.node r.alarm r.event links_t r.index (map.remove s.pending k) r.old r.new r.step.departure q w (ap (λ m. map.get m q) (sym M.pending_is) ∙ e))
+      (of_row k.node r.timer r.event links_t r.index (map.remove s.pending k) r.old r.new r.step.departure q w (ap (λ m. map.get m q) (sym M.pending_is) ∙ e))
 
   -- what leaves
   pub leaves_with : (d : Departure) → r.step.departure ≡ Some d → Departs D k.time R.before (link_before s k r).port r.step.port d
   leaves_with d is = subst (Outcome D k.time R.before (link_before s k r).port r.step.port) is R.moves.outcome
 
-  free_before : (q : Key) (u index : ℕ) → q ≢ k → q.node ≡ k.node → index ≡ r.index → q ≡ alarm_key q.node (BecomesFree index) q.time → (link_at (part_at s q.node).links index).port.next_free ≡ Some q.time → r.step.port.next_free ≡ Some q.time
+  free_before : (q : Key) (u index : ℕ) → q ≢ k → q.node ≡ k.node → index ≡ r.index → q ≡ timer_key q.node (BecomesFree index) q.time → (link_at (part_at s q.node).links index).port.next_free ≡ Some q.time → r.step.port.next_free ≡ Some q.time
   free_before q u index other at_node at_index key set =
       let was : (link_before s k r).port.next_free ≡ Some q.time = sym (ap (λ n. (link_at (part_at s n).links index).port.next_free) at_node ∙ ap (λ i. (link_at (part_at s k.node).links i).port.next_free) at_index) ∙ set in
       ⊎_elim
       (λ (o : IsOffered s k r R.before). busy_stays D k.time R.before (link_before s k r).port r.step.port r.step.departure q.time R.moves.outcome (o.same ∙ was))
       (λ (f : IsFreed s k r R.before). let time : q.time ≡ k.time = same_some q.time k.time (sym was ∙ f.was) in
-      absurd (other (key ∙ (λ i. alarm_key (at_node i) (BecomesFree (at_index i)) (time i)) ∙ sym f.is_key)))
+      absurd (other (key ∙ (λ i. timer_key (at_node i) (BecomesFree (at_index i)) (time i)) ∙ sym f.is_key)))
       R.entered
 
   -- what a link has sent comes within its delay from when it is free
@@ -116,22 +116,22 @@ module _ (p : ScenarioParts) (is_scenario : IsScenario p) (lines : List TraceLin
   stays q (Start number) old h = h
   stays q (Rto number) old h =
       ⊎_elim
-      (λ (x : TimerStays k r h.flow.sender Retransmission _ _). record { flow = h.flow; its_flow = h.its_flow; alarm = record { is_key = h.alarm.is_key; is_set = x.same ∙ h.alarm.is_set } })
-      (λ (x : TimerMoves k r h.flow.sender Retransmission (Rto number) _ _). absurd (old.not_moved q.time (sym x.was ∙ h.alarm.is_set) (h.alarm.is_key ∙ (λ i. alarm_key (x.at_node i) (x.is_alarm i) q.time))))
-      (R.timers number h.flow h.its_flow)
+      (λ (x : RtoTimerStays k r h.flow.sender Retransmission _ _). record { flow = h.flow; its_flow = h.its_flow; timer = record { is_key = h.timer.is_key; is_set = x.same ∙ h.timer.is_set } })
+      (λ (x : RtoTimerMoves k r h.flow.sender Retransmission (Rto number) _ _). absurd (old.not_moved q.time (sym x.was ∙ h.timer.is_set) (h.timer.is_key ∙ (λ i. timer_key (x.at_node i) (x.is_timer i) q.time))))
+      (R.rto_timers number h.flow h.its_flow)
   stays q (DelAck number) old h =
       ⊎_elim
-      (λ (x : TimerStays k r h.flow.receiver DelayedAcknowledgement _ _). record { flow = h.flow; its_flow = h.its_flow; alarm = record { is_key = h.alarm.is_key; is_set = x.same ∙ h.alarm.is_set } })
-      (λ (x : TimerMoves k r h.flow.receiver DelayedAcknowledgement (DelAck number) _ _). absurd (old.not_moved q.time (sym x.was ∙ h.alarm.is_set) (h.alarm.is_key ∙ (λ i. alarm_key (x.at_node i) (x.is_alarm i) q.time))))
+      (λ (x : RtoTimerStays k r h.flow.receiver DelayedAcknowledgement _ _). record { flow = h.flow; its_flow = h.its_flow; timer = record { is_key = h.timer.is_key; is_set = x.same ∙ h.timer.is_set } })
+      (λ (x : RtoTimerMoves k r h.flow.receiver DelayedAcknowledgement (DelAck number) _ _). absurd (old.not_moved q.time (sym x.was ∙ h.timer.is_set) (h.timer.is_key ∙ (λ i. timer_key (x.at_node i) (x.is_timer i) q.time))))
       (R.delayed number h.flow h.its_flow)
   stays q (Free number) old h = record {
     index = h.index;
     link = link_on s t k r M R.within R.moves.stays q.node h.index number h.link;
-    alarm = record {
-      is_key = h.alarm.is_key;
+    timer = record {
+      is_key = h.timer.is_key;
       is_set = ⊎_elim
-          (λ (c : AtChanged s t k r q.node h.index). ap (λ (l : LinkState). l.port.next_free) c.link_is ∙ free_before q 0 h.index old.other c.at_node c.at_index h.alarm.is_key h.alarm.is_set)
-          (λ (o : AtOther s t k r q.node h.index). ap (λ (l : LinkState). l.port.next_free) o.link_is ∙ h.alarm.is_set)
+          (λ (c : AtChanged s t k r q.node h.index). ap (λ (l : LinkState). l.port.next_free) c.link_is ∙ free_before q 0 h.index old.other c.at_node c.at_index h.timer.is_key h.timer.is_set)
+          (λ (o : AtOther s t k r q.node h.index). ap (λ (l : LinkState). l.port.next_free) o.link_is ∙ h.timer.is_set)
           (link_cases s t k r M R.within q.node h.index);
     };
   }
@@ -175,12 +175,12 @@ module _ (p : ScenarioParts) (is_scenario : IsScenario p) (lines : List TraceLin
       }
 
   fresh : (q : Key) (w : Event) → IsNew q w → Belongs p t k.time q w
-  fresh q w (timer u is key event) = subst (λ (j : Key). Belongs p t k.time j w) (sym key) (subst (Belongs p t k.time (alarm_key k.node r.alarm u)) (sym event) (R.new_belongs u is))
+  fresh q w (rto_timer u is key event) = subst (λ (j : Key). Belongs p t k.time j w) (sym key) (subst (Belongs p t k.time (timer_key k.node r.timer u)) (sym event) (R.new_belongs u is))
   fresh q w (busy d is key event) =
-      subst (λ (j : Key). Belongs p t k.time j w) (sym key) (subst (Belongs p t k.time (alarm_key k.node (BecomesFree r.index) d.free)) (sym event) record {
+      subst (λ (j : Key). Belongs p t k.time j w) (sym key) (subst (Belongs p t k.time (timer_key k.node (BecomesFree r.index) d.free)) (sym event) record {
         index = r.index;
         link = record { within = new_link.within; its_number = refl };
-        alarm = record { is_key = refl; is_set = ap (λ (l : LinkState). l.port.next_free) changed_here ∙ (leaves_with d is).busy };
+        timer = record { is_key = refl; is_set = ap (λ (l : LinkState). l.port.next_free) changed_here ∙ (leaves_with d is).busy };
       })
   fresh q w (arrival d is key event) = subst (λ (j : Key). Belongs p t k.time j w) (sym key) (subst (Belongs p t k.time (coming links_t r.index d)) (sym event) (leaving_belongs d is))
 
@@ -189,7 +189,7 @@ module _ (p : ScenarioParts) (is_scenario : IsScenario p) (lines : List TraceLin
 
   -- what is set is due soon
   pub new_soon : (q : Key) (w : Event) → IsNew q w → IsDueSoon k.time q
-  new_soon q w (timer u is key event) = subst (IsDueSoon k.time) (sym key) (R.new_soon u is)
+  new_soon q w (rto_timer u is key event) = subst (IsDueSoon k.time) (sym key) (R.new_soon u is)
   new_soon q w (busy d is key event) = subst (IsDueSoon k.time) (sym key) (let out = leaves_with d is in let a = out.later in let b = out.soon in (a, omega (arith, b)))
   new_soon q w (arrival d is key event) =
       subst (IsDueSoon k.time) (sym key)
@@ -224,7 +224,7 @@ module _ (p : ScenarioParts) (is_scenario : IsScenario p) (lines : List TraceLin
 
   -- an arrival that is set is that of the packet that leaves
   the_leaving : (q : Key) (x : Packet) → IsNew q (Arrive x) → (d : Departure) × (r.step.departure ≡ Some d) × (q ≡ coming links_t r.index d)
-  the_leaving q x (timer u is key event) = absurd (R.not_arrival x (sym event))
+  the_leaving q x (rto_timer u is key event) = absurd (R.not_arrival x (sym event))
   the_leaving q x (busy d is key event) = absurd (not_free x (link_at links_t r.index).port.link event)
     where
       not_free : (x : Packet) (link : ℕ) → Arrive x ≡ Free link → ⊥

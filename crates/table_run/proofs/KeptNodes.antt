@@ -22,7 +22,7 @@ use Rattle.table_run.proofs.PortMoves.{StaysLink}
 use Rattle.table_run.proofs.Moved.{Shape, IsMoved, link_before, link_after}
 use Rattle.table_run.proofs.Rows.{IsRow, under_way_on, sent_most}
 use Rattle.table_run.proofs.KeptEvents.{belongs_after, not_past_after, in_order_after}
-use Rattle.table_run.proofs.KeptAlarms.{alarms_after, starts_after, unstarted_after}
+use Rattle.table_run.proofs.KeptTimers.{timers_after, starts_after, unstarted_after}
 
 -- a line more is its node's
 pub lines_here : (lines : List TraceLine) (line : TraceLine) → lines_at line.key.node (lines ++ line ∷ []) ≡ lines_at line.key.node lines + 1
@@ -106,7 +106,7 @@ module _ (p : ScenarioParts) (is_scenario : IsScenario p) (lines : List TraceLin
     each_router = λ node is. R.routers node is ∙ S.each_router node is;
     each_node = nodes_after line key_is;
     belongs = belongs_after p is_scenario lines now s t k v r S due nodes M R;
-    alarms = alarms_after p lines now s t k v r S due M R;
+    timers = timers_after p lines now s t k v r S due M R;
     starts = starts_after p lines now s t k v r S due M R line event_is;
     unstarted = unstarted_after p lines now s t k v r S due M R;
     in_order = in_order_after p is_scenario lines now s t k v r S due nodes M R;

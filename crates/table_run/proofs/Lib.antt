@@ -8,7 +8,7 @@ pub mod Moved
 pub mod Rows
 pub mod AtHome
 pub mod KeptEvents
-pub mod KeptAlarms
+pub mod KeptTimers
 pub mod KeptNodes
 pub mod RowLinks
 pub mod RowFlows
@@ -19,8 +19,8 @@ pub mod EndFacts
 pub mod Exits
 pub mod Dispatch
 pub mod Steps
-pub mod Opening
-pub mod OpeningLaw
+pub mod Initial
+pub mod InitialLaw
 pub mod RunLaws
 pub mod Ends
 pub mod Ready

@@ -5,23 +5,23 @@ use Rattle.packet_chain.specs.declared.packet.Packet.{Packet}
 use Rattle.scenario_image.specs.declared.parts.ScenarioParts.{ScenarioParts}
 use Rattle.scenario_image.specs.Scenario.{IsScenario}
 use Rattle.port.specs.Port.{PortStep, taken, offered_one}
-use Rattle.node_core.specs.declared.alarm.Alarm.{Alarm}
-use Rattle.node_core.specs.declared.alarm.Alarm.TheVariants.{Retransmission, DelayedAcknowledgement}
+use Rattle.node_core.specs.declared.timer.Timer.{Timer}
+use Rattle.node_core.specs.declared.timer.Timer.TheVariants.{Retransmission, DelayedAcknowledgement}
 use Rattle.node_core.specs.declared.event.Event.{Event}
 use Rattle.node_core.specs.declared.event.Event.TheVariants.{Rto, Free, Arrive}
-use Rattle.node_core.specs.Alarms.{alarm_key, alarm_number}
+use Rattle.node_core.specs.Timers.{timer_key, timer_number}
 use Rattle.node_core.specs.Part.{PartState, link_at}
 use Rattle.node_core.specs.TraceLine.{TraceLine}
-use Rattle.ranking.proofs.Maps.{not_some}
+use Rattle.tournament.proofs.Maps.{not_some}
 use Rattle.table_run.specs.State.{State, part_at, stepped}
-use Rattle.table_run.specs.Flow.{high_of, deadline_of, alarm_of, IsUnderWay}
+use Rattle.table_run.specs.Flow.{high_of, deadline_of, timer_of, IsUnderWay}
 use Rattle.table_run.specs.Sound.{IsFree, IsSoundAt}
 use Rattle.table_run.proofs.Due.{IsDue}
 use Rattle.table_run.proofs.PortMoves.{PortMoves, taken_moves, one_moves}
 use Rattle.table_run.proofs.Moved.{Shape, IsMoved, shaped, is_moved, node_there}
 use Rattle.table_run.proofs.Rows.{EachFlow, FlowRises, IsOffered, IsFreed, IsRow, under_way_on}
 use Rattle.table_run.proofs.RowLinks.{under_way_sized, is_link, waits_later}
-use Rattle.table_run.proofs.RowFlows.{flow_stays, role_rises_itself, same_roles, rises_same, timer_same}
+use Rattle.table_run.proofs.RowFlows.{flow_stays, role_rises_itself, same_roles, rises_same, rto_timer_same}
 
 module _ (p : ScenarioParts) (is_scenario : IsScenario p) (lines : List TraceLine) (now : ℕ) (s : State) (k : Key) (v : Event) (S : IsSoundAt p lines now s) (due : IsDue s k v)
     (index : ℕ) (within : index < length (part_at s k.node).links) (step : PortStep) where
@@ -29,7 +29,7 @@ module _ (p : ScenarioParts) (is_scenario : IsScenario p) (lines : List TraceLin
   part = part_at s k.node
 
   abbrev pub shape : Shape
-  shape = record { role = part.role; alarm = Retransmission; event = Rto 0; old = None; new = None; index = index; step = step }
+  shape = record { role = part.role; timer = Retransmission; event = Rto 0; old = None; new = None; index = index; step = step }
 
   abbrev pub after : State
   after = stepped s k (shaped part k shape)
@@ -48,11 +48,11 @@ module _ (p : ScenarioParts) (is_scenario : IsScenario p) (lines : List TraceLin
 
   pub link_row : (count : ℕ) → count ≤ 2147483648 → (before : Option ℕ) → IsOffered s k shape before ⊎ IsFreed s k shape before
       → PortMoves (IsUnderWay p after (link_at part.links index).port.link) k.time count before (link_at part.links index).port step
-      → ((node : ℕ) (alarm : Alarm) (time : ℕ) → alarm_number alarm ≤ 2 → alarm_key node alarm time ≢ k) → IsRow p s k v shape after
-  link_row count few before entered moves not_timer = record {
+      → ((node : ℕ) (timer : Timer) (time : ℕ) → timer_number timer ≤ 2 → timer_key node timer time ≢ k) → IsRow p s k v shape after
+  link_row count few before entered moves not_rto_timer = record {
     within = within;
-    alarm_least = omega arith;
-    alarm_most = omega arith;
+    timer_least = omega arith;
+    timer_most = omega arith;
     not_arrival = λ x e. not_arrives x e;
     count = count;
     few = few;
@@ -64,8 +64,8 @@ module _ (p : ScenarioParts) (is_scenario : IsScenario p) (lines : List TraceLin
     unsent = λ number flow its none _. ap high_of (same flow.sender) ∙ none;
     routers = λ node _. same node;
     role_rises = role_rises_itself part.role;
-    timers = λ number flow its. inl (timer_same p s after k shape M refl deadline_of Retransmission flow.sender refl refl (λ time. not_timer flow.sender Retransmission time (omega arith)));
-    delayed = λ number flow its. inl (timer_same p s after k shape M refl alarm_of DelayedAcknowledgement flow.receiver refl refl (λ time. not_timer flow.receiver DelayedAcknowledgement time (omega arith)));
+    rto_timers = λ number flow its. inl (rto_timer_same p s after k shape M refl deadline_of Retransmission flow.sender refl refl (λ time. not_rto_timer flow.sender Retransmission time (omega arith)));
+    delayed = λ number flow its. inl (rto_timer_same p s after k shape M refl timer_of DelayedAcknowledgement flow.receiver refl refl (λ time. not_rto_timer flow.receiver DelayedAcknowledgement time (omega arith)));
     new_soon = λ u is. absurd (not_some is);
     new_belongs = λ u is. absurd (not_some is);
   }
@@ -86,9 +86,9 @@ free_row_is p is_scenario lines now s k number S due h =
     let link = link_at (part_at s k.node).links h.index in
     let nodes = nodes_there p is_scenario lines now s k (Free number) S due h.index h.link.within step in
     let waits = waits_later p is_scenario lines now s S k.node h.index nodes h.link.within t (rises_here p is_scenario lines now s k (Free number) S due h.index h.link.within step) in
-    link_row p is_scenario lines now s k (Free number) S due h.index h.link.within step 0 (omega arith) None (inr (record { idle = refl; was = h.alarm.is_set; is_key = h.alarm.is_key }))
+    link_row p is_scenario lines now s k (Free number) S due h.index h.link.within step 0 (omega arith) None (inr (record { idle = refl; was = h.timer.is_set; is_key = h.timer.is_key }))
     (taken_moves (IsUnderWay p t link.port.link) (under_way_sized p is_scenario t link.port.link) k.time link.port (is_link p is_scenario lines now s S k.node h.index nodes h.link.within) waits.queued waits.room)
-    (λ node alarm time small same. let three : alarm_number alarm ≡ 3 + h.index = ap (λ (q : Key). q.number) (same ∙ h.alarm.is_key) in absurd (omega (arith, three, small)))
+    (λ node timer time small same. let three : timer_number timer ≡ 3 + h.index = ap (λ (q : Key). q.number) (same ∙ h.timer.is_key) in absurd (omega (arith, three, small)))
 
 -- a router passes a packet on
 pub pass_row_is : (p : ScenarioParts) (is_scenario : IsScenario p) (lines : List TraceLine) (now : ℕ) (s : State) (k : Key) (x : Packet) (S : IsSoundAt p lines now s) (due : IsDue s k (Arrive x)) (index : ℕ) (within : index < length (part_at s k.node).links)
@@ -104,7 +104,7 @@ pass_row_is p is_scenario lines now s k x S due index within under over source =
     link_row p is_scenario lines now s k (Arrive x) S due index within step 1 (omega arith) link.port.next_free (inl (record { same = refl; not_free = λ node i time same. no_source (ap (λ (q : Key). q.source) same) }))
     (one_moves (IsUnderWay p t link.port.link) (under_way_sized p is_scenario t link.port.link) k.time link.port x (is_link p is_scenario lines now s S k.node index nodes within) (under_way_on p s t rises link.port.link x under)
     (waits_later p is_scenario lines now s S k.node index nodes within t rises))
-    (λ node alarm time small same. no_source (ap (λ (q : Key). q.source) same))
+    (λ node timer time small same. no_source (ap (λ (q : Key). q.source) same))
   where
     no_source : 0 ≡ k.source → ⊥
     no_source e = omega (arith, e, source)

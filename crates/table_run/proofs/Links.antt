@@ -9,10 +9,10 @@ use Rattle.scenario_image.specs.declared.parts.LinkPart.{LinkPart}
 use Rattle.scenario_image.specs.declared.parts.ScenarioParts.{ScenarioParts}
 use Rattle.scenario_image.specs.LinkLimits.{IsLinkInLimits}
 use Rattle.scenario_image.specs.Kinds.{link_source}
-use Rattle.scenario_image.specs.Ways.{route_link}
+use Rattle.scenario_image.specs.Paths.{route_link}
 use Rattle.scenario_image.specs.Scenario.{IsScenario}
 use Rattle.scenario_image.proofs.Courses.{mapped_some, all_at}
-use Rattle.node_core.specs.Opening.{leaving_links, opening_link, opening_links, exit_to}
+use Rattle.node_core.specs.Initial.{leaving_links, initial_link, initial_links, exit_to}
 use Rattle.node_core.specs.Part.{LinkState, link_at, no_link}
 use Rattle.table_run.specs.Sound.{afresh}
 use Rattle.table_run.proofs.Lists.{IsAt, all_here, all_numbered, one_place, among_passing, number_found}
@@ -27,12 +27,12 @@ pub record IsPartOf (p : ScenarioParts) (node : ℕ) (link : LinkState) : Type 0
   pub rate_is : link.port.rate ≡ part.rate
   pub delay_is : link.port.delay ≡ part.delay
 
-module _ (p : ScenarioParts) (node : ℕ) (links : List LinkState) (its_links : map afresh links ≡ opening_links p.links node) where
+module _ (p : ScenarioParts) (node : ℕ) (links : List LinkState) (its_links : map afresh links ≡ initial_links p.links node) where
   -- the numbered link at an index
-  numbered_at : (index : ℕ) → index < length links → (x : ℕ × LinkPart) × (slice_get (leaving_links p.links node) index ≡ Some x) × (opening_link x ≡ afresh (link_at links index))
+  numbered_at : (index : ℕ) → index < length links → (x : ℕ × LinkPart) × (slice_get (leaving_links p.links node) index ≡ Some x) × (initial_link x ≡ afresh (link_at links index))
   numbered_at index within =
-      mapped_some opening_link (slice_get (leaving_links p.links node) index) (afresh (link_at links index))
-      (sym (slice_get-map opening_link (leaving_links p.links node) index) ∙ ap (λ ls. slice_get ls index) (sym its_links) ∙ slice_get-map afresh links index ∙ ap (option_map afresh) (slice_get-get_or links index no_link within))
+      mapped_some initial_link (slice_get (leaving_links p.links node) index) (afresh (link_at links index))
+      (sym (slice_get-map initial_link (leaving_links p.links node) index) ∙ ap (λ ls. slice_get ls index) (sym its_links) ∙ slice_get-map afresh links index ∙ ap (option_map afresh) (slice_get-get_or links index no_link within))
 
   pub link_part : (index : ℕ) → index < length links → IsPartOf p node (link_at links index)
   link_part index within =
@@ -59,7 +59,7 @@ module _ (p : ScenarioParts) (node : ℕ) (links : List LinkState) (its_links : 
       one_place (λ (y : ℕ × LinkPart). y.1.from == node) 0 p.links i j x y there there' (ap (λ (l : LinkState). l.port.link) is ∙ same ∙ sym (ap (λ (l : LinkState). l.port.link) is'))
 
   length_is : length links ≡ length (leaving_links p.links node)
-  length_is = sym (length-map links afresh) ∙ ap length its_links ∙ length-map (leaving_links p.links node) opening_link
+  length_is = sym (length-map links afresh) ∙ ap length its_links ∙ length-map (leaving_links p.links node) initial_link
 
   -- a router's exit to where it has a route
   pub exit_is : (destination next : ℕ) → route_link p.routes node destination ≡ Some next → link_source p.links next ≡ Some node

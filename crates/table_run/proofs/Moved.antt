@@ -6,13 +6,13 @@ use Rattle.std.proofs.Math.ListN.{get_or-eq_default}
 use Rattle.std.specs.FinMap as map
 use Rattle.sim_time.specs.declared.key.Key.{Key}
 use Rattle.port.specs.Port.{PortStep}
-use Rattle.node_core.specs.declared.alarm.Alarm.{Alarm}
+use Rattle.node_core.specs.declared.timer.Timer.{Timer}
 use Rattle.node_core.specs.declared.event.Event.{Event}
 use Rattle.node_core.specs.declared.role.Role.{Role}
-use Rattle.node_core.specs.Alarms.{alarm_key}
+use Rattle.node_core.specs.Timers.{timer_key}
 use Rattle.node_core.specs.Part.{LinkState, PartState, link_at, no_link}
-use Rattle.node_core.specs.Row.{Effect, with_step, timer_moved}
-use Rattle.ranking.specs.Keyed.{apply}
+use Rattle.node_core.specs.Row.{Effect, with_step, rto_timer_moved}
+use Rattle.tournament.specs.Keyed.{apply}
 use Rattle.table_run.specs.State.{State, part_at, no_part, stepped}
 use Rattle.table_run.specs.Sound.{IsLinkOf}
 use Rattle.table_run.proofs.PortMoves.{StaysLink}
@@ -21,7 +21,7 @@ use Rattle.table_run.proofs.Changes.{row_changes}
 -- what a row makes of a node: its role, the timer that moves, and what is done at one of its links
 pub record Shape : Type 0 where
   pub role : Role
-  pub alarm : Alarm
+  pub timer : Timer
   pub event : Event
   pub old : Option ℕ
   pub new : Option ℕ
@@ -30,7 +30,7 @@ pub record Shape : Type 0 where
 
 -- the effect of that
 abbrev pub shaped : PartState → Key → Shape → Effect
-shaped part k r = with_step part r.role (timer_moved (alarm_key k.node r.alarm) r.event r.old r.new) r.index r.step
+shaped part k r = with_step part r.role (rto_timer_moved (timer_key k.node r.timer) r.event r.old r.new) r.index r.step
 
 abbrev pub link_before : State → Key → Shape → LinkState
 link_before s k r = link_at (part_at s k.node).links r.index
@@ -45,7 +45,7 @@ pub record IsMoved (s : State) (k : Key) (r : Shape) (t : State) : Type 0 where
   pub elsewhere : (node : ℕ) → node ≢ k.node → part_at t node ≡ part_at s node
   pub here_role : (part_at t k.node).role ≡ r.role
   pub here_links : (part_at t k.node).links ≡ set (part_at s k.node).links r.index (link_after s k r)
-  pub pending_is : t.pending ≡ apply (row_changes k.node r.alarm r.event r.old r.new (part_at t k.node).links r.index r.step.departure) (map.remove s.pending k)
+  pub pending_is : t.pending ≡ apply (row_changes k.node r.timer r.event r.old r.new (part_at t k.node).links r.index r.step.departure) (map.remove s.pending k)
 
 pub node_there : (s : State) (node index : ℕ) → index < length (part_at s node).links → node < length s.parts
 node_there s node index within =
@@ -64,7 +64,7 @@ is_moved s k r within =
       elsewhere = λ node other. get_or-set_other s.parts k.node node effect.part no_part other;
       here_role = ap (λ (x : PartState). x.role) here;
       here_links = ap (λ (x : PartState). x.links) here;
-      pending_is = ap (λ (x : PartState). apply (row_changes k.node r.alarm r.event r.old r.new x.links r.index r.step.departure) (map.remove s.pending k)) (sym here);
+      pending_is = ap (λ (x : PartState). apply (row_changes k.node r.timer r.event r.old r.new x.links r.index r.step.departure) (map.remove s.pending k)) (sym here);
     }
 
 -- the links of a node, one by one: the one that changes, and the others

@@ -1,5 +1,5 @@
 -- What offering packets to a link and taking from its queue keeps, and what begins to be sent.
-use Rattle.ranking.proofs.Maps.{not_some}
+use Rattle.tournament.proofs.Maps.{not_some}
 use Rattle.std.proofs.Common.{◌≡◌, ℕ, ◌+◌, ◌<◌, ◌≤◌, Bool, true, false, cond, List, [], ◌∷◌, ◌++◌, length, refl, sym, ap, subst, ◌∙◌, Option, Some, None, ◌==◌, true≢false, length-append, arith}
 use Rattle.std.proofs.lemmas.Bool.{eqb-false}
 use Rattle.std.specs.Prelude.{is_none, IsNone}

@@ -12,22 +12,22 @@ use Rattle.packet_chain.specs.declared.packet.Kind.{Kind}
 use Rattle.packet_chain.specs.declared.packet.Kind.TheVariants.{Data, Ack}
 use Rattle.scenario_image.specs.declared.parts.LinkPart.{LinkPart}
 use Rattle.scenario_image.specs.LinkLimits.{IsLinkInLimits}
-use Rattle.scenario_image.specs.Ways.{IsOnWay}
-use Rattle.scenario_image.specs.WayLaws.{GoesOn}
+use Rattle.scenario_image.specs.Paths.{IsOnWay}
+use Rattle.scenario_image.specs.PathLaws.{PathGoesOn}
 use Rattle.scenario_image.proofs.Courses.{all_at}
-use Rattle.scenario_image.proofs.Arrivals.{ways_go_on_or_end}
+use Rattle.scenario_image.proofs.Arrivals.{paths_go_on_or_end}
 use Rattle.port.specs.Port.{Departure}
 use Rattle.node_core.specs.declared.event.Event.{Event}
 use Rattle.node_core.specs.declared.event.Event.TheVariants.{Start, Rto, DelAck, Free, Arrive}
-use Rattle.node_core.specs.Opening.{exits_of}
+use Rattle.node_core.specs.Initial.{exits_of}
 use Rattle.node_core.specs.RouteTable.{exit_for}
 use Rattle.node_core.specs.Part.{LinkState, link_at, no_link}
 use Rattle.node_core.specs.Row.{Effect, Leaving, leaving_over, arrives}
-use Rattle.node_core.specs.Ready.{Takes, ReceiverTakes, SenderTakes, CanRun, LinkCan, IsRunnable}
+use Rattle.node_core.specs.Ready.{CanTakePacket, ReceiverTakes, SenderTakes, CanHandle, LinkCan, IsRunnable}
 use Rattle.node_core.specs.TraceLine.{TraceLine}
-use Rattle.ranking.proofs.Maps.{not_some, same_some, none_or}
-use Rattle.table_run.specs.State.{State, opening, part_at, due, effect_of, stepped}
-use Rattle.table_run.specs.Flow.{high_of, sent_high, received_next, way_of, IsSent, IsGiven, Carries, IsUnderWay}
+use Rattle.tournament.proofs.Maps.{not_some, same_some, none_or}
+use Rattle.table_run.specs.State.{State, initial, part_at, due, effect_of, stepped}
+use Rattle.table_run.specs.Flow.{high_of, sent_high, received_next, path_of, IsSent, IsGiven, Carries, IsUnderWay}
 use Rattle.table_run.specs.Sound.{Belongs, IsArrival, IsSoundLink, IsSoundAt, lines_at}
 use Rattle.table_run.specs.Laws.{ComesTo, IsSoundRun}
 use Rattle.table_run.proofs.Lists.{all_map, all_here}
@@ -67,48 +67,48 @@ pub record IsDelivery (s : State) (n : ℕ) (k : Key) (new : List LinkState) (le
 
 -- what an arrival needs of its node
 module _ (p : ScenarioParts) (is_scenario : IsScenario p) (lines : List TraceLine) (now : ℕ) (s : State) (k : Key) (S : IsSoundAt p lines now s) (moment : k.time ≤ 1000000000000000) where
-  at_router : (x : Packet) (h : IsArrival p s now k x) → GoesOn p (way_of x.kind h.under_way.flow) k.node → Takes (part_at s k.node) (part_at s k.node).role k.time x
+  at_router : (x : Packet) (h : IsArrival p s now k x) → PathGoesOn p (path_of x.kind h.under_way.flow) k.node → CanTakePacket (part_at s k.node) (part_at s k.node).role k.time x
   at_router x h on =
       let U = h.under_way in
-      let e = has_exit p lines now s k S (way_of x.kind U.flow) on in
+      let e = has_exit p lines now s k S (path_of x.kind U.flow) on in
       let exit : exit_for (map (exits_of p k.node) p.flows) x ≡ Some e.index = exit_by_table p k.node x U.flow U.its_flow ∙ e.exit in
-      subst (λ ρ. Takes (part_at s k.node) ρ k.time x) (sym e.role_is) (λ i is. subst (λ j. j < length (part_at s k.node).links) (same_some e.index i (sym exit ∙ is)) e.within)
+      subst (λ ρ. CanTakePacket (part_at s k.node) ρ k.time x) (sym e.role_is) (λ i is. subst (λ j. j < length (part_at s k.node).links) (same_some e.index i (sym exit ∙ is)) e.within)
 
-  at_receiver_end : (x : Packet) (h : IsArrival p s now k x) → x.kind ≡ Data → k.node ≡ h.under_way.flow.receiver → Takes (part_at s k.node) (part_at s k.node).role k.time x
+  at_receiver_end : (x : Packet) (h : IsArrival p s now k x) → x.kind ≡ Data → k.node ≡ h.under_way.flow.receiver → CanTakePacket (part_at s k.node) (part_at s k.node).role k.time x
   at_receiver_end x h is at =
       let U = h.under_way in
       let F = S.each_flow x.flow U.flow U.its_flow in
       let sent : IsSent U.flow (sent_high s U.flow) x = subst (λ c. Carries U.flow (sent_high s U.flow) (received_next s U.flow) c x) is U.carries in
       let whole : x.number % F.received.mss ≡ 0 = subst (λ m. x.number % m ≡ 0) (sym F.same_mss) sent.multiple in
       let fits : x.number ≤ 9000000000000 = (let a = sent.by_high in let b = ap high_of F.sender_role in let most = high_fits F.fields F.sound in omega (arith, a, b, most)) in
-      subst (λ ρ. Takes (part_at s k.node) ρ k.time x) (sym (ap (λ n. (part_at s n).role) at ∙ F.receiver_role)) (subst (λ c. ReceiverTakes F.received c x.number) (sym is) (whole, fits))
+      subst (λ ρ. CanTakePacket (part_at s k.node) ρ k.time x) (sym (ap (λ n. (part_at s n).role) at ∙ F.receiver_role)) (subst (λ c. ReceiverTakes F.received c x.number) (sym is) (whole, fits))
 
-  at_sender_end : (x : Packet) (h : IsArrival p s now k x) → IsDue s k (Arrive x) → x.kind ≡ Ack → k.node ≡ h.under_way.flow.sender → Takes (part_at s k.node) (part_at s k.node).role k.time x
+  at_sender_end : (x : Packet) (h : IsArrival p s now k x) → IsDue s k (Arrive x) → x.kind ≡ Ack → k.node ≡ h.under_way.flow.sender → CanTakePacket (part_at s k.node) (part_at s k.node).role k.time x
   at_sender_end x h due is at =
       let U = h.under_way in
       let F = S.each_flow x.flow U.flow U.its_flow in
       let given : IsGiven U.flow (sent_high s U.flow) (received_next s U.flow) x = subst (λ c. Carries U.flow (sent_high s U.flow) (received_next s U.flow) c x) is U.carries in
-      subst (λ ρ. Takes (part_at s k.node) ρ k.time x) (sym (ap (λ n. (part_at s n).role) at ∙ F.sender_role))
+      subst (λ ρ. CanTakePacket (part_at s k.node) ρ k.time x) (sym (ap (λ n. (part_at s n).role) at ∙ F.sender_role))
       (subst (λ c. SenderTakes F.fields k.time c x.number) (sym is) (ack_fits p is_scenario lines now s k S moment x due h F given))
 
-  takes : (x : Packet) → IsDue s k (Arrive x) → IsArrival p s now k x → Takes (part_at s k.node) (part_at s k.node).role k.time x
+  takes : (x : Packet) → IsDue s k (Arrive x) → IsArrival p s now k x → CanTakePacket (part_at s k.node) (part_at s k.node).role k.time x
   takes x due h = by x.kind refl
     where
-      by : (c : Kind) → x.kind ≡ c → Takes (part_at s k.node) (part_at s k.node).role k.time x
+      by : (c : Kind) → x.kind ≡ c → CanTakePacket (part_at s k.node) (part_at s k.node).role k.time x
       by Data is =
           let U = h.under_way in
           ⊎_elim
           (λ (ends : h.link.to ≡ U.flow.receiver). at_receiver_end x h is (h.ends_here ∙ ends))
-          (λ (on : GoesOn p (way_of Data U.flow) h.link.to). at_router x h (subst (λ c. GoesOn p (way_of c U.flow) k.node) (sym is) (subst (GoesOn p (way_of Data U.flow)) (sym h.ends_here) on)))
-          ((ways_go_on_or_end p is_scenario x.flow U.flow U.its_flow).0 h.number h.link (subst (λ c. IsOnWay p (way_of c U.flow) h.number) is U.on_way) h.its_link)
+          (λ (on : PathGoesOn p (path_of Data U.flow) h.link.to). at_router x h (subst (λ c. PathGoesOn p (path_of c U.flow) k.node) (sym is) (subst (PathGoesOn p (path_of Data U.flow)) (sym h.ends_here) on)))
+          ((paths_go_on_or_end p is_scenario x.flow U.flow U.its_flow).0 h.number h.link (subst (λ c. IsOnWay p (path_of c U.flow) h.number) is U.on_way) h.its_link)
       by Ack is =
           let U = h.under_way in
           ⊎_elim
           (λ (ends : h.link.to ≡ U.flow.sender). at_sender_end x h due is (h.ends_here ∙ ends))
-          (λ (on : GoesOn p (way_of Ack U.flow) h.link.to). at_router x h (subst (λ c. GoesOn p (way_of c U.flow) k.node) (sym is) (subst (GoesOn p (way_of Ack U.flow)) (sym h.ends_here) on)))
-          ((ways_go_on_or_end p is_scenario x.flow U.flow U.its_flow).1 h.number h.link (subst (λ c. IsOnWay p (way_of c U.flow) h.number) is U.on_way) h.its_link)
+          (λ (on : PathGoesOn p (path_of Ack U.flow) h.link.to). at_router x h (subst (λ c. PathGoesOn p (path_of c U.flow) k.node) (sym is) (subst (PathGoesOn p (path_of Ack U.flow)) (sym h.ends_here) on)))
+          ((paths_go_on_or_end p is_scenario x.flow U.flow U.its_flow).1 h.number h.link (subst (λ c. IsOnWay p (path_of c U.flow) h.number) is U.on_way) h.its_link)
 
-  can_run : (v : Event) → IsDue s k v → Belongs p s now k v → CanRun (part_at s k.node) k.time v
+  can_run : (v : Event) → IsDue s k v → Belongs p s now k v → CanHandle (part_at s k.node) k.time v
   can_run (Start number) due h = tt
   can_run (Rto number) due h = tt
   can_run (DelAck number) due h = tt
@@ -191,9 +191,9 @@ module _ (p : ScenarioParts) (is_scenario : IsScenario p) (lines : List TraceLin
       -- a pending key whose source is a link is an arrival
       of_source : (q : Key) (w : Event) (number : ℕ) → q.source ≡ number + 1 → Belongs p s now q w → (x : Packet) × (w ≡ Arrive x)
       of_source q (Start j) number source h = absurd (zero_source q number (ap (λ (z : Key). z.source) h.is_key) source)
-      of_source q (Rto j) number source h = absurd (zero_source q number (ap (λ (z : Key). z.source) h.alarm.is_key) source)
-      of_source q (DelAck j) number source h = absurd (zero_source q number (ap (λ (z : Key). z.source) h.alarm.is_key) source)
-      of_source q (Free j) number source h = absurd (zero_source q number (ap (λ (z : Key). z.source) h.alarm.is_key) source)
+      of_source q (Rto j) number source h = absurd (zero_source q number (ap (λ (z : Key). z.source) h.timer.is_key) source)
+      of_source q (DelAck j) number source h = absurd (zero_source q number (ap (λ (z : Key). z.source) h.timer.is_key) source)
+      of_source q (Free j) number source h = absurd (zero_source q number (ap (λ (z : Key). z.source) h.timer.is_key) source)
       of_source q (Arrive x) number source h = (x, refl)
 
       before_it : (d : Departure) → r.step.departure ≡ Some d → (q : Key) (w : Event) → finmap.get s.pending q ≡ Some w → q.source ≡ (link_at new_links r.index).port.link + 1 → (q.time < d.arrival) × (q.number < (link_at new_links r.index).port.sent)
@@ -221,7 +221,7 @@ module _ (p : ScenarioParts) (n : ℕ) (lines : List TraceLine) (s : State) (is_
   has = has_row p is_scenario lines sound.moment s k sound.sound moment v its_due (sound.sound.belongs k v its_due.pending)
 
   few_lines : (node : ℕ) → lines_at node lines ≤ n
-  few_lines node = (let a = count_by-le-length (λ (line : TraceLine). line.key.node == node) lines in let b = run_length n (opening p) s lines comes in omega (arith, a, b))
+  few_lines node = (let a = count_by-le-length (λ (line : TraceLine). line.key.node == node) lines in let b = run_length n (initial p) s lines comes in omega (arith, a, b))
 
   -- its node is there
   pub node_within : k.node < length s.parts

@@ -13,30 +13,30 @@ use Rattle.scenario_image.specs.declared.parts.NodeKind.TheVariants.{Router}
 use Rattle.scenario_image.specs.declared.parts.FlowPart.{FlowPart}
 use Rattle.scenario_image.specs.declared.parts.ScenarioParts.{ScenarioParts}
 use Rattle.scenario_image.specs.Scenario.{IsScenario}
-use Rattle.scenario_image.specs.Ways.{ack_way, IsOnWay}
-use Rattle.scenario_image.proofs.Arrivals.{ways_begin}
+use Rattle.scenario_image.specs.Paths.{ack_path, IsOnWay}
+use Rattle.scenario_image.proofs.Arrivals.{paths_begin}
 use Rattle.port.specs.Port.{offered_all}
-use Rattle.node_core.specs.declared.alarm.Alarm.{Alarm}
-use Rattle.node_core.specs.declared.alarm.Alarm.TheVariants.{Retransmission, DelayedAcknowledgement, Free as BecomesFree}
+use Rattle.node_core.specs.declared.timer.Timer.{Timer}
+use Rattle.node_core.specs.declared.timer.Timer.TheVariants.{Retransmission, DelayedAcknowledgement, Free as BecomesFree}
 use Rattle.node_core.specs.declared.event.Event.{Event}
 use Rattle.node_core.specs.declared.event.Event.TheVariants.{DelAck, Arrive}
 use Rattle.node_core.specs.declared.role.Role.{Role}
 use Rattle.node_core.specs.declared.role.Role.TheVariants.{Receives, Routes}
 use Rattle.node_core.specs.declared.routes.FlowExits.{FlowExits}
-use Rattle.node_core.specs.Alarms.{alarm_key}
-use Rattle.node_core.specs.Opening.{exits_of}
+use Rattle.node_core.specs.Timers.{timer_key}
+use Rattle.node_core.specs.Initial.{exits_of}
 use Rattle.node_core.specs.Part.{PartState, link_at}
 use Rattle.node_core.specs.Row.{ack_of}
 use Rattle.node_core.specs.TraceLine.{TraceLine}
-use Rattle.ranking.proofs.Maps.{same_some}
+use Rattle.tournament.proofs.Maps.{same_some}
 use Rattle.table_run.specs.State.{State, part_at, stepped}
-use Rattle.table_run.specs.Flow.{high_of, next_at, deadline_of, alarm_of, sent_high, received_next, IsAnswerable, IsUnderWay, IsSoundFlow}
+use Rattle.table_run.specs.Flow.{high_of, next_at, deadline_of, timer_of, sent_high, received_next, IsAnswerable, IsUnderWay, IsSoundFlow}
 use Rattle.table_run.specs.Sound.{IsSoundAt}
 use Rattle.table_run.specs.Laws.{RoleRises}
 use Rattle.table_run.proofs.Due.{IsDue}
 use Rattle.table_run.proofs.PortMoves.{all_moves}
 use Rattle.table_run.proofs.Moved.{Shape, IsMoved, shaped, is_moved}
-use Rattle.table_run.proofs.Rows.{EachFlow, FlowRises, Timer, TimerStays, IsRow}
+use Rattle.table_run.proofs.Rows.{EachFlow, FlowRises, TimerChanges, RtoTimerStays, IsRow}
 use Rattle.table_run.proofs.RowLinks.{flow_limits, under_way_sized, is_link, waits_later, FirstLink, first_link}
 use Rattle.table_run.proofs.RowFlows.{timed_later, deadline_later, flow_stays}
 use Rattle.table_run.proofs.SenderRow.{sends_isnt_receives}
@@ -51,7 +51,7 @@ pub record AnswerKeeps (st : ReceiverState) (high now : ℕ) (a : Answered) : Ty
   pub received_below : (x : ℕ) → IsReceived a.state x → x + st.mss ≤ high
   pub answerable : IsAnswerable st.mss high (next_of a.state)
   pub acknowledges : (m : ℕ) → a.reply ≡ AckNow m → m ≡ next_of a.state
-  pub alarm_soon : (t : ℕ) → a.state.alarm ≡ Some t → (now < t) × (t ≤ now + 500000000)
+  pub timer_soon : (t : ℕ) → a.state.timer ≡ Some t → (now < t) × (t ≤ now + 500000000)
 
 same_receiver : (a b : ℕ) (f g : ReceiverState) → Receives a f ≡ Receives b g → a ≡ b
 same_receiver a b f g e = cc
@@ -71,10 +71,10 @@ module _ (p : ScenarioParts) (is_scenario : IsScenario p) (lines : List TraceLin
   abbrev pub shape : Shape
   shape = record {
     role = Receives number a.state;
-    alarm = DelayedAcknowledgement;
+    timer = DelayedAcknowledgement;
     event = DelAck number;
-    old = F.received.alarm;
-    new = a.state.alarm;
+    old = F.received.timer;
+    new = a.state.timer;
     index = 0;
     step = offered_all k.time (link_at part.links 0).port (ack_of number a.reply);
   }
@@ -91,8 +91,8 @@ module _ (p : ScenarioParts) (is_scenario : IsScenario p) (lines : List TraceLin
   nodes : k.node < length p.nodes
   nodes = subst (λ n. n < length p.nodes) (sym at) (flow_limits p is_scenario number flow its).receiver_node
 
-  first : FirstLink p s (ack_way flow)
-  first = first_link p lines now s S (ack_way flow) (flow_limits p is_scenario number flow its).receiver_node (ways_begin p is_scenario number flow its).1
+  first : FirstLink p s (ack_path flow)
+  first = first_link p lines now s S (ack_path flow) (flow_limits p is_scenario number flow its).receiver_node (paths_begin p is_scenario number flow its).1
 
   within : 0 < length part.links
   within = subst (λ n. 0 < length (part_at s n).links) (sym at) first.within
@@ -152,7 +152,7 @@ module _ (p : ScenarioParts) (is_scenario : IsScenario p) (lines : List TraceLin
       its_delack = keeps.same_delack ∙ F.its_delack;
       received_sent = λ seq got. (let most = keeps.received_below seq got in let same = F.same_mss in omega (arith, most, same));
       next_sent = next_below;
-      answer_waits = wait_set a.state.alarm (IsAnswerable flow.mss F.fields.high (next_of a.state)) answerable;
+      answer_waits = wait_set a.state.timer (IsAnswerable flow.mss F.fields.high (next_of a.state)) answerable;
     }
 
     -- a flow is this one, or stays as it is
@@ -190,13 +190,13 @@ module _ (p : ScenarioParts) (is_scenario : IsScenario p) (lines : List TraceLin
               by_next = omega (arith, same, next);
               early = subst (λ h. IsAnswerable flow.mss h m) (sym high) (subst (IsAnswerable flow.mss F.fields.high) (sym same) answerable);
             };
-            on_way = subst (λ n. IsOnWay p (ack_way flow) (link_at (part_at s n).links 0).port.link) (sym at) first.on_way;
+            on_way = subst (λ n. IsOnWay p (ack_path flow) (link_at (part_at s n).links 0).port.link) (sym at) first.on_way;
           },
           tt,
         )
 
-    stays_timer : (f : Role → Option ℕ) (alarm : Alarm) (node : ℕ) → node ≢ k.node → (part_at t node).role ≡ (part_at s node).role → TimerStays k shape node alarm (f (part_at s node).role) (f (part_at t node).role)
-    stays_timer f alarm node apart same = record {
+    stays_rto_timer : (f : Role → Option ℕ) (timer : Timer) (node : ℕ) → node ≢ k.node → (part_at t node).role ≡ (part_at s node).role → RtoTimerStays k shape node timer (f (part_at s node).role) (f (part_at t node).role)
+    stays_rto_timer f timer node apart same = record {
       same = ap f same;
       not_due = λ time is. apart (ap (λ (q : Key). q.node) is);
       not_old = λ time u _ is. apart (ap (λ (q : Key). q.node) is);
@@ -207,11 +207,11 @@ module _ (p : ScenarioParts) (is_scenario : IsScenario p) (lines : List TraceLin
     few_acks (AckNow m) = omega arith
     few_acks (Wait time) = omega arith
 
-    pub row : ((node index time : ℕ) → alarm_key node (BecomesFree index) time ≢ k) → IsRow p s k v shape t
+    pub row : ((node index time : ℕ) → timer_key node (BecomesFree index) time ≢ k) → IsRow p s k v shape t
     row not_link = record {
       within = within;
-      alarm_least = omega arith;
-      alarm_most = omega arith;
+      timer_least = omega arith;
+      timer_most = omega arith;
       not_arrival = λ x e. not_arrives x e;
       count = length (ack_of number a.reply);
       few = few_acks a.reply;
@@ -224,12 +224,12 @@ module _ (p : ScenarioParts) (is_scenario : IsScenario p) (lines : List TraceLin
       unsent = λ j other found none _. ap high_of (sender_stays j other found) ∙ none;
       routers = λ node is. ap (λ (x : PartState). x.role) (M.elsewhere node (no_router node is));
       role_rises = subst (λ x. RoleRises x (Receives number a.state)) (sym role_here) (refl, keeps.next_rises);
-      timers = λ j other found. inl (stays_timer deadline_of Retransmission other.sender (no_sender j other found) (sender_stays j other found));
-      delayed = by_flow (λ j other. Timer k shape other.receiver DelayedAcknowledgement (DelAck j) (alarm_of (part_at s other.receiver).role) (alarm_of (part_at t other.receiver).role))
-          (inr (record { at_node = sym at; is_alarm = refl; is_event = refl; was = ap alarm_of F.receiver_role; is_now = ap alarm_of role_now }))
-          (λ j other _ apart. inl (stays_timer alarm_of DelayedAcknowledgement other.receiver apart (receiver_stays other apart)));
-      new_soon = λ u is. ((keeps.alarm_soon u is).0, (let most = (keeps.alarm_soon u is).1 in omega (arith, most)));
-      new_belongs = λ u is. record { flow = flow; its_flow = its; alarm = record { is_key = ap (λ n. alarm_key n DelayedAcknowledgement u) at; is_set = ap alarm_of role_now ∙ is } };
+      rto_timers = λ j other found. inl (stays_rto_timer deadline_of Retransmission other.sender (no_sender j other found) (sender_stays j other found));
+      delayed = by_flow (λ j other. TimerChanges k shape other.receiver DelayedAcknowledgement (DelAck j) (timer_of (part_at s other.receiver).role) (timer_of (part_at t other.receiver).role))
+          (inr (record { at_node = sym at; is_timer = refl; is_event = refl; was = ap timer_of F.receiver_role; is_now = ap timer_of role_now }))
+          (λ j other _ apart. inl (stays_rto_timer timer_of DelayedAcknowledgement other.receiver apart (receiver_stays other apart)));
+      new_soon = λ u is. ((keeps.timer_soon u is).0, (let most = (keeps.timer_soon u is).1 in omega (arith, most)));
+      new_belongs = λ u is. record { flow = flow; its_flow = its; timer = record { is_key = ap (λ n. timer_key n DelayedAcknowledgement u) at; is_set = ap timer_of role_now ∙ is } };
     }
       where
         not_arrives : (x : Packet) → DelAck number ≡ Arrive x → ⊥

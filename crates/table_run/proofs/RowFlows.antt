@@ -6,17 +6,17 @@ use Rattle.sim_time.specs.declared.key.Key.{Key}
 use Rattle.reno_sender.specs.declared.fields.Timing.{Timing}
 use Rattle.scenario_image.specs.declared.parts.FlowPart.{FlowPart}
 use Rattle.scenario_image.specs.declared.parts.ScenarioParts.{ScenarioParts}
-use Rattle.node_core.specs.declared.alarm.Alarm.{Alarm}
+use Rattle.node_core.specs.declared.timer.Timer.{Timer}
 use Rattle.node_core.specs.declared.role.Role.{Role}
 use Rattle.node_core.specs.declared.role.Role.TheVariants.{Sends, Receives, Routes}
-use Rattle.node_core.specs.Alarms.{alarm_key}
+use Rattle.node_core.specs.Timers.{timer_key}
 use Rattle.node_core.specs.Part.{PartState}
 use Rattle.table_run.specs.State.{State, part_at}
 use Rattle.table_run.specs.Flow.{high_of, next_at, IsSoundFlow}
 use Rattle.table_run.specs.Laws.{RoleRises}
-use Rattle.ranking.proofs.Maps.{not_some}
+use Rattle.tournament.proofs.Maps.{not_some}
 use Rattle.table_run.proofs.Moved.{Shape, IsMoved}
-use Rattle.table_run.proofs.Rows.{EachFlow, FlowRises, TimerStays}
+use Rattle.table_run.proofs.Rows.{EachFlow, FlowRises, RtoTimerStays}
 
 pub timed_later : (now later : ℕ) (o : Option Timing) → now ≤ later → IfSome o (λ t. t.sent_at ≤ now) → IfSome o (λ t. t.sent_at ≤ later)
 timed_later now later None upto h = tt
@@ -68,8 +68,8 @@ module _ (p : ScenarioParts) (s t : State) (k : Key) (r : Shape) (M : IsMoved s 
       record { high = omega (arith, a); next = omega (arith, b) }
 
   -- no timer moves
-  pub timer_same : (f : Role → Option ℕ) (alarm : Alarm) (node : ℕ) → r.old ≡ None → r.new ≡ None → ((time : ℕ) → alarm_key node alarm time ≢ k) → TimerStays k r node alarm (f (part_at s node).role) (f (part_at t node).role)
-  timer_same f alarm node old new apart = record {
+  pub rto_timer_same : (f : Role → Option ℕ) (timer : Timer) (node : ℕ) → r.old ≡ None → r.new ≡ None → ((time : ℕ) → timer_key node timer time ≢ k) → RtoTimerStays k r node timer (f (part_at s node).role) (f (part_at t node).role)
+  rto_timer_same f timer node old new apart = record {
     same = ap f (same_roles node);
     not_due = apart;
     not_old = λ time u is. absurd (not_some (sym old ∙ is));

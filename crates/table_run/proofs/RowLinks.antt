@@ -8,11 +8,11 @@ use Rattle.packet_chain.specs.declared.packet.Kind.TheVariants.{Data, Ack}
 use Rattle.scenario_image.specs.declared.parts.FlowPart.{FlowPart}
 use Rattle.scenario_image.specs.declared.parts.LinkPart.{LinkPart}
 use Rattle.scenario_image.specs.declared.parts.ScenarioParts.{ScenarioParts}
-use Rattle.scenario_image.specs.declared.ways.Way.{Way}
+use Rattle.scenario_image.specs.declared.paths.Path.{Path}
 use Rattle.scenario_image.specs.FlowLimits.{IsFlowInLimits}
 use Rattle.scenario_image.specs.Scenario.{IsScenario}
-use Rattle.scenario_image.specs.Ways.{IsOnWay}
-use Rattle.scenario_image.specs.WayLaws.{Begins}
+use Rattle.scenario_image.specs.Paths.{IsOnWay}
+use Rattle.scenario_image.specs.PathLaws.{Begins}
 use Rattle.scenario_image.proofs.Courses.{all_at}
 use Rattle.aqm.specs.Queue.{waiting_in}
 use Rattle.node_core.specs.Part.{LinkState, link_at, no_link}
@@ -55,17 +55,17 @@ module _ (p : ScenarioParts) (is_scenario : IsScenario p) (lines : List TraceLin
     room = sound_link.room;
   }
 
--- the one link that leaves a way's start
-pub record FirstLink (p : ScenarioParts) (s : State) (way : Way) : Type 0 where
-  pub within : 0 < length (part_at s way.start).links
-  pub on_way : IsOnWay p way (link_at (part_at s way.start).links 0).port.link
+-- the one link that leaves a path's start
+pub record FirstLink (p : ScenarioParts) (s : State) (path : Path) : Type 0 where
+  pub within : 0 < length (part_at s path.start).links
+  pub on_way : IsOnWay p path (link_at (part_at s path.start).links 0).port.link
 
-pub first_link : (p : ScenarioParts) (lines : List TraceLine) (now : ℕ) (s : State) → IsSoundAt p lines now s → (way : Way) → way.start < length p.nodes → Begins p way → FirstLink p s way
-first_link p lines now s S way nodes begins =
-    let links = (part_at s way.start).links in
-    let its_links = (S.each_node way.start nodes).its_links in
-    let (i, inside) = leaving_index p way.start links its_links begins.first begins.leaves_start in
+pub first_link : (p : ScenarioParts) (lines : List TraceLine) (now : ℕ) (s : State) → IsSoundAt p lines now s → (path : Path) → path.start < length p.nodes → Begins p path → FirstLink p s path
+first_link p lines now s S path nodes begins =
+    let links = (part_at s path.start).links in
+    let its_links = (S.each_node path.start nodes).its_links in
+    let (i, inside) = leaving_index p path.start links its_links begins.first begins.leaves_start in
     let within : 0 < length links = omega (arith, inside) in
-    let part = link_part p way.start links its_links 0 within in
-    let source : option_map (λ (l : LinkPart). l.from) (slice_get p.links (link_at links 0).port.link) ≡ Some way.start = ap (option_map (λ (l : LinkPart). l.from)) part.its_part ∙ ap (λ n. Some n) part.from_here in
-    record { within = within; on_way = subst (IsOnWay p way) (sym (begins.only (link_at links 0).port.link source)) begins.on_way }
+    let part = link_part p path.start links its_links 0 within in
+    let source : option_map (λ (l : LinkPart). l.from) (slice_get p.links (link_at links 0).port.link) ≡ Some path.start = ap (option_map (λ (l : LinkPart). l.from)) part.its_part ∙ ap (λ n. Some n) part.from_here in
+    record { within = within; on_way = subst (IsOnWay p path) (sym (begins.only (link_at links 0).port.link source)) begins.on_way }

@@ -10,16 +10,16 @@ use Rattle.scenario_image.specs.declared.parts.NodeKind.TheVariants.{Router}
 use Rattle.scenario_image.specs.declared.parts.FlowPart.{FlowPart}
 use Rattle.scenario_image.specs.declared.parts.ScenarioParts.{ScenarioParts}
 use Rattle.port.specs.Port.{PortState, Departure}
-use Rattle.node_core.specs.declared.alarm.Alarm.{Alarm}
-use Rattle.node_core.specs.declared.alarm.Alarm.TheVariants.{Retransmission, DelayedAcknowledgement, Free as BecomesFree}
+use Rattle.node_core.specs.declared.timer.Timer.{Timer}
+use Rattle.node_core.specs.declared.timer.Timer.TheVariants.{Retransmission, DelayedAcknowledgement, Free as BecomesFree}
 use Rattle.node_core.specs.declared.event.Event.{Event}
 use Rattle.node_core.specs.declared.event.Event.TheVariants.{Start, Rto, DelAck, Arrive}
-use Rattle.node_core.specs.Alarms.{alarm_key, alarm_number}
+use Rattle.node_core.specs.Timers.{timer_key, timer_number}
 use Rattle.table_run.specs.State.{State, part_at}
-use Rattle.table_run.specs.Flow.{sent_high, received_next, deadline_of, alarm_of, IsAnswerable, Carries, IsUnderWay, IsSoundFlow}
+use Rattle.table_run.specs.Flow.{sent_high, received_next, deadline_of, timer_of, IsAnswerable, Carries, IsUnderWay, IsSoundFlow}
 use Rattle.table_run.specs.Sound.{Belongs}
 use Rattle.table_run.specs.Laws.{IsDueSoon, RoleRises}
-use Rattle.ranking.proofs.Maps.{not_some}
+use Rattle.tournament.proofs.Maps.{not_some}
 use Rattle.table_run.proofs.PortMoves.{Outcome, PortMoves}
 use Rattle.table_run.proofs.Moved.{Shape, link_before}
 
@@ -35,37 +35,37 @@ pub record FlowRises (s t : State) (flow : FlowPart) : Type 0 where
 -- a link to which a packet is offered: the event isn't that of a link
 pub record IsOffered (s : State) (k : Key) (r : Shape) (before : Option ℕ) : Type 0 where
   pub same : before ≡ (link_before s k r).port.next_free
-  pub not_free : (node index time : ℕ) → alarm_key node (BecomesFree index) time ≢ k
+  pub not_free : (node index time : ℕ) → timer_key node (BecomesFree index) time ≢ k
 
 -- a link that becomes free by the event
 pub record IsFreed (s : State) (k : Key) (r : Shape) (before : Option ℕ) : Type 0 where
   pub idle : before ≡ None
   pub was : (link_before s k r).port.next_free ≡ Some k.time
-  pub is_key : k ≡ alarm_key k.node (BecomesFree r.index) k.time
+  pub is_key : k ≡ timer_key k.node (BecomesFree r.index) k.time
 
 -- a timer that the event has nothing to do with
-pub record TimerStays (k : Key) (r : Shape) (node : ℕ) (alarm : Alarm) (before after : Option ℕ) : Type 0 where
+pub record RtoTimerStays (k : Key) (r : Shape) (node : ℕ) (timer : Timer) (before after : Option ℕ) : Type 0 where
   pub same : after ≡ before
-  pub not_due : (time : ℕ) → alarm_key node alarm time ≢ k
-  pub not_old : (time u : ℕ) → r.old ≡ Some u → alarm_key node alarm time ≢ alarm_key k.node r.alarm u
-  pub not_new : (time u : ℕ) → r.new ≡ Some u → alarm_key node alarm time ≢ alarm_key k.node r.alarm u
+  pub not_due : (time : ℕ) → timer_key node timer time ≢ k
+  pub not_old : (time u : ℕ) → r.old ≡ Some u → timer_key node timer time ≢ timer_key k.node r.timer u
+  pub not_new : (time u : ℕ) → r.new ≡ Some u → timer_key node timer time ≢ timer_key k.node r.timer u
 
 -- the timer that the event moves
-pub record TimerMoves (k : Key) (r : Shape) (node : ℕ) (alarm : Alarm) (event : Event) (before after : Option ℕ) : Type 0 where
+pub record RtoTimerMoves (k : Key) (r : Shape) (node : ℕ) (timer : Timer) (event : Event) (before after : Option ℕ) : Type 0 where
   pub at_node : node ≡ k.node
-  pub is_alarm : alarm ≡ r.alarm
+  pub is_timer : timer ≡ r.timer
   pub is_event : event ≡ r.event
   pub was : before ≡ r.old
   pub is_now : after ≡ r.new
 
-abbrev pub Timer : Key → Shape → ℕ → Alarm → Event → Option ℕ → Option ℕ → Type 0
-Timer k r node alarm event before after = TimerStays k r node alarm before after ⊎ TimerMoves k r node alarm event before after
+abbrev pub TimerChanges : Key → Shape → ℕ → Timer → Event → Option ℕ → Option ℕ → Type 0
+TimerChanges k r node timer event before after = RtoTimerStays k r node timer before after ⊎ RtoTimerMoves k r node timer event before after
 
 -- what is known of a row, done at a moment: what the flows are after it, what was done at the link, which timer moved
 pub record IsRow (p : ScenarioParts) (s : State) (k : Key) (v : Event) (r : Shape) (t : State) : Type 0 where
   pub within : r.index < length (part_at s k.node).links
-  pub alarm_least : 1 ≤ alarm_number r.alarm
-  pub alarm_most : alarm_number r.alarm ≤ 2
+  pub timer_least : 1 ≤ timer_number r.timer
+  pub timer_most : timer_number r.timer ≤ 2
   pub not_arrival : (x : Packet) → r.event ≢ Arrive x
   pub count : ℕ
   pub few : count ≤ 2147483648
@@ -77,10 +77,10 @@ pub record IsRow (p : ScenarioParts) (s : State) (k : Key) (v : Event) (r : Shap
   pub unsent : EachFlow p (λ number flow. sent_high s flow ≡ 0 → v ≢ Start number → sent_high t flow ≡ 0)
   pub routers : (node : ℕ) → slice_get p.nodes node ≡ Some Router → (part_at t node).role ≡ (part_at s node).role
   pub role_rises : RoleRises (part_at s k.node).role r.role
-  pub timers : EachFlow p (λ number flow. Timer k r flow.sender Retransmission (Rto number) (deadline_of (part_at s flow.sender).role) (deadline_of (part_at t flow.sender).role))
-  pub delayed : EachFlow p (λ number flow. Timer k r flow.receiver DelayedAcknowledgement (DelAck number) (alarm_of (part_at s flow.receiver).role) (alarm_of (part_at t flow.receiver).role))
-  pub new_soon : (u : ℕ) → r.new ≡ Some u → IsDueSoon k.time (alarm_key k.node r.alarm u)
-  pub new_belongs : (u : ℕ) → r.new ≡ Some u → Belongs p t k.time (alarm_key k.node r.alarm u) r.event
+  pub rto_timers : EachFlow p (λ number flow. TimerChanges k r flow.sender Retransmission (Rto number) (deadline_of (part_at s flow.sender).role) (deadline_of (part_at t flow.sender).role))
+  pub delayed : EachFlow p (λ number flow. TimerChanges k r flow.receiver DelayedAcknowledgement (DelAck number) (timer_of (part_at s flow.receiver).role) (timer_of (part_at t flow.receiver).role))
+  pub new_soon : (u : ℕ) → r.new ≡ Some u → IsDueSoon k.time (timer_key k.node r.timer u)
+  pub new_belongs : (u : ℕ) → r.new ≡ Some u → Belongs p t k.time (timer_key k.node r.timer u) r.event
 
 -- a packet stays right as its flow goes on
 pub answers_on : (mss high more next : ℕ) → high ≤ more → IsAnswerable mss high next → IsAnswerable mss more next

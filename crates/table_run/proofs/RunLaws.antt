@@ -17,18 +17,18 @@ use Rattle.node_core.specs.declared.event.Event.TheVariants.{Arrive}
 use Rattle.node_core.specs.declared.role.Role.{Role}
 use Rattle.node_core.specs.declared.role.Role.TheVariants.{Sends, Receives, Routes}
 use Rattle.node_core.specs.Part.{PartState}
-use Rattle.node_core.specs.Pending.{Change}
+use Rattle.node_core.specs.Pending.{EventChange}
 use Rattle.node_core.specs.TraceLine.{TraceLine}
-use Rattle.ranking.proofs.Maps.{not_some, same_some}
-use Rattle.table_run.specs.State.{State, opening, part_at, no_part, due, effect_of, stepped, line_of, step, one_more, run}
+use Rattle.tournament.proofs.Maps.{not_some, same_some}
+use Rattle.table_run.specs.State.{State, initial, part_at, no_part, due, effect_of, stepped, line_of, step, one_step_more, run}
 use Rattle.table_run.specs.Laws.{IsSoundRun, RunsAreSound, RoutersHaveRoutes, made_by, KeysRise, IsDueSoon, EffectsAreSoon, EffectsAreLocal, RoleRises, NumbersNeverFall}
 use Rattle.std.specs.List.{AllByRecursion}
 use Rattle.table_run.proofs.Lists.{all_append, all_map}
 use Rattle.table_run.proofs.Changes.{of_changed}
 use Rattle.table_run.proofs.Due.{is_due}
 use Rattle.table_run.proofs.Exits.{has_route}
-use Rattle.table_run.proofs.Opening.{each_applied}
-use Rattle.table_run.proofs.OpeningLaw.{opening_is_sound}
+use Rattle.table_run.proofs.Initial.{each_applied}
+use Rattle.table_run.proofs.InitialLaw.{initial_is_sound}
 use Rattle.table_run.proofs.RowFlows.{role_rises_itself}
 use Rattle.table_run.proofs.Runs.{of_step, of_one_more}
 use Rattle.table_run.proofs.Steps.{Kept, event_keeps}
@@ -51,9 +51,9 @@ sound_step p lines s line new is_scenario sound e =
         (all_map (λ (l : TraceLine). l.key.time ≤ sound.moment) (λ (l : TraceLine). l.key.time ≤ k.time) (λ l h. omega (arith, h, upto)) lines sound.none_later) (omega arith, tt)
 
 pub sound_run : RunsAreSound
-sound_run p zero lines s is e = subst (λ (q : List TraceLine × State). IsSoundRun p q.0 q.1) (same_some ([], opening p) (lines, s) e) (record { moment = 0; none_later = tt; sound = opening_is_sound p is })
+sound_run p zero lines s is e = subst (λ (q : List TraceLine × State). IsSoundRun p q.0 q.1) (same_some ([], initial p) (lines, s) e) (record { moment = 0; none_later = tt; sound = initial_is_sound p is })
 sound_run p (suc n) lines s is e =
-    option_and_then_some one_more (run (opening p) n) (lines, s) e (λ so_far was now.
+    option_and_then_some one_step_more (run (initial p) n) (lines, s) e (λ so_far was now.
     of_one_more so_far lines s now (λ line step_is lines_are. subst (λ ls. IsSoundRun p ls s) (sym lines_are) (sound_step p so_far.0 so_far.1 line s is (sound_run p n so_far.0 so_far.1 is was) step_is)))
 
 pub routers_have_routes : RoutersHaveRoutes
@@ -77,7 +77,7 @@ keys_rise p n lines s is_scenario e k v is next w next_is =
     let kept = kept_by p lines s k v is_scenario sound is in
     let second = is_due (stepped s k (effect_of s (k, v))) next w next_is in
     each_applied (λ q u. key_cmp k q ≡ Less) (made_by s k v) (map.remove s.pending k)
-    (all_map (λ (c : Change). IfSome c.1 (λ _. IsDueSoon k.time c.0)) (λ (c : Change). IfSome c.1 (λ _. key_cmp k c.0 ≡ Less)) (λ c h. at c.0 c.1 h) (made_by s k v) kept.soon)
+    (all_map (λ (c : EventChange). IfSome c.1 (λ _. IsDueSoon k.time c.0)) (λ (c : EventChange). IfSome c.1 (λ _. key_cmp k c.0 ≡ Less)) (λ c h. at c.0 c.1 h) (made_by s k v) kept.soon)
     (λ q u there. ⊎_elim (λ (h : (q ≡ k) × (None ≡ Some u)). absurd (not_some h.1)) (λ (h : (q ≢ k) × (map.get s.pending q ≡ Some u)). decided k q (first.none_less q u h.1) h.0) (of_changed s.pending k None q u there))
     next w second.pending
   where
@@ -126,9 +126,9 @@ stepped_rises p lines s k v is_scenario sound is node =
 step_rises : (p : ScenarioParts) (lines : List TraceLine) (s : State) (line : TraceLine) (t : State) → IsScenario p → IsSoundRun p lines s → step s ≡ Some (line, t) → NodesRise s t
 step_rises p lines s line t is_scenario sound e = of_step s line t e (λ k v is new_is _ node. subst (λ (x : State). RoleRises (part_at s node).role (part_at x node).role) (sym new_is) (stepped_rises p lines s k v is_scenario sound is node))
 
-same_state : (p : ScenarioParts) (n m : ℕ) (lines more : List TraceLine) (s t : State) → n ≡ m → run (opening p) n ≡ Some (lines, s) → run (opening p) m ≡ Some (more, t) → NodesRise s t
+same_state : (p : ScenarioParts) (n m : ℕ) (lines more : List TraceLine) (s t : State) → n ≡ m → run (initial p) n ≡ Some (lines, s) → run (initial p) m ≡ Some (more, t) → NodesRise s t
 same_state p n m lines more s t same e f node =
-    let both = same_some (lines, s) (more, t) (sym e ∙ ap (run (opening p)) same ∙ f) in
+    let both = same_some (lines, s) (more, t) (sym e ∙ ap (run (initial p)) same ∙ f) in
     subst (λ (x : State). RoleRises (part_at s node).role (part_at x node).role) (ap (λ (q : List TraceLine × State). q.1) both) (role_rises_itself (part_at s node).role)
 
 pub numbers_never_fall : NumbersNeverFall
@@ -136,7 +136,7 @@ numbers_never_fall p n zero lines more s t is below e f = same_state p n zero li
 numbers_never_fall p n (suc m) lines more s t is below e f =
     ⊎_elim
     (λ (before : n < suc m).
-    option_and_then_some one_more (run (opening p) m) (more, t) f (λ so_far was now.
+    option_and_then_some one_step_more (run (initial p) m) (more, t) f (λ so_far was now.
     of_one_more so_far more t now (λ line step_is _ node.
     rises_on _ _ _ (numbers_never_fall p n m lines so_far.0 s so_far.1 is (omega (arith, before)) e was node) (step_rises p so_far.0 so_far.1 line t is (sound_run p m so_far.0 so_far.1 is was) step_is node))))
     (λ (last : suc m ≤ n). same_state p n (suc m) lines more s t (omega (arith, below, last)) e f)

@@ -5,8 +5,8 @@ use Rattle.std.proofs.lemmas.Option.{option_and_then_some}
 use Rattle.sim_time.specs.declared.key.Key.{Key}
 use Rattle.node_core.specs.declared.event.Event.{Event}
 use Rattle.node_core.specs.TraceLine.{TraceLine}
-use Rattle.ranking.proofs.Maps.{not_some, same_some}
-use Rattle.table_run.specs.State.{State, due, effect_of, line_of, stepped, step_at, step, one_more, run}
+use Rattle.tournament.proofs.Maps.{not_some, same_some}
+use Rattle.table_run.specs.State.{State, due, effect_of, line_of, stepped, step_at, step, one_step_more, run}
 use Rattle.table_run.specs.Laws.{RunsGoOn, RunsPart}
 
 -- what holds of each state that a run comes to
@@ -25,7 +25,7 @@ of_step {G} s line new e from = go (due s) refl e
         from entry.0 entry.1 is (sym (ap (λ (p : TraceLine × State). p.1) both)) (sym (ap (λ (p : TraceLine × State). p.0) both))
 
 -- one more step has a step
-pub of_one_more : {G : Type 0} (so_far : List TraceLine × State) (lines : List TraceLine) (s : State) → one_more so_far ≡ Some (lines, s)
+pub of_one_more : {G : Type 0} (so_far : List TraceLine × State) (lines : List TraceLine) (s : State) → one_step_more so_far ≡ Some (lines, s)
     → ((line : TraceLine) → step so_far.1 ≡ Some (line, s) → lines ≡ so_far.0 ++ line ∷ [] → G) → G
 of_one_more {G} so_far lines s e from = go (step so_far.1) refl e
   where
@@ -45,19 +45,19 @@ first_step s zero = one (step s)
     one : (o : Option (TraceLine × State)) → option_map {U = List TraceLine × State} (λ next. ([] ++ next.0 ∷ [], next.1)) o ≡ option_and_then (λ (x : TraceLine × State). option_map {U = List TraceLine × State} (λ (rest : List TraceLine × State). (x.0 ∷ rest.0, rest.1)) (Some ([], x.1))) o
     one None = refl
     one (Some x) = refl
-first_step s (suc n) = ap (option_and_then one_more) (first_step s n) ∙ more (step s)
+first_step s (suc n) = ap (option_and_then one_step_more) (first_step s n) ∙ more (step s)
   where
     last : (line : TraceLine) (lines : List TraceLine) (o : Option (TraceLine × State)) → option_map {U = List TraceLine × State} (λ (next : TraceLine × State). ((line ∷ lines) ++ next.0 ∷ [], next.1)) o
         ≡ option_map {U = List TraceLine × State} (λ (rest : List TraceLine × State). (line ∷ rest.0, rest.1)) (option_map {U = List TraceLine × State} (λ (next : TraceLine × State). (lines ++ next.0 ∷ [], next.1)) o)
     last line lines None = refl
     last line lines (Some next) = refl
 
-    then : (line : TraceLine) (o : Option (List TraceLine × State)) → option_and_then one_more (option_map {U = List TraceLine × State} (λ (rest : List TraceLine × State). (line ∷ rest.0, rest.1)) o)
-        ≡ option_map {U = List TraceLine × State} (λ (rest : List TraceLine × State). (line ∷ rest.0, rest.1)) (option_and_then one_more o)
+    then : (line : TraceLine) (o : Option (List TraceLine × State)) → option_and_then one_step_more (option_map {U = List TraceLine × State} (λ (rest : List TraceLine × State). (line ∷ rest.0, rest.1)) o)
+        ≡ option_map {U = List TraceLine × State} (λ (rest : List TraceLine × State). (line ∷ rest.0, rest.1)) (option_and_then one_step_more o)
     then line None = refl
     then line (Some so_far) = last line so_far.0 (step so_far.1)
 
-    more : (o : Option (TraceLine × State)) → option_and_then one_more (option_and_then (λ (x : TraceLine × State). option_map {U = List TraceLine × State} (λ (rest : List TraceLine × State). (x.0 ∷ rest.0, rest.1)) (run x.1 n)) o)
+    more : (o : Option (TraceLine × State)) → option_and_then one_step_more (option_and_then (λ (x : TraceLine × State). option_map {U = List TraceLine × State} (λ (rest : List TraceLine × State). (x.0 ∷ rest.0, rest.1)) (run x.1 n)) o)
         ≡ option_and_then (λ (x : TraceLine × State). option_map {U = List TraceLine × State} (λ (rest : List TraceLine × State). (x.0 ∷ rest.0, rest.1)) (run x.1 (suc n))) o
     more None = refl
     more (Some x) = then x.0 (run x.1 n)
@@ -93,7 +93,7 @@ run_on s t m zero before e = ap (run s) {x = m + zero} {y = m} (omega arith) ∙
     nil = rw append-nil refl
 run_on s t m (suc n) before e =
     ap (run s) {x = m + suc n} {y = suc (m + n)} (omega arith)
-    ∙ ap (option_and_then one_more) (run_on s t m n before e)
+    ∙ ap (option_and_then one_step_more) (run_on s t m n before e)
     ∙ go (run t n)
   where
     last : (lines : List TraceLine) (o : Option (TraceLine × State)) → option_map {U = List TraceLine × State} (λ (next : TraceLine × State). ((before ++ lines) ++ next.0 ∷ [], next.1)) o
@@ -104,7 +104,7 @@ run_on s t m (suc n) before e =
         assoc : (before ++ lines) ++ next.0 ∷ [] ≡ before ++ (lines ++ next.0 ∷ [])
         assoc = rw append_assoc refl
 
-    go : (o : Option (List TraceLine × State)) → option_and_then one_more (option_map {U = List TraceLine × State} (after before) o) ≡ option_map {U = List TraceLine × State} (after before) (option_and_then one_more o)
+    go : (o : Option (List TraceLine × State)) → option_and_then one_step_more (option_map {U = List TraceLine × State} (after before) o) ≡ option_map {U = List TraceLine × State} (after before) (option_and_then one_step_more o)
     go None = refl
     go (Some so_far) = last so_far.0 (step so_far.1)
 
@@ -137,7 +137,7 @@ along_here P s all = all 0 [] s refl
 pub run_parts : RunsPart
 run_parts s u m zero lines e = record { between = u; first = lines; rest = []; begins = ap (run s) {x = m} {y = m + zero} (omega arith) ∙ e; goes_on = refl; together = sym (append-nil lines) }
 run_parts s u m (suc n) lines e =
-    option_and_then_some one_more (run s (m + n)) (lines, u) (ap (run s) {x = suc (m + n)} {y = m + suc n} (omega arith) ∙ e) (λ so_far was now.
+    option_and_then_some one_step_more (run s (m + n)) (lines, u) (ap (run s) {x = suc (m + n)} {y = m + suc n} (omega arith) ∙ e) (λ so_far was now.
     of_one_more so_far lines u now (λ line step_is lines_are.
     let before = run_parts s so_far.1 m n so_far.0 was in
     record {
@@ -145,6 +145,6 @@ run_parts s u m (suc n) lines e =
       first = before.first;
       rest = before.rest ++ line ∷ [];
       begins = before.begins;
-      goes_on = ap (option_and_then one_more) before.goes_on ∙ ap (option_map {U = List TraceLine × State} (λ (next : TraceLine × State). (before.rest ++ next.0 ∷ [], next.1))) step_is;
+      goes_on = ap (option_and_then one_step_more) before.goes_on ∙ ap (option_map {U = List TraceLine × State} (λ (next : TraceLine × State). (before.rest ++ next.0 ∷ [], next.1))) step_is;
       together = lines_are ∙ ap (λ ls. ls ++ line ∷ []) before.together ∙ append_assoc before.first before.rest (line ∷ []);
     }))

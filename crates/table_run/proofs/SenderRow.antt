@@ -15,30 +15,30 @@ use Rattle.scenario_image.specs.declared.parts.NodeKind.TheVariants.{Router}
 use Rattle.scenario_image.specs.declared.parts.FlowPart.{FlowPart}
 use Rattle.scenario_image.specs.declared.parts.ScenarioParts.{ScenarioParts}
 use Rattle.scenario_image.specs.Scenario.{IsScenario}
-use Rattle.scenario_image.specs.Ways.{data_way, IsOnWay}
-use Rattle.scenario_image.proofs.Arrivals.{ways_begin}
+use Rattle.scenario_image.specs.Paths.{data_path, IsOnWay}
+use Rattle.scenario_image.proofs.Arrivals.{paths_begin}
 use Rattle.port.specs.Port.{offered_all}
-use Rattle.node_core.specs.declared.alarm.Alarm.{Alarm}
-use Rattle.node_core.specs.declared.alarm.Alarm.TheVariants.{Retransmission, DelayedAcknowledgement, Free as BecomesFree}
+use Rattle.node_core.specs.declared.timer.Timer.{Timer}
+use Rattle.node_core.specs.declared.timer.Timer.TheVariants.{Retransmission, DelayedAcknowledgement, Free as BecomesFree}
 use Rattle.node_core.specs.declared.event.Event.{Event}
 use Rattle.node_core.specs.declared.event.Event.TheVariants.{Start, Rto, Arrive}
 use Rattle.node_core.specs.declared.role.Role.{Role}
 use Rattle.node_core.specs.declared.role.Role.TheVariants.{Sends, Receives, Routes}
-use Rattle.node_core.specs.Alarms.{alarm_key}
+use Rattle.node_core.specs.Timers.{timer_key}
 use Rattle.node_core.specs.Part.{PartState, link_at}
 use Rattle.node_core.specs.Row.{data_packet}
 use Rattle.node_core.specs.declared.routes.FlowExits.{FlowExits}
-use Rattle.node_core.specs.Opening.{exits_of}
+use Rattle.node_core.specs.Initial.{exits_of}
 use Rattle.node_core.specs.TraceLine.{TraceLine}
-use Rattle.ranking.proofs.Maps.{same_some}
+use Rattle.tournament.proofs.Maps.{same_some}
 use Rattle.table_run.specs.State.{State, part_at, stepped}
-use Rattle.table_run.specs.Flow.{high_of, next_at, deadline_of, alarm_of, sent_high, IsAnswerable, IsUnderWay, IsSoundFlow}
+use Rattle.table_run.specs.Flow.{high_of, next_at, deadline_of, timer_of, sent_high, IsAnswerable, IsUnderWay, IsSoundFlow}
 use Rattle.table_run.specs.Sound.{IsSoundAt}
 use Rattle.table_run.specs.Laws.{RoleRises}
 use Rattle.table_run.proofs.Due.{IsDue}
 use Rattle.table_run.proofs.PortMoves.{all_moves}
 use Rattle.table_run.proofs.Moved.{Shape, IsMoved, shaped, is_moved}
-use Rattle.table_run.proofs.Rows.{answers_on, EachFlow, FlowRises, Timer, TimerStays, IsRow}
+use Rattle.table_run.proofs.Rows.{answers_on, EachFlow, FlowRises, TimerChanges, RtoTimerStays, IsRow}
 use Rattle.table_run.proofs.RowLinks.{flow_limits, under_way_sized, is_link, waits_later, FirstLink, first_link}
 use Rattle.table_run.proofs.RowFlows.{timed_later, deadline_later, flow_stays}
 
@@ -77,7 +77,7 @@ module _ (p : ScenarioParts) (is_scenario : IsScenario p) (lines : List TraceLin
   abbrev pub shape : Shape
   shape = record {
     role = Sends number planned.fields;
-    alarm = Retransmission;
+    timer = Retransmission;
     event = Rto number;
     old = F.fields.deadline;
     new = planned.fields.deadline;
@@ -97,8 +97,8 @@ module _ (p : ScenarioParts) (is_scenario : IsScenario p) (lines : List TraceLin
   nodes : k.node < length p.nodes
   nodes = subst (λ n. n < length p.nodes) (sym at) (flow_limits p is_scenario number flow its).sender_node
 
-  first : FirstLink p s (data_way flow)
-  first = first_link p lines now s S (data_way flow) (flow_limits p is_scenario number flow its).sender_node (ways_begin p is_scenario number flow its).0
+  first : FirstLink p s (data_path flow)
+  first = first_link p lines now s S (data_path flow) (flow_limits p is_scenario number flow its).sender_node (paths_begin p is_scenario number flow its).0
 
   within : 0 < length part.links
   within = subst (λ n. 0 < length (part_at s n).links) (sym at) first.within
@@ -149,7 +149,7 @@ module _ (p : ScenarioParts) (is_scenario : IsScenario p) (lines : List TraceLin
       its_delack = F.its_delack;
       received_sent = λ seq got. (let a = F.received_sent seq got in let b = keeps.high_rises in omega (arith, a, b));
       next_sent = (let a = F.next_sent in let b = keeps.high_rises in omega (arith, a, b));
-      answer_waits = wait_more flow.mss F.fields.high planned.fields.high (next_of F.received) F.received.alarm keeps.high_rises F.answer_waits;
+      answer_waits = wait_more flow.mss F.fields.high planned.fields.high (next_of F.received) F.received.timer keeps.high_rises F.answer_waits;
     }
 
     -- a flow is this one, or stays as it is
@@ -186,7 +186,7 @@ module _ (p : ScenarioParts) (is_scenario : IsScenario p) (lines : List TraceLin
           multiple = subst (λ m. x % m ≡ 0) mss all.0.multiple;
           by_high = (let a = all.0.by_high in let b = ap high_of role_now in omega (arith, a, b, mss));
         };
-        on_way = subst (λ n. IsOnWay p (data_way flow) (link_at (part_at s n).links 0).port.link) (sym at) first.on_way;
+        on_way = subst (λ n. IsOnWay p (data_path flow) (link_at (part_at s n).links 0).port.link) (sym at) first.on_way;
       },
       sent_packets xs all.1,
     )
@@ -194,8 +194,8 @@ module _ (p : ScenarioParts) (is_scenario : IsScenario p) (lines : List TraceLin
         mss : planned.fields.mss ≡ flow.mss
         mss = keeps.mss_same ∙ F.its_mss
 
-    stays_timer : (f : Role → Option ℕ) (alarm : Alarm) (node : ℕ) → node ≢ k.node → (part_at t node).role ≡ (part_at s node).role → TimerStays k shape node alarm (f (part_at s node).role) (f (part_at t node).role)
-    stays_timer f alarm node apart same = record {
+    stays_rto_timer : (f : Role → Option ℕ) (timer : Timer) (node : ℕ) → node ≢ k.node → (part_at t node).role ≡ (part_at s node).role → RtoTimerStays k shape node timer (f (part_at s node).role) (f (part_at t node).role)
+    stays_rto_timer f timer node apart same = record {
       same = ap f same;
       not_due = λ time is. apart (ap (λ (q : Key). q.node) is);
       not_old = λ time u _ is. apart (ap (λ (q : Key). q.node) is);
@@ -205,11 +205,11 @@ module _ (p : ScenarioParts) (is_scenario : IsScenario p) (lines : List TraceLin
     few_packets : (xs : List ℕ) → length xs ≤ 1073741825 → length (map (data_packet number planned.fields.mss) xs) ≤ 2147483648
     few_packets xs few = let same = length-map xs (data_packet number planned.fields.mss) in omega (arith, same, few)
 
-    pub row : ((node index time : ℕ) → alarm_key node (BecomesFree index) time ≢ k) → ((u : ℕ) → planned.fields.deadline ≡ Some u → k.time < u) → (sent_high s flow ≡ 0 → v ≡ Start number) → IsRow p s k v shape t
+    pub row : ((node index time : ℕ) → timer_key node (BecomesFree index) time ≢ k) → ((u : ℕ) → planned.fields.deadline ≡ Some u → k.time < u) → (sent_high s flow ≡ 0 → v ≡ Start number) → IsRow p s k v shape t
     row not_link fresh starts = record {
       within = within;
-      alarm_least = omega arith;
-      alarm_most = omega arith;
+      timer_least = omega arith;
+      timer_most = omega arith;
       not_arrival = λ x e. not_arrives x e;
       count = length (map (data_packet number planned.fields.mss) planned.sent);
       few = few_packets planned.sent keeps.few;
@@ -222,12 +222,12 @@ module _ (p : ScenarioParts) (is_scenario : IsScenario p) (lines : List TraceLin
       unsent = by_flow (λ j other. sent_high s other ≡ 0 → v ≢ Start j → sent_high t other ≡ 0) (λ none isnt. absurd (isnt (starts none))) (λ j other _ apart none _. ap high_of (sender_stays other apart) ∙ none);
       routers = λ node is. ap (λ (x : PartState). x.role) (M.elsewhere node (no_router node is));
       role_rises = subst (λ x. RoleRises x (Sends number planned.fields)) (sym role_here) (refl, record { una_rises = keeps.una_rises; high_rises = keeps.high_rises });
-      timers = by_flow (λ j other. Timer k shape other.sender Retransmission (Rto j) (deadline_of (part_at s other.sender).role) (deadline_of (part_at t other.sender).role))
-          (inr (record { at_node = sym at; is_alarm = refl; is_event = refl; was = ap deadline_of F.sender_role; is_now = ap deadline_of role_now }))
-          (λ j other _ apart. inl (stays_timer deadline_of Retransmission other.sender apart (sender_stays other apart)));
-      delayed = λ j other found. inl (stays_timer alarm_of DelayedAcknowledgement other.receiver (no_receiver j other found) (receiver_stays j other found));
+      rto_timers = by_flow (λ j other. TimerChanges k shape other.sender Retransmission (Rto j) (deadline_of (part_at s other.sender).role) (deadline_of (part_at t other.sender).role))
+          (inr (record { at_node = sym at; is_timer = refl; is_event = refl; was = ap deadline_of F.sender_role; is_now = ap deadline_of role_now }))
+          (λ j other _ apart. inl (stays_rto_timer deadline_of Retransmission other.sender apart (sender_stays other apart)));
+      delayed = λ j other found. inl (stays_rto_timer timer_of DelayedAcknowledgement other.receiver (no_receiver j other found) (receiver_stays j other found));
       new_soon = λ u is. (fresh u is, (let most = at_some u (k.time + 60000000000) planned.fields.deadline is bound in omega (arith, most)));
-      new_belongs = λ u is. record { flow = flow; its_flow = its; alarm = record { is_key = ap (λ n. alarm_key n Retransmission u) at; is_set = ap deadline_of role_now ∙ is } };
+      new_belongs = λ u is. record { flow = flow; its_flow = its; timer = record { is_key = ap (λ n. timer_key n Retransmission u) at; is_set = ap deadline_of role_now ∙ is } };
     }
       where
         not_arrives : (x : Packet) → Rto number ≡ Arrive x → ⊥

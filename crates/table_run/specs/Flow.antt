@@ -9,8 +9,8 @@ use Rattle.reno_sender.specs.Fields.{IsSound}
 use Rattle.reno_receiver.specs.Received.{ReceiverState, IsReceived, IsWellFormed, next_of}
 use Rattle.scenario_image.specs.declared.parts.FlowPart.{FlowPart}
 use Rattle.scenario_image.specs.declared.parts.ScenarioParts.{ScenarioParts}
-use Rattle.scenario_image.specs.declared.ways.Way.{Way}
-use Rattle.scenario_image.specs.Ways.{data_way, ack_way, IsOnWay}
+use Rattle.scenario_image.specs.declared.paths.Path.{Path}
+use Rattle.scenario_image.specs.Paths.{data_path, ack_path, IsOnWay}
 use Rattle.node_core.specs.declared.role.Role.{Role}
 use Rattle.node_core.specs.declared.role.Role.TheVariants.{Sends, Receives, Routes}
 use Rattle.table_run.specs.State.{State, part_at}
@@ -34,10 +34,10 @@ deadline_of (Receives flow state) = None
 deadline_of (Routes table) = None
 
 -- when a receiver's delayed acknowledgement is due, if one waits
-abbrev pub alarm_of : Role → Option ℕ
-alarm_of (Sends flow fields) = None
-alarm_of (Receives flow state) = state.alarm
-alarm_of (Routes table) = None
+abbrev pub timer_of : Role → Option ℕ
+timer_of (Sends flow fields) = None
+timer_of (Receives flow state) = state.timer
+timer_of (Routes table) = None
 
 abbrev pub sent_high : State → FlowPart → ℕ
 sent_high s flow = high_of (part_at s flow.sender).role
@@ -67,17 +67,17 @@ abbrev pub Carries : FlowPart → ℕ → ℕ → Kind → Packet → Type 0
 Carries flow high next Data x = IsSent flow high x
 Carries flow high next Ack x = IsGiven flow high next x
 
--- the way that a flow's packets of a kind take
-abbrev pub way_of : Kind → FlowPart → Way
-way_of Data flow = data_way flow
-way_of Ack flow = ack_way flow
+-- the path that a flow's packets of a kind take
+abbrev pub path_of : Kind → FlowPart → Path
+path_of Data flow = data_path flow
+path_of Ack flow = ack_path flow
 
 -- a packet that waits at a link or is under way over it: it is one of its flow's, and the link is on its way
 pub record IsUnderWay (p : ScenarioParts) (s : State) (link : ℕ) (x : Packet) : Type 0 where
   pub flow : FlowPart
   pub its_flow : slice_get p.flows x.flow ≡ Some flow
   pub carries : Carries flow (sent_high s flow) (received_next s flow) x.kind x
-  pub on_way : IsOnWay p (way_of x.kind flow) link
+  pub on_way : IsOnWay p (path_of x.kind flow) link
 
 -- the two ends of the flow of a number, at a moment: what they are, that what the one received the other sent, and that the retransmission timer ends at most 60 seconds later
 pub record IsSoundFlow (s : State) (now number : ℕ) (flow : FlowPart) : Type 0 where
@@ -97,4 +97,4 @@ pub record IsSoundFlow (s : State) (now number : ℕ) (flow : FlowPart) : Type 0
   pub its_delack : received.delack ≡ flow.delack
   pub received_sent : (seq : ℕ) → IsReceived received seq → seq + flow.mss ≤ fields.high
   pub next_sent : next_of received ≤ fields.high
-  pub answer_waits : IfSome received.alarm (λ _. IsAnswerable flow.mss fields.high (next_of received))
+  pub answer_waits : IfSome received.timer (λ _. IsAnswerable flow.mss fields.high (next_of received))

@@ -16,16 +16,16 @@ use Rattle.node_core.specs.declared.event.Event.TheVariants.{Arrive}
 use Rattle.node_core.specs.declared.role.Role.{Role}
 use Rattle.node_core.specs.declared.role.Role.TheVariants.{Sends, Receives, Routes}
 use Rattle.node_core.specs.declared.routes.FlowExits.{FlowExits}
-use Rattle.node_core.specs.Pending.{Change}
+use Rattle.node_core.specs.Pending.{EventChange}
 use Rattle.node_core.specs.RouteTable.{exit_for}
 use Rattle.node_core.specs.Row.{changes_of}
 use Rattle.node_core.specs.TraceLine.{TraceLine}
-use Rattle.table_run.specs.State.{State, opening, part_at, due, effect_of, stepped, run}
+use Rattle.table_run.specs.State.{State, initial, part_at, due, effect_of, stepped, run}
 use Rattle.table_run.specs.Sound.{IsSoundAt}
 
 -- the run of a scenario comes to this state after so many steps, and gave these lines
 abbrev pub ComesTo : ScenarioParts → ℕ → List TraceLine → State → Type 0
-ComesTo p n lines s = run (opening p) n ≡ Some (lines, s)
+ComesTo p n lines s = run (initial p) n ≡ Some (lines, s)
 
 -- all is as it should be at a moment before which no event is left, and after which none was run
 pub record IsSoundRun (p : ScenarioParts) (lines : List TraceLine) (s : State) : Type 0 where
@@ -53,7 +53,7 @@ abbrev pub AtEachEvent : (ScenarioParts → State → Key → Event → Type 0) 
 AtEachEvent P = (p : ScenarioParts) (n : ℕ) (lines : List TraceLine) (s : State) → IsScenario p → ComesTo p n lines s → (k : Key) (v : Event) → due s ≡ Some (k, v) → P p s k v
 
 -- what the event makes: the changes to the pending events
-abbrev pub made_by : State → Key → Event → List Change
+abbrev pub made_by : State → Key → Event → List EventChange
 made_by s k v = changes_of k.node (effect_of s (k, v))
 
 -- the next event's key is greater
@@ -70,7 +70,7 @@ IsDueSoon now k = (now < k.time) × (k.time ≤ now + 100000000000)
 
 -- in every run all that an event sets or sends is due soon after it
 abbrev pub EffectsAreSoon : Type 0
-EffectsAreSoon = AtEachEvent (λ p s k v. AllByRecursion (λ (c : Change). IfSome c.1 (λ _. IsDueSoon k.time c.0)) (made_by s k v))
+EffectsAreSoon = AtEachEvent (λ p s k v. AllByRecursion (λ (c : EventChange). IfSome c.1 (λ _. IsDueSoon k.time c.0)) (made_by s k v))
 
 -- an arrival over a link that leaves a node: it is at the link's end, more than the link's delay after a moment
 pub record ComesOver (p : ScenarioParts) (node now : ℕ) (k : Key) : Type 0 where
@@ -82,11 +82,11 @@ pub record ComesOver (p : ScenarioParts) (node now : ℕ) (k : Key) : Type 0 whe
   pub ends : link.to ≡ k.node
   pub late : now + link.delay < k.time
 
--- a change that an event at a node makes: to an alarm of that node, or an arrival over one of its links
-abbrev pub IsMadeAt : ScenarioParts → Key → Change → Type 0
+-- a change that an event at a node makes: to a timer of that node, or an arrival over one of its links
+abbrev pub IsMadeAt : ScenarioParts → Key → EventChange → Type 0
 IsMadeAt p k c = ((c.0.node ≡ k.node) × (c.0.source ≡ 0)) ⊎ ComesOver p k.node k.time c.0
 
--- in every run an event sets alarms of its own node and sends over its own links, and nothing else; what it sends comes later by more than the link's delay
+-- in every run an event sets timers of its own node and sends over its own links, and nothing else; what it sends comes later by more than the link's delay
 abbrev pub EffectsAreLocal : Type 0
 EffectsAreLocal = AtEachEvent (λ p s k v. AllByRecursion (IsMadeAt p k) (made_by s k v))
 
@@ -130,7 +130,7 @@ abbrev pub RunsPart : Type 0
 RunsPart = (s u : State) (m n : ℕ) (lines : List TraceLine) → run s (m + n) ≡ Some (lines, u) → Parted s u m n lines
 
 -- a run that is at its end: no event below the end is left
-pub record Ended (p : ScenarioParts) : Type 0 where
+pub record RunEnded (p : ScenarioParts) : Type 0 where
   pub steps : ℕ
   pub lines : List TraceLine
   pub last : State
@@ -139,4 +139,4 @@ pub record Ended (p : ScenarioParts) : Type 0 where
 
 -- every run of every scenario ends
 abbrev pub RunsEnd : Type 0
-RunsEnd = (p : ScenarioParts) → IsScenario p → Ended p
+RunsEnd = (p : ScenarioParts) → IsScenario p → RunEnded p

@@ -7,12 +7,12 @@ use Rattle.sim_time.specs.declared.key.Key.{Key}
 use Rattle.scenario_image.specs.declared.parts.ScenarioParts.{ScenarioParts}
 use Rattle.node_core.specs.declared.event.Event.{Event}
 use Rattle.node_core.specs.declared.role.Role.TheVariants.{Routes}
-use Rattle.ranking.specs.Keyed.{apply, least}
+use Rattle.tournament.specs.Keyed.{apply, least}
 use Rattle.node_core.specs.Pending.{Events}
 use Rattle.node_core.specs.Part.{PartState}
 use Rattle.node_core.specs.Row.{Effect, row, changes_of}
 use Rattle.node_core.specs.TraceLine.{TraceLine}
-use Rattle.node_core.specs.Opening.{opening_part, start_of}
+use Rattle.node_core.specs.Initial.{initial_part, start_of}
 
 -- node k is the k-th part; one finite set of pending events; events below the end are run
 pub record State : Type 0 where
@@ -53,14 +53,14 @@ abbrev pub step : State → Option (TraceLine × State)
 step s = option_map (step_at s) (due s)
 
 -- the lines so far and the state, one step on
-abbrev pub one_more : List TraceLine × State → Option (List TraceLine × State)
-one_more so_far = option_map (λ (next : TraceLine × State). (so_far.0 ++ next.0 ∷ [], next.1)) (step so_far.1)
+abbrev pub one_step_more : List TraceLine × State → Option (List TraceLine × State)
+one_step_more so_far = option_map (λ (next : TraceLine × State). (so_far.0 ++ next.0 ∷ [], next.1)) (step so_far.1)
 
 -- the lines and the state after n steps, where there are so many
 abbrev pub run : State → ℕ → Option (List TraceLine × State)
 run s zero = Some ([], s)
-run s (suc n) = option_and_then one_more (run s n)
+run s (suc n) = option_and_then one_step_more (run s n)
 
 -- nothing sent, every queue empty, and each flow's start pending
-abbrev pub opening : ScenarioParts → State
-opening p = record { parts = each (opening_part p) (enumerate_from 0 p.nodes); pending = apply (each start_of (enumerate_from 0 p.flows)) map.empty; end = p.end }
+abbrev pub initial : ScenarioParts → State
+initial p = record { parts = each (initial_part p) (enumerate_from 0 p.nodes); pending = apply (each start_of (enumerate_from 0 p.flows)) map.empty; end = p.end }

@@ -3,7 +3,7 @@
 ghost use Rattle.table_run.specs.Laws.{RunsAreSound, RoutersHaveRoutes, KeysRise, EffectsAreSoon, EffectsAreLocal, NumbersNeverFall, RunsGoOn, RunsPart, RunsEnd};
 
 /// In every state of every run of every scenario each packet that waits or is under way is one of
-/// its flow's, on a link of its way; what a receiver has, its sender sent; an alarm is pending
+/// its flow's, on a link of its way; what a receiver has, its sender sent; a timer is pending
 /// exactly where its node has set it; packets arrive over a link in the order in which they were
 /// sent; nothing pending is past; nodes and links are the scenario's; and a node's counts are
 /// bounded by the events run at it.
@@ -29,7 +29,7 @@ pub fn effects_are_soon()
     ensures { EffectsAreSoon }
 {}
 
-/// In every run of every scenario an event sets alarms of its own node and sends over the links
+/// In every run of every scenario an event sets timers of its own node and sends over the links
 /// that leave it, and what it sends comes later by more than the link's delay.
 pub fn effects_are_local()
     ensures { EffectsAreLocal }

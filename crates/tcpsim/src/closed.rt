@@ -11,7 +11,7 @@ const NOTHING: &str = "/dev/null";
 
 /// What is open in the place of standard input, output and error, where they were closed.
 #[derive(Drop)]
-pub struct Held {
+pub struct HeldFiles {
     input: Option<File>,
     output: Option<File>,
     error: Option<File>,
@@ -25,13 +25,13 @@ fn held_at(descriptor: i32, opened: io::Result<File>) -> Option<File> {
     }
 }
 
-impl Held {
+impl HeldFiles {
     /// Opens a file in the place of each stream that is closed: standard input for writing alone, and
     /// the others for reading alone, so that their use fails as before. Keep it while they are used.
-    pub fn new(rt: &HostRuntime) -> Held {
+    pub fn new(rt: &HostRuntime) -> HeldFiles {
         let mut writing = OpenOptions::new();
         writing.write(true);
-        Held {
+        HeldFiles {
             input: held_at(0, writing.open(rt, NOTHING)),
             output: held_at(1, File::open(rt, NOTHING)),
             error: held_at(2, File::open(rt, NOTHING)),

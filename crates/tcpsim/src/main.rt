@@ -5,7 +5,7 @@ mod closed;
 mod input;
 mod notes;
 
-use crate::closed::Held;
+use crate::closed::HeldFiles;
 use crate::input::Input;
 use crate::notes::ErrorNotes;
 use sessions::fault::SessionFault;
@@ -27,7 +27,7 @@ fn process_words(rt: &HostRuntime) -> Result<Vec<String>, SessionFault> {
 
 /// A session with the process's own words, input and output.
 fn main(rt: HostRuntime) -> ExitCode {
-    let _held = Held::new(&rt);
+    let _held = HeldFiles::new(&rt);
     let mut notes = ErrorNotes::new(&rt);
     let outcome = match process_words(&rt) {
         Ok(words) => {

@@ -6,7 +6,7 @@ mod mailbox;
 mod monitor;
 mod pool;
 #[cfg(test)]
-mod trials;
+mod tests;
 mod workers;
 
 pub use pool::ThreadPool;

@@ -88,15 +88,15 @@ pub record IsFirst (n : ℕ) (row : List ℕ) : Type 0 where
 
 first_is : (n : ℕ) → n < 1000 → IsFirst n (first n)
 first_is n h = elim (cases_lt n 10) [
-  | inl one ↦ subst (IsFirst n) (cond_below n 10 (one_digit n) _ one) (told n _ (one_digit n) (decimal_digit n one) refl refl)
+  | inl one ↦ subst (IsFirst n) (cond_below n 10 (one_digit n) _ one) (reported n _ (one_digit n) (decimal_digit n one) refl refl)
   | inr more ↦ subst (IsFirst n) (cond_above n 10 (one_digit n) _ _ more refl) (elim (cases_lt n 100) [
-    | inl two ↦ subst (IsFirst n) (cond_below n 100 (two_digits n) _ two) (told n _ (two_digits n) (decimal_two n more two) refl refl)
-    | inr three ↦ subst (IsFirst n) (cond_above n 100 (two_digits n) _ _ three refl) (told n _ (three_digits n ++ 51 ∷ []) (decimal_three n three h) refl refl)
+    | inl two ↦ subst (IsFirst n) (cond_below n 100 (two_digits n) _ two) (reported n _ (two_digits n) (decimal_two n more two) refl refl)
+    | inr three ↦ subst (IsFirst n) (cond_above n 100 (two_digits n) _ _ three refl) (reported n _ (three_digits n ++ 51 ∷ []) (decimal_three n three h) refl refl)
   ])
 ]
   where
-    told : (n : ℕ) (ds row : List ℕ) → decimal n ≡ ds → take (length ds) row ≡ ds → get_or row 3 0 ≡ 48 + length ds → IsFirst n row
-    told n ds row e f g = record { digits = ap (λ l. take (length l) row) e ∙ f ∙ sym e; count = g ∙ ap (λ l. 48 + length l) (sym e) }
+    reported : (n : ℕ) (ds row : List ℕ) → decimal n ≡ ds → take (length ds) row ≡ ds → get_or row 3 0 ≡ 48 + length ds → IsFirst n row
+    reported n ds row e f g = record { digits = ap (λ l. take (length l) row) e ∙ f ∙ sym e; count = g ∙ ap (λ l. 48 + length l) (sym e) }
 
 pub FIRSTS_at : (p : ℕ) → p < 1000 → IsFirst p (get_or FIRSTS p [])
 FIRSTS_at p h = subst (IsFirst p) (sym (FIRSTS_row p h)) (first_is p h)

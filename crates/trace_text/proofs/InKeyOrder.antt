@@ -13,9 +13,9 @@ use Rattle.std.specs.Ordering.{eq_by_cmp, is_eq, is_lt, ordering_reverse}
 use Rattle.sim_time.specs.declared.key.Key.{Key}
 use Rattle.sim_time.specs.Keys.{key_cmp}
 use Rattle.sim_time.proofs.Order.{keys_total, exact_keys}
-use Rattle.ranking.specs.Keyed.{Keyed, EachKey}
-use Rattle.ranking.specs.Gathered.{all_entries, gathered, map_at}
-use Rattle.ranking.proofs.Maps.{none_or, not_some, is_equal, is_less, both, both_of, same_at, tied}
+use Rattle.tournament.specs.Keyed.{Keyed, EachKey}
+use Rattle.tournament.specs.Gathered.{all_entries, gathered, map_at}
+use Rattle.tournament.proofs.Maps.{none_or, not_some, is_equal, is_less, both, both_of, same_at, tied}
 
 -- neither key is less than the other
 tied_is : (q k : Key) → (not (is_lt (key_cmp q k)) && not (is_lt (key_cmp k q))) ≡ eq_by_cmp key_cmp q k

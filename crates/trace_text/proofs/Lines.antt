@@ -4,25 +4,25 @@ use Rattle.std.proofs.Math.Seq.{take-append_seam}
 use Rattle.std.proofs.lemmas.List.{take-take}
 use Rattle.std.proofs.lemmas.List.Concat.{flat_map-append}
 use Rattle.node_core.specs.TraceLine.{TraceLine}
-use Rattle.trace_text.specs.Words.{line_of, spaced}
+use Rattle.trace_text.specs.Words.{line_of_words, spaced_words}
 use Rattle.trace_text.specs.Line.{line_bytes, key_words, event_words, after_words, act_word}
 
-spaced-append : (a b : List (List ℕ)) → spaced (a ++ b) ≡ spaced a ++ spaced b
-spaced-append a b = flat_map-append (λ word. codes " " ++ word) a b
+spaced_words-append : (a b : List (List ℕ)) → spaced_words (a ++ b) ≡ spaced_words a ++ spaced_words b
+spaced_words-append a b = flat_map-append (λ word. codes " " ++ word) a b
 
 pub line_of_parts : (n : List ℕ) (key event after acts : List (List ℕ))
-    → line_of (n ∷ key ++ event ++ after ++ acts)
-    ≡ n ++ spaced key ++ spaced event ++ spaced after ++ spaced acts ++ codes "\n"
+    → line_of_words (n ∷ key ++ event ++ after ++ acts)
+    ≡ n ++ spaced_words key ++ spaced_words event ++ spaced_words after ++ spaced_words acts ++ codes "\n"
 line_of_parts n key event after acts =
-    rw (spaced-append (key ++ event ++ after) acts, spaced-append (key ++ event) after, spaced-append key event)
+    rw (spaced_words-append (key ++ event ++ after) acts, spaced_words-append (key ++ event) after, spaced_words-append key event)
     (simp append_assoc)
 
 -- what stands before the acts, then the acts, then LF
-pub line_appended : (n : ℕ) (t : TraceLine) (old head told now : List ℕ)
-    → head ≡ old ++ (decimal n ++ spaced (key_words t.key) ++ spaced (event_words t.event) ++ spaced (after_words t.after))
-    → told ≡ head ++ spaced (map act_word t.acts) → now ≡ told ++ codes "\n"
+pub line_appended : (n : ℕ) (t : TraceLine) (old head reported now : List ℕ)
+    → head ≡ old ++ (decimal n ++ spaced_words (key_words t.key) ++ spaced_words (event_words t.event) ++ spaced_words (after_words t.after))
+    → reported ≡ head ++ spaced_words (map act_word t.acts) → now ≡ reported ++ codes "\n"
     → now ≡ old ++ line_bytes n t
-line_appended n t old head told now h w l =
+line_appended n t old head reported now h w l =
     rw (line_of_parts (decimal n) (key_words t.key) (event_words t.event) (after_words t.after) (map act_word t.acts), l, w, h)
     (simp append_assoc)
 

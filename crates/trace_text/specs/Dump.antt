@@ -18,7 +18,7 @@ use Rattle.node_core.specs.declared.role.Role.{Role}
 use Rattle.node_core.specs.declared.role.Role.TheVariants.{Sends, Receives, Routes}
 use Rattle.node_core.specs.Part.{LinkState, PartState}
 use Rattle.net_machine.specs.Run.{Reached}
-use Rattle.trace_text.specs.Words.{line_of}
+use Rattle.trace_text.specs.Words.{line_of_words}
 use Rattle.trace_text.specs.Line.{key_words, event_words}
 
 -- 1 where it holds, 0 where it does not
@@ -66,7 +66,7 @@ role_words (Routes table) = codes "router" ∷ []
 
 -- a node's line, with its number
 abbrev pub node_line : ℕ × PartState → List ℕ
-node_line numbered = line_of (codes "node" ∷ decimal numbered.0 ∷ role_words numbered.1.role)
+node_line numbered = line_of_words (codes "node" ∷ decimal numbered.0 ∷ role_words numbered.1.role)
 
 -- d for data, a for an acknowledgement
 abbrev pub kind_letter : Kind → List ℕ
@@ -92,7 +92,7 @@ control_words _ = []
 -- a link's line: what was offered to it, what it has sent, and its queue from the head
 abbrev pub link_line : LinkState → List ℕ
 link_line link =
-    line_of (codes "link" ∷ decimal link.port.link ∷ (codes "offered=" ++ decimal link.port.offered)
+    line_of_words (codes "link" ∷ decimal link.port.link ∷ (codes "offered=" ++ decimal link.port.offered)
     ∷ (codes "sent=" ++ decimal link.port.sent) ∷ (codes "queue=" ++ in_commas waiting_text (waiting_in link.port.queue))
     ∷ control_words link.port.queue)
 
@@ -110,12 +110,12 @@ links_in_order parts = flat_map (links_numbered parts) (numbers_below 1024)
 
 -- the line of an event that is pending
 abbrev pub event_line : Key × Event → List ℕ
-event_line entry = line_of (codes "event" ∷ key_words entry.0 ++ event_words entry.1)
+event_line entry = line_of_words (codes "event" ∷ key_words entry.0 ++ event_words entry.1)
 
 -- how many events were run; each node; each link; each pending event in the order of keys
 abbrev pub dump_bytes : Reached → List ℕ
 dump_bytes net =
-    line_of (codes "at" ∷ decimal net.position ∷ [])
+    line_of_words (codes "at" ∷ decimal net.position ∷ [])
     ++ flat_map node_line (enumerate_from 0 net.state.parts)
     ++ flat_map link_line (links_in_order net.state.parts)
     ++ flat_map event_line (map.entries net.state.pending)

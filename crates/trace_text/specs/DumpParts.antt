@@ -31,7 +31,7 @@ is_end_of flow (Routes table) = false
 abbrev pub has_waiting : ℕ → LinkState → Bool
 has_waiting flow link = list_any (λ (cell : Stamped). cell.0.flow == flow) (waiting_in link.port.queue)
 
--- an event is an alarm of a flow, or brings a packet of it
+-- an event is a timer of a flow, or brings a packet of it
 abbrev pub is_event_of : ℕ → Event → Bool
 is_event_of flow (Start own) = own == flow
 is_event_of flow (Rto own) = own == flow

@@ -15,7 +15,7 @@ use Rattle.node_core.specs.declared.event.Event.TheVariants.{Start, Rto, DelAck,
 use Rattle.node_core.specs.declared.line.After.{After}
 use Rattle.node_core.specs.declared.line.After.TheVariants.{AtSender, AtReceiver, AtRouter}
 use Rattle.node_core.specs.TraceLine.{TraceLine}
-use Rattle.trace_text.specs.Words.{line_of, spaced}
+use Rattle.trace_text.specs.Words.{line_of_words, spaced_words}
 
 -- the four numbers that order the event
 abbrev pub key_words : Key → List (List ℕ)
@@ -23,7 +23,7 @@ key_words k = decimal k.time ∷ decimal k.node ∷ decimal k.source ∷ decimal
 
 -- those behind the time, each after a space
 abbrev pub place_text : Key → List ℕ
-place_text k = spaced (decimal k.node ∷ decimal k.source ∷ decimal k.number ∷ [])
+place_text k = spaced_words (decimal k.node ∷ decimal k.source ∷ decimal k.number ∷ [])
 
 -- what a packet carries
 abbrev pub kind_name : Kind → List ℕ
@@ -69,4 +69,4 @@ act_word (Dropped link reason p) = codes "drop=" ++ reason_name reason ++ packet
 -- the n-th event's line: n, its key, what it was, the state after it, its acts in order
 abbrev pub line_bytes : ℕ → TraceLine → List ℕ
 line_bytes n t =
-    line_of (decimal n ∷ key_words t.key ++ event_words t.event ++ after_words t.after ++ map act_word t.acts)
+    line_of_words (decimal n ∷ key_words t.key ++ event_words t.event ++ after_words t.after ++ map act_word t.acts)

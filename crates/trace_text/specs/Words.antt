@@ -3,9 +3,9 @@ use Rattle.std.specs.Prelude.{ℕ, List, ◌++◌, codes}
 use Rattle.std.specs.List.{flat_map, join_by}
 
 -- one space between two words, and LF after the last
-abbrev pub line_of : List (List ℕ) → List ℕ
-line_of words = join_by (λ word. word) (codes " ") words ++ codes "\n"
+abbrev pub line_of_words : List (List ℕ) → List ℕ
+line_of_words words = join_by (λ word. word) (codes " ") words ++ codes "\n"
 
 -- words that go on a line: each after a space
-abbrev pub spaced : List (List ℕ) → List ℕ
-spaced words = flat_map (λ word. codes " " ++ word) words
+abbrev pub spaced_words : List (List ℕ) → List ℕ
+spaced_words words = flat_map (λ word. codes " " ++ word) words

@@ -1,6 +1,6 @@
 //! The words that say what an event did to packets.
 ghost use Rattle.std.specs.Prelude.{◌≡◌, ◌+◌, ◌≤◌, ◌++◌, map, take, codes, length, vec_len, OnOk, OnErr};
-ghost use Rattle.trace_text.specs.Words.{spaced};
+ghost use Rattle.trace_text.specs.Words.{spaced_words};
 ghost use Rattle.trace_text.specs.Line.{act_word, packet_name, reason_name};
 
 use crate::forward::{write_field, write_named, write_text};
@@ -13,7 +13,7 @@ const ROOM: usize = 40;
 
 /// Appends acts in their order. Where memory is refused, some may have been appended.
 pub(crate) fn append_acts(acts: &[Act], out: &mut Vec<u8>) -> Result<(), AllocError>
-    ensures ok { OnOk result (out.new.items ≡ out.old.items ++ spaced (map act_word acts.now)) }
+    ensures ok { OnOk result (out.new.items ≡ out.old.items ++ spaced_words (map act_word acts.now)) }
     ensures err { OnErr result (take (vec_len out.old) out.new.items ≡ out.old.items) }
 {
     for act in acts {
@@ -37,7 +37,7 @@ fn append_act(act: &Act, out: &mut Vec<u8>) -> Result<(), AllocError>
 pub(crate) fn write_acts(bytes: &mut [u8], at: usize, acts: &[Act]) -> usize
     requires few { length acts.now ≤ 1 }
     requires room { at + ROOM ≤ length bytes.old }
-    ensures written { take result bytes.new ≡ take at bytes.old ++ spaced (map act_word acts.now) }
+    ensures written { take result bytes.new ≡ take at bytes.old ++ spaced_words (map act_word acts.now) }
     ensures above { at ≤ result }
     ensures short { result ≤ at + 38 }
 {

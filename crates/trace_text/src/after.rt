@@ -1,6 +1,6 @@
 //! The words that say in which state an event left its node.
 ghost use Rattle.std.specs.Prelude.{◌≡◌, ◌+◌, ◌≤◌, ◌++◌, codes, length, take};
-ghost use Rattle.trace_text.specs.Words.{spaced};
+ghost use Rattle.trace_text.specs.Words.{spaced_words};
 ghost use Rattle.trace_text.specs.Line.{after_words, phase_name};
 
 use crate::forward::{write_field, write_text};
@@ -10,7 +10,7 @@ use node_core::{After, SenderShown};
 #[inline(always)]
 pub(crate) fn write_after(bytes: &mut [u8], at: usize, after: &After) -> usize
     requires room { at + 116 ≤ length bytes.old }
-    ensures written { take result bytes.new ≡ take at bytes.old ++ spaced (after_words after.now) }
+    ensures written { take result bytes.new ≡ take at bytes.old ++ spaced_words (after_words after.now) }
     ensures above { at ≤ result }
     ensures short { result ≤ at + 115 }
 {
@@ -26,7 +26,7 @@ pub(crate) fn write_after(bytes: &mut [u8], at: usize, after: &After) -> usize
 fn write_sender(bytes: &mut [u8], at: usize, shown: &SenderShown) -> usize
     requires room { at + 116 ≤ length bytes.old }
     ensures written { take result bytes.new
-        ≡ take at bytes.old ++ spaced (after_words (After.AtSender shown.now)) }
+        ≡ take at bytes.old ++ spaced_words (after_words (After.AtSender shown.now)) }
     ensures above { at ≤ result }
     ensures short { result ≤ at + 115 }
 {

@@ -1,6 +1,6 @@
 //! The dump: all that a net keeps, as text.
 ghost use Rattle.std.specs.Prelude.{◌≡◌, ◌++◌, [], ◌∷◌, codes, decimal, OnOk, OnErr};
-ghost use Rattle.trace_text.specs.Words.{line_of};
+ghost use Rattle.trace_text.specs.Words.{line_of_words};
 ghost use Rattle.trace_text.specs.ChosenLines.{chosen_bytes};
 ghost use Rattle.trace_text.specs.Dump.{dump_bytes};
 ghost use Rattle.trace_text.specs.DumpParts.{flow_bytes, part_bytes};
@@ -104,7 +104,7 @@ fn append_lines(
 
 /// Appends how many events were run.
 fn append_position(position: u64, out: &mut Vec<u8>) -> Result<(), AllocError>
-    ensures { OnOk result (out.new.items ≡ out.old.items ++ line_of (codes "at" ∷ decimal position ∷ [])) }
+    ensures { OnOk result (out.new.items ≡ out.old.items ++ line_of_words (codes "at" ∷ decimal position ∷ [])) }
 {
     let mut bytes = [0; 24];
     let at = put_text(&mut bytes, 24, b"\n");

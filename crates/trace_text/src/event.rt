@@ -1,6 +1,6 @@
 //! The words that say when and where an event was, and what it was.
 ghost use Rattle.std.specs.Prelude.{◌≡◌, ◌+◌, ◌≤◌, ◌++◌, length, take, codes, decimal};
-ghost use Rattle.trace_text.specs.Words.{spaced};
+ghost use Rattle.trace_text.specs.Words.{spaced_words};
 ghost use Rattle.trace_text.specs.Line.{key_words, place_text, event_words};
 
 use crate::forward::{write_field, write_named};
@@ -11,7 +11,7 @@ use sim_time::Key;
 /// Writes the four numbers of a key.
 pub(crate) fn write_key(bytes: &mut [u8], at: usize, key: &Key) -> usize
     requires room { at + 60 ≤ length bytes.old }
-    ensures written { take result bytes.new ≡ take at bytes.old ++ spaced (key_words key.now) }
+    ensures written { take result bytes.new ≡ take at bytes.old ++ spaced_words (key_words key.now) }
     ensures above { at ≤ result }
     ensures short { result ≤ at + 54 }
 {
@@ -36,7 +36,7 @@ pub(crate) fn write_place(bytes: &mut [u8], at: usize, key: &Key) -> usize
 #[inline(always)]
 pub(crate) fn write_event(bytes: &mut [u8], at: usize, event: &Event) -> usize
     requires room { at + 34 ≤ length bytes.old }
-    ensures written { take result bytes.new ≡ take at bytes.old ++ spaced (event_words event.now) }
+    ensures written { take result bytes.new ≡ take at bytes.old ++ spaced_words (event_words event.now) }
     ensures above { at ≤ result }
     ensures short { result ≤ at + 32 }
 {
@@ -53,7 +53,7 @@ pub(crate) fn write_event(bytes: &mut [u8], at: usize, event: &Event) -> usize
 #[inline(always)]
 fn write_arrival(bytes: &mut [u8], at: usize, packet: &Packet) -> usize
     requires room { at + 34 ≤ length bytes.old }
-    ensures written { take result bytes.new ≡ take at bytes.old ++ spaced (event_words (Event.Arrive packet.now)) }
+    ensures written { take result bytes.new ≡ take at bytes.old ++ spaced_words (event_words (Event.Arrive packet.now)) }
     ensures above { at ≤ result }
     ensures short { result ≤ at + 32 }
 {

@@ -1,7 +1,7 @@
 //! A whole line of the trace.
 ghost use Rattle.std.specs.Prelude.{◌≡◌, ◌+◌, ◌≤◌, ◌++◌, take, decimal, codes, length, map, vec_len, OnOk, OnErr};
 ghost use Rattle.node_core.specs.TraceLine.{shown};
-ghost use Rattle.trace_text.specs.Words.{spaced};
+ghost use Rattle.trace_text.specs.Words.{spaced_words};
 ghost use Rattle.trace_text.specs.Line.{act_word, line_bytes, place_text, key_words, event_words, after_words};
 
 use crate::act::{append_acts, write_acts};
@@ -75,8 +75,8 @@ fn write_behind_time(bytes: &mut [u8], at: usize, line: &Line) -> usize
     requires few { length line.now.acts.acts ≤ 1 }
     requires room { at + 224 ≤ length bytes.old }
     ensures written { take result bytes.new ≡ take at bytes.old ++ (place_text line.now.key
-        ++ spaced (event_words line.now.event) ++ spaced (after_words line.now.after)
-        ++ spaced (map act_word line.now.acts.acts) ++ codes "\n") }
+        ++ spaced_words (event_words line.now.event) ++ spaced_words (after_words line.now.after)
+        ++ spaced_words (map act_word line.now.acts.acts) ++ codes "\n") }
     ensures short { result ≤ at + 224 }
 {
     let at = write_place(bytes, at, &line.key);
@@ -102,8 +102,8 @@ fn append_long(n: u64, line: &Line, out: &mut Vec<u8>) -> Result<(), AllocError>
 #[inline(always)]
 fn append_head(n: u64, line: &Line, out: &mut Vec<u8>) -> Result<(), AllocError>
     ensures ok { OnOk result (out.new.items ≡ out.old.items ++ (decimal n
-        ++ spaced (key_words line.now.key) ++ spaced (event_words line.now.event)
-        ++ spaced (after_words line.now.after))) }
+        ++ spaced_words (key_words line.now.key) ++ spaced_words (event_words line.now.event)
+        ++ spaced_words (after_words line.now.after))) }
     ensures err { OnErr result (out.new.items ≡ out.old.items) }
 {
     let mut bytes = [0; LINE_ROOM];

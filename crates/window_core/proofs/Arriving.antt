@@ -6,11 +6,11 @@ use Rattle.sim_time.specs.declared.key.Key.{Key}
 use Rattle.sim_time.specs.Keys.{key_cmp}
 use Rattle.sim_time.proofs.Order.{keys_total}
 use Rattle.packet_chain.specs.Stamped.{Stamped}
-use Rattle.ranking.specs.Keyed.{apply, entering}
-use Rattle.ranking.proofs.Maps.{untied}
+use Rattle.tournament.specs.Keyed.{apply, entering}
+use Rattle.tournament.proofs.Maps.{untied}
 use Rattle.node_core.specs.declared.event.Event.{Event}
 use Rattle.node_core.specs.declared.event.Event.TheVariants.{Arrive}
-use Rattle.node_core.specs.Alarms.{arrival_key}
+use Rattle.node_core.specs.Timers.{arrival_key}
 use Rattle.node_core.specs.Pending.{Events}
 use Rattle.node_core.specs.WireState.{WireState, arrivals, arrivals_on, pending_on}
 use Rattle.window_law.proofs.Changes.{same, same_is, over, get-apply}

@@ -9,13 +9,13 @@ use Rattle.sim_time.proofs.Order.{exact_keys}
 use Rattle.packet_chain.specs.Stamped.{Stamped}
 use Rattle.packet_chain.specs.declared.packet.Packet.{Packet}
 use Rattle.scenario_image.specs.declared.parts.ScenarioParts.{ScenarioParts}
-use Rattle.ranking.proofs.Maps.{tied, untied}
+use Rattle.tournament.proofs.Maps.{tied, untied}
 use Rattle.node_core.specs.declared.event.Event.{Event}
 use Rattle.node_core.specs.declared.event.Event.TheVariants.{Start, Rto, DelAck, Free, Arrive}
-use Rattle.node_core.specs.Alarms.{arrival_key}
+use Rattle.node_core.specs.Timers.{arrival_key}
 use Rattle.node_core.specs.TraceLine.{TraceLine}
 use Rattle.node_core.specs.WireState.{arrivals, stamps_of}
-use Rattle.table_run.specs.State.{State, opening, run}
+use Rattle.table_run.specs.State.{State, initial, run}
 use Rattle.table_run.specs.Laws.{IsSoundRun}
 use Rattle.table_run.specs.Sound.{Belongs}
 use Rattle.table_run.proofs.Runs.{run_add}
@@ -26,7 +26,7 @@ use Rattle.window_law.specs.Lookahead.{lookahead}
 use Rattle.line_merge.specs.Merged.{lines_of, HasKey, AreApart}
 use Rattle.window_law.specs.Windows.{WindowState, all_done, setting_of, keyed}
 use Rattle.window_law.proofs.Brought.{Done, window}
-use Rattle.window_law.proofs.Calls.{done_at, below_end, opening_matches}
+use Rattle.window_law.proofs.Calls.{done_at, below_end, initial_matches}
 use Rattle.window_law.proofs.EveryRun.{same_end}
 use Rattle.window_law.proofs.Fair.{maker_of, every_run_is_fair}
 use Rattle.window_law.proofs.Matches.{Matches}
@@ -53,7 +53,7 @@ at_end p group m before edge w r all =
     let o = r.is_open in
     let fair = every_run_is_fair p m before edge r.is_scenario r.comes group in
     let done : (h : ℕ) → Done group until (group_at (Rattle.window_law.specs.Groups.fires group until o.firings o.start) h) = λ h. subst (λ (g : List GroupState). Done group until (group_at g h)) o.groups_are (done_at until w.groups all h) in
-    let c = window group maker ahead until (length o.firings) o.firings edge [] o.start refl (below_end x edge w o maker (same_end p m before edge r.comes) fair) fair (opening_matches x edge w o maker) done in
+    let c = window group maker ahead until (length o.firings) o.firings edge [] o.start refl (below_end x edge w o maker (same_end p m before edge r.comes) fair) fair (initial_matches x edge w o maker) done in
     let tidy : Tidy c.state c.more = run_tidy group maker ahead c.n edge c.state [] c.more c.is_run fair record { sorted = tt; before = λ q v e. tt } in
     record {
       steps = c.n;
@@ -63,15 +63,15 @@ at_end p group m before edge w r all =
       is_run = c.is_run;
       matches = subst (Matches group maker ahead until c.state c.more) (sym o.groups_are) c.matches;
       sorted = tidy.sorted;
-      sound = sound_run p (m + c.n) (before ++ c.more) c.state r.is_scenario (run_add (opening p) edge c.state m c.n before c.more r.comes c.is_run);
+      sound = sound_run p (m + c.n) (before ++ c.more) c.state r.is_scenario (run_add (initial p) edge c.state m c.n before c.more r.comes c.is_run);
     }
 
 -- an event under a key of a link is an arrival
 pub arrives : (p : ScenarioParts) (s : State) (now : ℕ) (k : Key) (v : Event) → Belongs p s now k v → k.source ≢ 0 → (x : Packet) × (v ≡ Arrive x)
 arrives p s now k (Start flow) b off = absurd (off (ap (λ (z : Key). z.source) b.is_key))
-arrives p s now k (Rto flow) b off = absurd (off (ap (λ (z : Key). z.source) b.alarm.is_key))
-arrives p s now k (DelAck flow) b off = absurd (off (ap (λ (z : Key). z.source) b.alarm.is_key))
-arrives p s now k (Free link) b off = absurd (off (ap (λ (z : Key). z.source) b.alarm.is_key))
+arrives p s now k (Rto flow) b off = absurd (off (ap (λ (z : Key). z.source) b.timer.is_key))
+arrives p s now k (DelAck flow) b off = absurd (off (ap (λ (z : Key). z.source) b.timer.is_key))
+arrives p s now k (Free link) b off = absurd (off (ap (λ (z : Key). z.source) b.timer.is_key))
 arrives p s now k (Arrive x) b off = (x, refl)
 
 -- LINES APART

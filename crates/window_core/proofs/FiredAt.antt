@@ -6,7 +6,7 @@ use Rattle.std.specs.Option.{option_map}
 use Rattle.std.specs.Result.{IfOk}
 use Rattle.node_core.specs.TraceLine.{TraceLine}
 use Rattle.sim_time.specs.declared.key.Key.{Key}
-use Rattle.ranking.proofs.Maps.{not_some, same_some}
+use Rattle.tournament.proofs.Maps.{not_some, same_some}
 use Rattle.node_core.specs.declared.event.Event.{Event}
 use Rattle.table_run.specs.State.{State, due}
 use Rattle.window_core.specs.Full.{events_with}

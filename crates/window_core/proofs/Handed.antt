@@ -6,10 +6,10 @@ use Rattle.std.specs.Option.{option_or}
 use Rattle.std.specs.FinMap.{get, get-empty, retain_keys, get-retain_keys, entries as entries_of}
 use Rattle.sim_time.proofs.Order.{exact_keys}
 use Rattle.sim_time.specs.declared.key.Key.{Key}
-use Rattle.ranking.specs.Keyed.{apply, entering, nothing_due}
-use Rattle.ranking.specs.Gathered.{map_at}
-use Rattle.ranking.proofs.Gathered.{get-gathered}
-use Rattle.ranking.proofs.Maps.{not_some, none_or, same_at}
+use Rattle.tournament.specs.Keyed.{apply, entering, nothing_due}
+use Rattle.tournament.specs.Gathered.{map_at}
+use Rattle.tournament.proofs.Gathered.{get-gathered}
+use Rattle.tournament.proofs.Maps.{not_some, none_or, same_at}
 use Rattle.node_core.specs.declared.event.Event.{Event}
 use Rattle.node_core.specs.Pending.{Events}
 use Rattle.node_core.specs.WireState.{WireState, pending_on, came_over}
@@ -20,10 +20,10 @@ use Rattle.node_group.specs.Group.{GroupValue, state_of, came_in, group_from, gr
 use Rattle.window_law.specs.Groups.{GroupState, no_group}
 use Rattle.node_group.specs.Held.{no_wire, wire_at, held_on}
 use Rattle.net_partition.specs.Partition.{group_in}
-use Rattle.node_group.specs.Seats.{seated, taken}
+use Rattle.node_group.specs.Seats.{seated, taken_nodes}
 use Rattle.window_core.specs.Turning.{from_group, to_group, held_over, pending_in, AreReady, CanHand, WasHanded, HasHanded, handed, ComesLater}
 use Rattle.window_core.specs.Window.{value_at, states_of}
-use Rattle.window_law.specs.Windows.{delivered, delivered_to}
+use Rattle.window_law.specs.Windows.{groups_delivered, delivered_to}
 use Rattle.window_core.proofs.Arriving.{get_arriving}
 use Rattle.node_group.proofs.HeldBack.{over_link, wire_map}
 use Rattle.window_law.proofs.Changes.{get-entering}
@@ -38,7 +38,7 @@ module _ (entries : List ℕ) (links : List LinkEnds) (old : List GroupValue) (r
   pub record HandedOver (now : List GroupValue) (done : ℕ → Bool) : Type 0 where
     pub size : length now ≡ length old
     pub same : (h : ℕ) → value_at now h ≡ record (value_at old h) { seats = (value_at now h).seats; held = (value_at now h).held }
-    pub seats_stay : (h : ℕ) → taken (value_at now h).seats ≡ taken (value_at old h).seats
+    pub seats_stay : (h : ℕ) → taken_nodes (value_at now h).seats ≡ taken_nodes (value_at old h).seats
     pub parts : (h : ℕ) → parts_of (seated (value_at now h).seats) ≡ parts_of (seated (value_at old h).seats)
     pub wires : (h : ℕ) → length (value_at now h).held ≡ length (value_at old h).held
     pub waits : (h link : ℕ) → done link ≡ false → held_over now h link ≡ held_over old h link
@@ -223,7 +223,7 @@ module _ (entries : List ℕ) (links : List LinkEnds) (old : List GroupValue) (r
         handed_across = record {
           size = was.size ∙ is.size;
           same = λ h. same_new h ∙ ap (λ (g : GroupValue). record g { seats = (value_at new h).seats; held = (value_at new h).held }) (is.same h);
-          seats_stay = λ h. at_end (λ g. taken g.seats) (ap (λ (g : GroupValue). taken g.seats) was.from_is) was.seats_stay h ∙ is.seats_stay h;
+          seats_stay = λ h. at_end (λ g. taken_nodes g.seats) (ap (λ (g : GroupValue). taken_nodes g.seats) was.from_is) was.seats_stay h ∙ is.seats_stay h;
           parts = λ h. at_end (λ g. parts_of (seated g.seats)) (ap (λ (g : GroupValue). parts_of (seated g.seats)) was.from_is) was.parts h ∙ is.parts h;
           wires = λ h. wires_new h ∙ is.wires h;
           waits = λ h link not. let off = not_here_yet link not in held_other h link off ∙ is.waits h link (sym (more_away link off) ∙ not);
@@ -339,7 +339,7 @@ module _ (entries : List ℕ) (links : List LinkEnds) (old : List GroupValue) (r
     has_handed = record {
       size = is.size;
       same = is.same;
-      states = ext_get_or no_group (states_of now) (delivered (group_in entries) (states_of old))
+      states = ext_get_or no_group (states_of now) (groups_delivered (group_in entries) (states_of old))
           (length_states now ∙ is.size ∙ sym (length_states old) ∙ sym (length_delivered (group_in entries) (states_of old)))
           (λ h under.
           let size = length_states now in

@@ -7,7 +7,7 @@ use Rattle.packet_chain.specs.Stamped.{Stamped}
 use Rattle.node_core.specs.WireState.{WireState}
 use Rattle.net_machine.specs.declared.places.LinkEnds.{LinkEnds}
 use Rattle.node_group.specs.Group.{GroupValue}
-use Rattle.node_group.specs.Held.{no_wire, wire_at, is_idle, HoldsNothing}
+use Rattle.node_group.specs.Held.{no_wire, wire_at, is_idle, WiresAreEmpty}
 use Rattle.window_core.specs.Turning.{from_group, to_group, held_over, handed, AreReady, CanHand, CanHandEach, WasHanded, HasHanded, HasHandedOne}
 use Rattle.window_core.specs.Window.{value_at}
 use Rattle.window_core.proofs.Handed.{HandedOver, can_hand, more, handed_across, handed_rest, has_handed}
@@ -57,7 +57,7 @@ module _ (entries : List ℕ) (links : List LinkEnds) (old : List GroupValue) (r
     wires_many = is.is.wires from ∙ (ready.shapes from here).wires
 
     -- the next group
-    pub handed_next : HoldsNothing (value_at now from).held → HandedFrom now (from + 1)
+    pub handed_next : WiresAreEmpty (value_at now from).held → HandedFrom now (from + 1)
     handed_next none = record {
       done = is.done;
       is = is.is;

@@ -3,8 +3,8 @@ use Rattle.std.proofs.Common.{◌≡◌, ◌≢◌, ◌≤◌, ◌<◌, ◌+◌,
 use Rattle.std.proofs.lemmas.Bool.{cases_eq}
 use Rattle.std.proofs.lemmas.List.{length-map, get_or-set_same, get_or-set_other}
 use Rattle.packet_chain.specs.Stamped.{Stamped}
-use Rattle.ranking.specs.Keyed.{apply, entering}
-use Rattle.node_core.specs.AgendaState.{Incoming, no_incoming, incoming_at}
+use Rattle.tournament.specs.Keyed.{apply, entering}
+use Rattle.node_core.specs.EventQueueState.{Incoming, no_incoming, incoming_at}
 use Rattle.node_core.specs.Node.{NodeState, delivered}
 use Rattle.node_core.specs.Part.{PartState}
 use Rattle.node_core.specs.WireState.{WireState, arrivals, arrivals_on, came_over}

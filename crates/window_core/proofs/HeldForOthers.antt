@@ -4,10 +4,10 @@ use Rattle.std.proofs.lemmas.Bool.{cases_eq, cases_lt}
 use Rattle.std.proofs.lemmas.List.{get_or_past, length-map}
 use Rattle.std.specs.FinMap.{get, get-empty}
 use Rattle.sim_time.specs.declared.key.Key.{Key}
-use Rattle.ranking.specs.Keyed.{nothing_due}
-use Rattle.ranking.specs.Gathered.{map_at, AtHome}
-use Rattle.ranking.proofs.Gathered.{get-gathered}
-use Rattle.ranking.proofs.Maps.{not_some, none_or}
+use Rattle.tournament.specs.Keyed.{nothing_due}
+use Rattle.tournament.specs.Gathered.{map_at, AtHome}
+use Rattle.tournament.proofs.Gathered.{get-gathered}
+use Rattle.tournament.proofs.Maps.{not_some, none_or}
 use Rattle.node_core.specs.declared.event.Event.{Event}
 use Rattle.node_core.specs.Pending.{Events}
 use Rattle.node_core.specs.WireState.{WireState, pending_on}

@@ -7,13 +7,13 @@ use Rattle.std.specs.FinMap.{get, get-empty, get-from_entries}
 use Rattle.sim_time.proofs.Order.{keys_total}
 use Rattle.packet_chain.specs.Stamped.{Stamped}
 use Rattle.scenario_image.specs.declared.parts.ScenarioParts.{ScenarioParts}
-use Rattle.ranking.specs.Keyed.{nothing_due, EachKey}
-use Rattle.ranking.specs.Gathered.{map_at, AtHome}
-use Rattle.ranking.proofs.Gathered.{get-gathered}
-use Rattle.ranking.proofs.Maps.{not_some, same_at}
+use Rattle.tournament.specs.Keyed.{nothing_due, EachKey}
+use Rattle.tournament.specs.Gathered.{map_at, AtHome}
+use Rattle.tournament.proofs.Gathered.{get-gathered}
+use Rattle.tournament.proofs.Maps.{not_some, same_at}
 use Rattle.node_core.specs.declared.event.Event.{Event}
-use Rattle.node_core.specs.AgendaState.{Incoming, incoming_at}
-use Rattle.node_core.specs.Alarms.{arrival_key}
+use Rattle.node_core.specs.EventQueueState.{Incoming, incoming_at}
+use Rattle.node_core.specs.Timers.{arrival_key}
 use Rattle.node_core.specs.Node.{NodeState}
 use Rattle.node_core.specs.Part.{LinkState, PartState, link_at}
 use Rattle.node_core.specs.Pending.{Events}
@@ -21,7 +21,7 @@ use Rattle.node_core.specs.WireState.{WireState, arrivals_on, pending_on, stamps
 use Rattle.table_run.specs.State.{State, no_part, part_at}
 use Rattle.table_run.specs.Laws.{ComesTo}
 use Rattle.net_machine.specs.declared.places.LinkEnds.{LinkEnds}
-use Rattle.net_machine.specs.declared.places.Place.{Place}
+use Rattle.net_machine.specs.declared.places.EndPlace.{EndPlace}
 use Rattle.net_machine.specs.NetOf.{AreNetParts}
 use Rattle.net_machine.specs.Nodes.{no_node, node_at, pendings, net_pending, parts_of, net_state}
 use Rattle.net_machine.specs.Wiring.{from_of, exit_of, to_of, entry_of, leaving_at, coming_at, link_ends, ends_at, place_at, IsJoined}
@@ -198,7 +198,7 @@ module _ (v : WindowValue) (is : IsWindow v) (are : (h : ℕ) → h < length v.g
         coming : coming_at p.links nodes number ≡ entry_at (with_node t) number
         coming =
             ap (λ (n : NodeState). incoming_at n.incoming (entry_of p.links number)) (node_is t)
-            ∙ ap (λ (q : Place). incoming_at (member (with_node t) q.node).incoming q.index) (sym place)
+            ∙ ap (λ (q : EndPlace). incoming_at (member (with_node t) q.node).incoming q.index) (sym place)
 
         leaving : leaving_at p.links nodes number ≡ exit_at (with_node f) f x
         leaving = ap (λ (n : NodeState). link_at n.part.links x) (node_is f)
@@ -251,7 +251,7 @@ module _ (v : WindowValue) (is : IsWindow v) (are : (h : ℕ) → h < length v.g
 
         joined : IsJoined p.links nodes number
         joined = record {
-          entry = subst (λ (n : NodeState). entry_of p.links number < length n.incoming) (sym (node_is t)) (subst (λ (q : Place). q.index < length (member (with_node t) q.node).incoming) place has.within);
+          entry = subst (λ (n : NodeState). entry_of p.links number < length n.incoming) (sym (node_is t)) (subst (λ (q : EndPlace). q.index < length (member (with_node t) q.node).incoming) place has.within);
           over = ap (λ (i : Incoming). i.link) coming ∙ has.over;
           came = ap (λ (i : Incoming). i.came) coming ∙ ⊎_elim came_inside came_across (cases_eq (group t) (group f)) ∙ ap (λ (l : LinkState). l.port.sent) (sym leaving);
         }

@@ -7,7 +7,7 @@ use Rattle.scenario_image.specs.declared.parts.LinkPart.{LinkPart}
 use Rattle.scenario_image.specs.declared.parts.ScenarioParts.{ScenarioParts}
 use Rattle.scenario_image.specs.Ends.{leaves}
 use Rattle.scenario_image.specs.Scenario.{IsScenario}
-use Rattle.node_core.specs.Opening.{opening_link, opening_links, leaving_links}
+use Rattle.node_core.specs.Initial.{initial_link, initial_links, leaving_links}
 use Rattle.node_core.specs.Part.{LinkState, link_at, no_link}
 use Rattle.node_core.specs.TraceLine.{TraceLine}
 use Rattle.table_run.specs.State.{State, part_at}
@@ -38,7 +38,7 @@ module _ (s : State) (n : ℕ) (p : ScenarioParts) (lines : List TraceLine) (is_
       absurd (omega (arith, differ)))
       (cases_lt index (length (leaving_links p.links node)))
 
-  its_links : Rattle.std.proofs.Common.map afresh (part_at s node).links ≡ opening_links p.links node
+  its_links : Rattle.std.proofs.Common.map afresh (part_at s node).links ≡ initial_links p.links node
   its_links =
       let from = (is_p.in_limits.each_link number no_link_part under).from_node in
       ((sound_run p n lines s is_p comes).sound.each_node node from).its_links
@@ -46,14 +46,14 @@ module _ (s : State) (n : ℕ) (p : ScenarioParts) (lines : List TraceLine) (is_
   pub exit_there : (index < length (part_at s node).links) × ((link_at (part_at s node).links index).port.link ≡ number)
   exit_there = (
     (let one = length-map (part_at s node).links afresh in
-        let two : length (Rattle.std.proofs.Common.map afresh (part_at s node).links) ≡ length (opening_links p.links node) = ap length its_links in
-        let three = length-map (leaving_links p.links node) opening_link in
+        let two : length (Rattle.std.proofs.Common.map afresh (part_at s node).links) ≡ length (initial_links p.links node) = ap length its_links in
+        let three = length-map (leaving_links p.links node) initial_link in
         let here = inside in
         omega (arith, one, two, three, here)),
     ap (λ (l : LinkState). l.port.link)
         (sym (get_or_each afresh (part_at s node).links index no_link)
         ∙ ap (λ (ls : List LinkState). link_at ls index) its_links
-        ∙ get_or-map opening_link (leaving_links p.links node) index other no_link inside
-        ∙ ap opening_link at)
+        ∙ get_or-map initial_link (leaving_links p.links node) index other no_link inside
+        ∙ ap initial_link at)
         ∙ omega arith,
   )

@@ -3,7 +3,7 @@ pub mod Each
 pub mod Windowed
 pub mod WindowFields
 pub mod Readings
-pub mod Rosters
+pub mod GroupTables
 pub mod HandedOver
 pub mod Arriving
 pub mod HeldForOthers

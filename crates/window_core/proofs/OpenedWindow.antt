@@ -1,6 +1,6 @@
 -- The first window of a net.
 use Rattle.std.proofs.Common.{◌≡◌, ◌<◌, ℕ, suc, List, [], ◌∷◌, length, true, ◌&&◌, sym, ap, subst, ◌∙◌, arith, refl}
-use Rattle.node_core.specs.AgendaState.{incoming_at}
+use Rattle.node_core.specs.EventQueueState.{incoming_at}
 use Rattle.node_core.specs.Node.{NodeState}
 use Rattle.node_core.specs.WireState.{WireState}
 use Rattle.node_core.specs.TraceLine.{TraceLine}
@@ -12,7 +12,7 @@ use Rattle.net_machine.specs.Wiring.{AreEnds, ends_at, place_at}
 use Rattle.window_law.specs.Calls.{IsOpenFrom}
 use Rattle.node_group.specs.Group.{GroupValue, state_of}
 use Rattle.window_law.specs.Lookahead.{lookahead}
-use Rattle.window_core.specs.Opening.{IsFirstWindow}
+use Rattle.window_core.specs.Initial.{IsFirstWindow}
 use Rattle.net_partition.specs.Partition.{group_in, groups_of}
 use Rattle.node_group.specs.Seats.{seated}
 use Rattle.node_group.specs.Shares.{IsShareOf}

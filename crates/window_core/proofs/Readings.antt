@@ -11,5 +11,5 @@ pub lines_of_groups : (groups : List GroupValue) → all_lines (states_of groups
 lines_of_groups [] = refl
 lines_of_groups (g ∷ groups) = ap (λ (ls : List TraceLine). g.lines ++ ls) (lines_of_groups groups)
 
-pub told_more : (g : GroupValue) (groups : List GroupValue) → length (all_lines (states_of (g ∷ groups))) ≡ length g.lines + length (all_lines (states_of groups))
-told_more g groups = length-append g.lines (all_lines (states_of groups))
+pub reported_more : (g : GroupValue) (groups : List GroupValue) → length (all_lines (states_of (g ∷ groups))) ≡ length g.lines + length (all_lines (states_of groups))
+reported_more g groups = length-append g.lines (all_lines (states_of groups))

@@ -7,7 +7,7 @@ use Rattle.scenario_image.specs.declared.parts.LinkPart.{LinkPart}
 use Rattle.scenario_image.specs.declared.parts.ScenarioParts.{ScenarioParts}
 use Rattle.scenario_image.specs.Ends.{leaves}
 use Rattle.scenario_image.specs.Scenario.{IsScenario}
-use Rattle.node_core.specs.Opening.{opening_link, opening_links, leaving_links}
+use Rattle.node_core.specs.Initial.{initial_link, initial_links, leaving_links}
 use Rattle.node_core.specs.Part.{LinkState, link_at, no_link}
 use Rattle.node_core.specs.TraceLine.{TraceLine}
 use Rattle.table_run.specs.State.{State, part_at}
@@ -25,7 +25,7 @@ record IsSame (p q : List LinkPart) (number : ℕ) : Type 0 where
   to : (link_part q number).to ≡ (link_part p number).to
   delay : (link_part q number).delay ≡ (link_part p number).delay
 
-module _ (p q : List LinkPart) (number : ℕ) (under : number < length p) (same : opening_links p (from_of p number) ≡ opening_links q (from_of p number)) where
+module _ (p q : List LinkPart) (number : ℕ) (under : number < length p) (same : initial_links p (from_of p number) ≡ initial_links q (from_of p number)) where
   abbrev node : ℕ
   node = from_of p number
 
@@ -48,20 +48,20 @@ module _ (p q : List LinkPart) (number : ℕ) (under : number < length p) (same 
 
   inside_too : index < length (leaving_links q node)
   inside_too =
-      let one = length-map (leaving_links p node) opening_link in
-      let two = length-map (leaving_links q node) opening_link in
-      let both : length (opening_links p node) ≡ length (opening_links q node) = ap length same in
+      let one = length-map (leaving_links p node) initial_link in
+      let two = length-map (leaving_links q node) initial_link in
+      let both : length (initial_links p node) ≡ length (initial_links q node) = ap length same in
       let here = inside in
       omega (arith, one, two, both, here)
 
   same_link : IsSame p q number
   same_link =
       let it = passing_at (leaves node) 0 q index no_link_part other inside_too in
-      let links : opening_link (0 + number, link_part p number) ≡ opening_link (0 + it.place, link_part q it.place) =
-      sym (get_or-map opening_link (leaving_links p node) index other no_link inside ∙ ap opening_link at)
+      let links : initial_link (0 + number, link_part p number) ≡ initial_link (0 + it.place, link_part q it.place) =
+      sym (get_or-map initial_link (leaving_links p node) index other no_link inside ∙ ap initial_link at)
       ∙ ap (λ ls. link_at ls index) same
-      ∙ get_or-map opening_link (leaving_links q node) index other no_link inside_too
-      ∙ ap opening_link it.is in
+      ∙ get_or-map initial_link (leaving_links q node) index other no_link inside_too
+      ∙ ap initial_link it.is in
       let numbers : 0 + number ≡ 0 + it.place = ap (λ (l : LinkState). l.port.link) links in
       let place : it.place ≡ number = omega (arith, numbers) in
       record {
@@ -94,7 +94,7 @@ no_longer p q each =
 
 module _ (s : State) (n : ℕ) where
   -- the links that leave a node are told by its state
-  its_links : (p : ScenarioParts) (lines : List TraceLine) → IsScenario p → ComesTo p n lines s → (node : ℕ) → node < length s.parts → Rattle.std.proofs.Common.map afresh (part_at s node).links ≡ opening_links p.links node
+  its_links : (p : ScenarioParts) (lines : List TraceLine) → IsScenario p → ComesTo p n lines s → (node : ℕ) → node < length s.parts → Rattle.std.proofs.Common.map afresh (part_at s node).links ≡ initial_links p.links node
   its_links p lines is_p comes node under =
       let sound = (sound_run p n lines s is_p comes).sound in
       let size = sound.nodes_are in

@@ -2,7 +2,7 @@
 use Rattle.std.proofs.Common.{◌≡◌, ℕ, List, [], ◌∷◌, ◌+◌, length, map, Bool, true, false, cond, Some, None, Result, Ok, Err, refl, sym, ap, ◌∙◌}
 use Rattle.std.specs.List.{enumerate_from}
 use Rattle.std.specs.Result.{OnOk, OnErr, is_ok}
-use Rattle.ranking.proofs.Maps.{not_some, same_some}
+use Rattle.tournament.proofs.Maps.{not_some, same_some}
 use Rattle.node_core.specs.Pending.{Events}
 use Rattle.node_core.specs.TraceLine.{TraceLine}
 use Rattle.table_run.specs.State.{State}
@@ -12,7 +12,7 @@ use Rattle.window_law.specs.Groups.{GroupState}
 use Rattle.net_partition.specs.Partition.{group_in}
 use Rattle.window_core.specs.Window.{WindowValue, states_of, machine_of, setting_in, IsSplit, IsFrom, HasGoneOn, HasTurned}
 use Rattle.window_core.specs.WindowOf.{window_of, IsWindowInside}
-use Rattle.window_law.specs.Windows.{WindowState, all_done, all_held, all_lines, delivered, delivered_to, in_order, none_fired, opened}
+use Rattle.window_law.specs.Windows.{WindowState, all_done, all_held, all_lines, groups_delivered, delivered_to, in_order, none_fired, opened}
 use Rattle.window_law.proofs.Turn.{length_delivered}
 use Rattle.window_core.proofs.Windowed.{length_states}
 
@@ -59,13 +59,13 @@ no_lines group held n (g ∷ groups) = no_lines group held (n + 1) groups
 
 -- the machine after it, and what it gives
 abbrev after_turn : WindowValue → WindowState × List TraceLine
-after_turn old = (opened (setting_in old) (delivered (group_in old.entries) (states_of old.groups)), in_order (all_lines (states_of old.groups)))
+after_turn old = (opened (setting_in old) (groups_delivered (group_in old.entries) (states_of old.groups)), in_order (all_lines (states_of old.groups)))
 
 -- its groups are those that got what was held back for them
-turned_groups : (old new : WindowValue) (batch : BatchValue) → HasTurned old batch new → states_of new.groups ≡ delivered (group_in old.entries) (states_of old.groups)
+turned_groups : (old new : WindowValue) (batch : BatchValue) → HasTurned old batch new → states_of new.groups ≡ groups_delivered (group_in old.entries) (states_of old.groups)
 turned_groups old new batch has = go (all_done old.until (states_of old.groups)) has.moved_on
   where
-    go : (b : Bool) → cond b (Some (after_turn old)) None ≡ Some (machine_of new, batch.lines) → states_of new.groups ≡ delivered (group_in old.entries) (states_of old.groups)
+    go : (b : Bool) → cond b (Some (after_turn old)) None ≡ Some (machine_of new, batch.lines) → states_of new.groups ≡ groups_delivered (group_in old.entries) (states_of old.groups)
     go true e = sym (ap (λ (p : WindowState × List TraceLine). p.0.groups) (same_some (after_turn old) (machine_of new, batch.lines) e))
     go false e = absurd (not_some e)
 

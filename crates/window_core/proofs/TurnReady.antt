@@ -10,11 +10,11 @@ use Rattle.sim_time.proofs.Order.{keys_total}
 use Rattle.packet_chain.specs.Stamped.{Stamped}
 use Rattle.packet_chain.specs.declared.packet.Packet.{Packet}
 use Rattle.scenario_image.specs.declared.parts.ScenarioParts.{ScenarioParts}
-use Rattle.ranking.specs.Gathered.{map_at}
-use Rattle.ranking.proofs.Gathered.{get-gathered}
+use Rattle.tournament.specs.Gathered.{map_at}
+use Rattle.tournament.proofs.Gathered.{get-gathered}
 use Rattle.node_core.specs.declared.event.Event.{Event}
 use Rattle.node_core.specs.declared.event.Event.TheVariants.{Arrive}
-use Rattle.node_core.specs.Alarms.{arrival_key}
+use Rattle.node_core.specs.Timers.{arrival_key}
 use Rattle.node_core.specs.Pending.{Events}
 use Rattle.node_core.specs.TraceLine.{TraceLine}
 use Rattle.node_core.specs.WireState.{WireState, arrivals_on, pending_on, stamps_of}

@@ -4,7 +4,7 @@ use Rattle.std.proofs.lemmas.List.{length-map}
 use Rattle.std.specs.List.{enumerate_from}
 use Rattle.node_core.specs.TraceLine.{TraceLine}
 use Rattle.node_core.specs.Pending.{Events}
-use Rattle.table_run.specs.State.{State, opening, run}
+use Rattle.table_run.specs.State.{State, initial, run}
 use Rattle.table_run.proofs.Runs.{run_add}
 use Rattle.window_law.specs.Calls.{IsOpenFrom}
 use Rattle.node_group.specs.Group.{GroupValue, state_of, came_in}
@@ -14,7 +14,7 @@ use Rattle.line_merge.specs.Merged.{all_of}
 use Rattle.net_partition.specs.Partition.{group_in}
 use Rattle.window_core.specs.Turning.{from_group, to_group, HasHanded}
 use Rattle.window_core.specs.Window.{WindowValue, value_at, states_of, machine_of, setting_in, IsSplit, IsFrom, IsWindow, IsPart, HasGoneOn, HasTurned}
-use Rattle.window_law.specs.Windows.{Setting, AreBelow, all_done, all_lines, all_held, delivered, delivered_to, in_order, opened, setting_of, window_end}
+use Rattle.window_law.specs.Windows.{Setting, AreBelow, all_done, all_lines, all_held, groups_delivered, delivered_to, in_order, opened, setting_of, window_end}
 use Rattle.window_law.proofs.EveryRun.{turn_of}
 use Rattle.window_core.proofs.Readings.{lines_of_groups}
 use Rattle.window_core.proofs.TurnReady.{cleared}
@@ -29,9 +29,9 @@ given_from : (group : ℕ → ℕ) (held : Events) (n m : ℕ) (groups : List Gr
 given_from group held n m [] = refl
 given_from group held n m (g ∷ groups) = ap (λ (ss : List GroupState). delivered_to group held (m, state_of g) ∷ ss) (given_from group held n (m + 1) groups)
 
-same_delivered : (group : ℕ → ℕ) (n : ℕ) (groups : List GroupValue) → delivered group (states_of (map (cleared n) groups)) ≡ delivered group (states_of groups)
+same_delivered : (group : ℕ → ℕ) (n : ℕ) (groups : List GroupValue) → groups_delivered group (states_of (map (cleared n) groups)) ≡ groups_delivered group (states_of groups)
 same_delivered group n groups =
-    ap (λ (hs : List Events). map (delivered_to group (Rattle.ranking.specs.Gathered.gathered hs)) (enumerate_from 0 (states_of (map (cleared n) groups)))) (helds_same n groups)
+    ap (λ (hs : List Events). map (delivered_to group (Rattle.tournament.specs.Gathered.gathered hs)) (enumerate_from 0 (states_of (map (cleared n) groups)))) (helds_same n groups)
     ∙ given_from group (all_held (states_of groups)) n 0 groups
 
 -- each line of a turn is before the end of its window
@@ -54,13 +54,13 @@ module _ (v : WindowValue) (is : IsWindow v) (done : all_done v.until (states_of
   abbrev group : ℕ → ℕ
   group = group_in v.entries
 
-  states_are : states_of next.groups ≡ delivered group (states_of v.groups)
+  states_are : states_of next.groups ≡ groups_delivered group (states_of v.groups)
   states_are = same_states until after ∙ handed.states ∙ same_delivered group n v.groups
 
-  until_there : until ≡ window_end (setting_in v) (delivered group (states_of v.groups))
+  until_there : until ≡ window_end (setting_in v) (groups_delivered group (states_of v.groups))
   until_there = until_is ∙ ap (window_end (setting_in v)) (handed.states ∙ same_delivered group n v.groups)
 
-  machine_is : machine_of next ≡ opened (setting_in v) (delivered group (states_of v.groups))
+  machine_is : machine_of next ≡ opened (setting_in v) (groups_delivered group (states_of v.groups))
   machine_is = λ i. record { groups = states_are i; until = until_there i }
 
   many : length next.groups ≡ length v.groups
@@ -115,8 +115,8 @@ module _ (v : WindowValue) (is : IsWindow v) (done : all_done v.until (states_of
             before = from.before ++ lines;
             in_run = record {
               is_scenario = from.in_run.is_scenario;
-              comes = ap (λ m. run (opening from.scenario) (v.position + m)) (sym lines_many) ∙ run_add (opening from.scenario) edge t.state v.position (length lines) from.before lines from.in_run.comes ran;
-              is_open = subst (IsOpenFrom x t.state) (sym (machine_is ∙ ap (λ (y : Setting). opened y (delivered group (states_of v.groups))) same)) t.is_open;
+              comes = ap (λ m. run (initial from.scenario) (v.position + m)) (sym lines_many) ∙ run_add (initial from.scenario) edge t.state v.position (length lines) from.before lines from.in_run.comes ran;
+              is_open = subst (IsOpenFrom x t.state) (sym (machine_is ∙ ap (λ (y : Setting). opened y (groups_delivered group (states_of v.groups))) same)) t.is_open;
             };
             links_are = from.links_are;
             ahead_is = from.ahead_is;
@@ -129,7 +129,7 @@ module _ (v : WindowValue) (is : IsWindow v) (done : all_done v.until (states_of
 
     pub has_turned : HasTurned v (record { first = v.position + 1; lines = lines }) next
     has_turned = record {
-      moved_on = ap (λ b. cond b (Some (opened (setting_in v) (delivered group (states_of v.groups)), in_order (all_lines (states_of v.groups)))) None) done
+      moved_on = ap (λ b. cond b (Some (opened (setting_in v) (groups_delivered group (states_of v.groups)), in_order (all_lines (states_of v.groups)))) None) done
           ∙ (λ i. Some (sym machine_is i, sym lines_all i));
       first = refl;
       position = ap (λ m. v.position + m) (sym lines_many);

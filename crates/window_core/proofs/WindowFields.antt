@@ -2,7 +2,7 @@
 use Rattle.std.proofs.Common.{◌≡◌, ℕ, List, set, Bool, false, ap, ◌∙◌}
 use Rattle.window_core.specs.declared.window.Window.TheInside.{Inside}
 use Rattle.node_group.specs.Group.{GroupValue}
-use Rattle.window_core.specs.Rosters.{RosterValue}
+use Rattle.window_core.specs.GroupTables.{GroupTableValue}
 use Rattle.window_core.specs.Window.{WindowValue}
 use Rattle.window_core.specs.WindowOf.{window_of}
 
@@ -15,12 +15,12 @@ pub moved_out : (v w : WindowValue) → v ≡ w → (gs hs : List GroupValue) �
 moved_out v w e gs hs groups out = λ i. record { entries = (e i).entries; links = (e i).links; ahead = (e i).ahead; end = (e i).end; until = (e i).until; position = (e i).position; groups = groups i; out = out; taken = (e i).taken }
 
 module _ (w : Inside) (v : WindowValue) (view : window_of w ≡ v) where
-  pub groups_are : w.roster.groups ≡ v.groups
+  pub groups_are : w.group_table.groups ≡ v.groups
   groups_are = ap (λ (x : WindowValue). x.groups) view
 
-  pub its_out : {out : Bool} → v.out ≡ out → w.roster.out ≡ out
+  pub its_out : {out : Bool} → v.out ≡ out → w.group_table.out ≡ out
   its_out out = ap (λ (x : WindowValue). x.out) view ∙ out
 
   -- the window after events of a group
-  pub fired_view : (r : RosterValue) (number : ℕ) (g : GroupValue) → r ≡ record w.roster { groups = set w.roster.groups number g } → v.out ≡ false → window_of record w { roster = r } ≡ record v { groups = set v.groups number g; out = false }
-  fired_view r number g e out = ap (λ (x : RosterValue). window_of record w { roster = x }) e ∙ (λ i. record (view i) { groups = set (groups_are i) number g; out = its_out out i })
+  pub fired_view : (r : GroupTableValue) (number : ℕ) (g : GroupValue) → r ≡ record w.group_table { groups = set w.group_table.groups number g } → v.out ≡ false → window_of record w { group_table = r } ≡ record v { groups = set v.groups number g; out = false }
+  fired_view r number g e out = ap (λ (x : GroupTableValue). window_of record w { group_table = x }) e ∙ (λ i. record (view i) { groups = set (groups_are i) number g; out = its_out out i })

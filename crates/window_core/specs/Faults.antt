@@ -11,16 +11,16 @@ abbrev pub events_in : WindowValue → ℕ
 events_in v = v.position + length (all_lines (states_of v.groups))
 
 -- no group has an event before the window's end
-abbrev pub IsDone : WindowValue → Type 0
-IsDone v = all_done v.until (states_of v.groups) ≡ true
+abbrev pub WindowIsDone : WindowValue → Type 0
+WindowIsDone v = all_done v.until (states_of v.groups) ≡ true
 
 -- why a window is not turned: a group has an event before its end, or the run has more events than there may be, or there was no memory
 abbrev pub IsTurnFault : WindowValue → TurnFault → Type 0
 IsTurnFault v NotDone = all_done v.until (states_of v.groups) ≡ false
-IsTurnFault v CountFull = IsDone v × (1000000000000000 < events_in v) × RunsTooLong v
-IsTurnFault v NoMemory = IsDone v × (events_in v ≤ 1000000000000000)
+IsTurnFault v CountFull = WindowIsDone v × (1000000000000000 < events_in v) × RunsTooLong v
+IsTurnFault v NoMemory = WindowIsDone v × (events_in v ≤ 1000000000000000)
 
 -- what the answer to a turn tells of the window: it could be turned, or why it was not
 abbrev pub IsTurnAnswer : {T : Type 0} → WindowValue → Result T TurnFault → Type 0
-IsTurnAnswer v (Ok turned) = IsDone v × (events_in v ≤ 1000000000000000)
+IsTurnAnswer v (Ok turned) = WindowIsDone v × (events_in v ≤ 1000000000000000)
 IsTurnAnswer v (Err fault) = IsTurnFault v fault

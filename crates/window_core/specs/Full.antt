@@ -15,12 +15,12 @@ pub record HasTooMany (at : Reached) : Type 0 where
   pub one_due : due last ≢ None
 
 -- the state at which a window opened
-abbrev pub opening_at : State → WindowValue → Reached
-opening_at edge v = record { state = edge; position = v.position }
+abbrev pub initial_at : State → WindowValue → Reached
+initial_at edge v = record { state = edge; position = v.position }
 
 -- so for a window, at whichever state it opened
 abbrev pub RunsTooLong : WindowValue → Type 0
-RunsTooLong v = (edge : State) → IsFrom edge v → HasTooMany (opening_at edge v)
+RunsTooLong v = (edge : State) → IsFrom edge v → HasTooMany (initial_at edge v)
 
 -- a group of a window has an event before the window's end
 pub record IsDueAt (v : WindowValue) (number : ℕ) : Type 0 where

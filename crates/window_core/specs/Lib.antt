@@ -2,10 +2,10 @@ pub mod Window
 pub mod WindowCode
 pub mod WindowOf
 pub mod Turning
-pub mod Rosters
-pub mod RosterCode
-pub mod RosterOf
-pub mod Opening
+pub mod GroupTables
+pub mod GroupTableCode
+pub mod GroupTableOf
+pub mod Initial
 pub mod Together
 pub mod Full
 pub mod Faults

@@ -1,6 +1,6 @@
 -- Groups that are about to be brought together by a turn, and what that leaves of them.
 use Rattle.std.specs.Prelude.{◌≡◌, ◌≢◌, ◌<◌, ◌≤◌, ◌+◌, ◌==◌, if◌then◌else◌, ℕ, true, false, List, [], All, length, slice_set}
-use Rattle.ranking.specs.Keyed.{EachKey, apply, entering}
+use Rattle.tournament.specs.Keyed.{EachKey, apply, entering}
 use Rattle.node_core.specs.Pending.{Events}
 use Rattle.node_core.specs.WireState.{WireState, arrivals_on, came_over, stamps_of}
 use Rattle.net_machine.specs.declared.places.LinkEnds.{LinkEnds}
@@ -9,9 +9,9 @@ use Rattle.net_machine.specs.Wiring.{ends_at, place_at}
 use Rattle.node_group.specs.Group.{GroupValue, IsGroup, group_from, group_to, came_in}
 use Rattle.node_group.specs.Held.{wire_at, is_idle, AreByLink}
 use Rattle.net_partition.specs.Partition.{group_in, groups_of}
-use Rattle.node_group.specs.Seats.{seated, taken}
+use Rattle.node_group.specs.Seats.{seated, taken_nodes}
 use Rattle.window_core.specs.Window.{WindowValue, value_at, states_of}
-use Rattle.window_law.specs.Windows.{all_done, all_lines, delivered}
+use Rattle.window_law.specs.Windows.{all_done, all_lines, groups_delivered}
 
 -- a turn can be taken, with so many lines
 pub record CanTurn (v : WindowValue) (count : ℕ) : Type 0 where
@@ -92,7 +92,7 @@ pub record WasHanded (old new : List GroupValue) (from to link : ℕ) : Type 0 w
   pub to_is : value_at new to ≡ record (value_at old to) { seats = (value_at new to).seats }
   pub others : (h : ℕ) → h ≢ from → h ≢ to → value_at new h ≡ value_at old h
   pub parts : parts_of (seated (value_at new to).seats) ≡ parts_of (seated (value_at old to).seats)
-  pub seats_stay : taken (value_at new to).seats ≡ taken (value_at old to).seats
+  pub seats_stay : taken_nodes (value_at new to).seats ≡ taken_nodes (value_at old to).seats
   pub pending : pending_in (value_at new to) ≡ apply (entering (arrivals_on (held_over old from link))) (pending_in (value_at old to))
   pub came : (l : ℕ) → l < length (value_at old to).links → group_to (value_at old to) l ≡ (value_at old to).number → came_in (value_at new to) l ≡ (if l == link then came_over (held_over old from link) else came_in (value_at old to) l)
 
@@ -106,5 +106,5 @@ pub record HasHandedOne (entries : List ℕ) (links : List LinkEnds) (old new : 
 pub record HasHanded (entries : List ℕ) (links : List LinkEnds) (old new : List GroupValue) : Type 0 where
   pub size : length new ≡ length old
   pub same : (number : ℕ) → value_at new number ≡ record (value_at old number) { seats = (value_at new number).seats; held = (value_at new number).held }
-  pub states : states_of new ≡ delivered (group_in entries) (states_of old)
+  pub states : states_of new ≡ groups_delivered (group_in entries) (states_of old)
   pub across : (link : ℕ) → link < length links → from_group entries links link ≢ to_group entries links link → came_in (value_at new (to_group entries links link)) link ≡ (held_over new (from_group entries links link) link).taken

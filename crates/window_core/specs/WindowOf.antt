@@ -12,8 +12,8 @@ window_of w = record {
   end = w.end;
   until = w.until;
   position = w.position;
-  groups = w.roster.groups;
-  out = w.roster.out;
+  groups = w.group_table.groups;
+  out = w.group_table.out;
   taken = w.taken;
 }
 
@@ -21,4 +21,4 @@ window_of w = record {
 pub record IsWindowInside (w : Inside) : Type 0 where
   pub window : IsWindow (window_of w)
   pub nexts : length w.nexts.items ≡ groups_of w.partition
-  pub ranks : length w.ranking ≡ groups_of w.partition
+  pub ranks : length w.tournament ≡ groups_of w.partition

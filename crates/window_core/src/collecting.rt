@@ -13,7 +13,7 @@ const KEPT: usize = 32_768;
 
 /// A group keeps memory for so many times the lines that it has just told, where that is more: what is given up in a
 /// window and taken again in the next costs calls of the system, and each page of it is cleared.
-const OF_TOLD: usize = 2;
+const OF_REPORTED: usize = 2;
 
 // As many lists as that; what they hold has no meaning.
 fn fit(lists: &mut Vec<Lines>, count: usize) -> Result<(), AllocError>
@@ -34,7 +34,7 @@ fn take_from(lines: &mut Lines, share: &mut Share, position: u64, most: usize)
     ensures lines { lines.new ≡ share.old.lines }
     ensures share { share.new ≡ record share.old { lines = []; position = position } }
 {
-    let wanted = share.told().saturating_mul(OF_TOLD);
+    let wanted = share.reported().saturating_mul(OF_REPORTED);
     let mut items = lines.take_memory(most.max(wanted));
     let count = share.take_lines(&mut items, position);
     *lines = Lines::of(items, count);

@@ -11,9 +11,9 @@ fn give_one(lines: &mut Lines, share: &mut Share)
     ensures lines { lines.new ≡ [] }
     ensures share { share.new ≡ share.old }
 {
-    let told = lines.len() > 0;
+    let reported = lines.len() > 0;
     let mut items = lines.take_memory(usize::MAX);
-    if told {
+    if reported {
         share.take_memory(&mut items);
     }
     *lines = Lines::of(items, 0);

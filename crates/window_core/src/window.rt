@@ -10,26 +10,26 @@ ghost use Rattle.window_core.specs.Window.{IsFrom, IsWindow, HasFiredOr, states_
 ghost use Rattle.window_law.specs.Windows.{none_fired, soonest};
 
 mod acting;
+mod group_table;
 mod handing;
+mod initial;
 mod joining;
 mod lending;
-mod opening;
 mod reading;
 mod reclaiming;
-mod roster;
 mod turning;
 
 pub use self::acting::Action;
-use self::roster::Roster;
+use self::group_table::GroupTable;
 pub use self::turning::TurnFault;
 use line_merge::Batch;
 use net_machine::LinkEnds;
 use net_partition::Partition;
 use node_group::{Group, GroupFault, Share};
-use ranking::Ranking;
 use sim_time::Time;
 use std::alloc::Global;
 use std::marker::Model;
+use tournament::KeyTournament;
 
 /// A net's groups of nodes, on their way through the windows of a scenario's run.
 #[derive(Drop)]
@@ -47,10 +47,10 @@ pub struct Window {
     /// How many events were run to the last turn.
     position: u64,
     /// The groups, by number.
-    roster: Roster,
+    group_table: GroupTable,
     /// For a merge: the index of the next line of each group, and their keys.
     nexts: Vec<usize>,
-    ranking: Ranking,
+    tournament: KeyTournament,
     /// What the last turn gave, where it was an action.
     taken: Batch,
     /// Memory for the next turn's lines.
@@ -111,7 +111,7 @@ impl Window {
         requires { self.now.out ≡ false }
         ensures { result ≡ soonest (states_of self.now.groups) }
     {
-        self.roster.soonest()
+        self.group_table.soonest()
     }
 
     /// Ends the window by a moment, in nanoseconds, at the latest. No event was run in it yet.
@@ -122,7 +122,7 @@ impl Window {
         ensures from { (edge : State) → IsFrom edge self.old → IsFrom edge self.new }
     {
         self.until = self.until.min(until);
-        self.roster.set_until(self.until);
+        self.group_table.set_until(self.until);
     }
 
     /// Runs the least event of a group, where there is such a group and it has one before the
@@ -136,10 +136,10 @@ impl Window {
         ensures fault { IfErr result (λ fault. IsFaultOf self.old (Action.Fire group) (fault_of fault)) }
         ensures err { OnErr result (self.new ≡ self.old) }
     {
-        if group >= self.roster.len() {
+        if group >= self.group_table.len() {
             return Ok(false);
         }
-        self.roster.fire(group, self.until)
+        self.group_table.fire(group, self.until)
     }
 
     /// How many groups there are.
@@ -148,12 +148,12 @@ impl Window {
         requires { self.now.out ≡ false }
         ensures { result ≡ length self.now.groups }
     {
-        self.roster.len()
+        self.group_table.len()
     }
 
     /// How many groups have an event below a moment.
     pub fn busy(&self, moment: Time) -> usize {
-        self.roster.busy(moment)
+        self.group_table.busy(moment)
     }
 
     /// Runs a group's events before the window's end, one after another in the order of their keys,
@@ -168,7 +168,7 @@ impl Window {
         ensures from { (edge : State) → IsFrom edge self.old → IsFrom edge self.new }
         ensures fault { IfErr result (IsFaultAt self.old.until (value_at self.new.groups group)) }
     {
-        self.roster.run(group, self.until)
+        self.group_table.run(group, self.until)
     }
 
     /// Hands the groups out. No memory is taken.
@@ -178,7 +178,7 @@ impl Window {
         ensures state { self.new ≡ record self.old { out = true } }
         ensures from { (edge : State) → IsFrom edge self.old → IsFrom edge self.new }
     {
-        self.roster.hand_out(self.alloc)
+        self.group_table.hand_out(self.alloc)
     }
 
     /// Has the groups back, each after events of its own before the window's end. No memory is
@@ -190,6 +190,6 @@ impl Window {
         ensures state { self.new ≡ record self.old { groups = groups.items; out = false } }
         ensures from { (edge : State) → IsFrom edge self.old → IsFrom edge self.new }
     {
-        self.roster.take_back(groups);
+        self.group_table.take_back(groups);
     }
 }

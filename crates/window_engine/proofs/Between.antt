@@ -4,11 +4,11 @@ use Rattle.std.proofs.lemmas.List.{length-map}
 use Rattle.std.specs.List.{enumerate_from}
 use Rattle.scenario_image.specs.declared.parts.ScenarioParts.{ScenarioParts}
 use Rattle.scenario_image.specs.Scenario.{IsScenario}
-use Rattle.node_core.specs.Opening.{opening_part}
+use Rattle.node_core.specs.Initial.{initial_part}
 use Rattle.node_core.specs.TraceLine.{TraceLine}
 use Rattle.window_core.specs.Lookahead.{lookahead}
 use Rattle.window_core.specs.Partition.{group_in}
-use Rattle.table_run.specs.State.{State, opening}
+use Rattle.table_run.specs.State.{State, initial}
 use Rattle.table_run.specs.Laws.{ComesTo}
 use Rattle.net_machine.specs.Run.{Reached, IsRun}
 use Rattle.window_core.specs.Batches.{BatchValue}
@@ -85,8 +85,8 @@ enumerate_length n [] = refl
 enumerate_length n (x ∷ xs) = ap suc (enumerate_length (n + 1) xs)
 
 -- a scenario's net has its nodes
-pub opening_nodes : (p : ScenarioParts) → length (opening p).parts ≡ length p.nodes
-opening_nodes p = length-map (enumerate_from 0 p.nodes) (opening_part p) ∙ enumerate_length 0 p.nodes
+pub initial_nodes : (p : ScenarioParts) → length (initial p).parts ≡ length p.nodes
+initial_nodes p = length-map (enumerate_from 0 p.nodes) (initial_part p) ∙ enumerate_length 0 p.nodes
 
 -- the net that a window's own call gives
 pub edge_net : (v : WindowValue) (position : ℕ) (net : Reached) → position ≡ v.position → IsWindow v → IsAtEdge v → ((edge : State) → IsFrom edge v → net ≡ record { state = edge; position = v.position }) → net ≡ net_at v position
@@ -104,10 +104,10 @@ pub commits_none : {T : Type 0} (until : ℕ) (net : Reached) (known : Option (L
 commits_none until net known = record { lines = []; state = net.state; is_run = refl; whole = whole_none net.state; early = tt; position_is = omega arith; state_is = tt; takes = appends_nothing known }
 
 -- an engine that begins with a scenario's net
-pub begun : {E : Type 0} (r : Result EngineValue E) (p : ScenarioParts) (entries : List ℕ) (net : Reached) → IsScenario p → net ≡ record { state = opening p; position = 0 }
+pub begun : {E : Type 0} (r : Result EngineValue E) (p : ScenarioParts) (entries : List ℕ) (net : Reached) → IsScenario p → net ≡ record { state = initial p; position = 0 }
     → IfOk r (λ e. e.net ≡ net) → IfOk r (λ e. e.entries ≡ entries)
     → IfOk r (λ e. (q : ScenarioParts) (before : List TraceLine) → IsScenario q → ComesTo q net.position before net.state → e.ahead ≡ lookahead (group_in entries) q.links) → IfOk r (λ e. e.failed ≡ false)
-    → IfOk r (λ e. e ≡ record { entries = entries; ahead = lookahead (group_in entries) p.links; net = record { state = opening p; position = 0 }; failed = false })
+    → IfOk r (λ e. e ≡ record { entries = entries; ahead = lookahead (group_in entries) p.links; net = record { state = initial p; position = 0 }; failed = false })
 begun (Err x) p entries net is at n e a f = tt
 begun (Ok v) p entries net is at n e a f =
     let comes : ComesTo p net.position [] net.state = subst (λ (r : Reached). ComesTo p r.position [] r.state) (sym at) refl in

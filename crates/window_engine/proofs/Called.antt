@@ -14,26 +14,26 @@ use Rattle.window_engine.specs.declared.course.WriteFault.TheVariants.{Workers, 
 use Rattle.window_engine.specs.declared.fault.EngineFault.{EngineFault}
 use Rattle.window_engine.specs.declared.fault.EngineFault.TheVariants.{CountFull, NoMemory, Sink as SinkFailed}
 use Rattle.window_engine.specs.declared.fault.Stop.{Stop}
-use Rattle.window_engine.specs.declared.owed.Owed.{Owed}
-use Rattle.window_engine.specs.Courses.{AtRest, AwaitsSink, HasGroups, IsBehind, IsOwing, IsWriting, HasEnded, Broke, CanTell, Rests, Wrote, fails_after, told_as}
+use Rattle.window_engine.specs.declared.pending_text.PendingText.{PendingText}
+use Rattle.window_engine.specs.Courses.{AtRest, AwaitsSink, HasGroups, IsBehind, IsOwing, IsWriting, HasEnded, Broke, CanTell, WindowsRest, Wrote, fails_after, reported_as}
 use Rattle.window_engine.specs.Edges.{IsAtEdge, edge_of, reached_in}
 use Rattle.window_engine.specs.Engines.{IsStop}
 use Rattle.window_engine.specs.Failures.{counted}
 use Rattle.window_engine.specs.Outcomes.{IsOfWorkers}
-use Rattle.window_engine.specs.Owed.{Fares, Owes, owed_text}
+use Rattle.window_engine.specs.PendingText.{Fares, Owes, text_pending}
 use Rattle.window_engine.specs.Parts.{IsInside, IsReady, text_of}
 use Rattle.window_engine.specs.Puts.{TakesFirst}
 use Rattle.window_engine.specs.Text.{text_from}
 use Rattle.window_engine.proofs.Grouped.{groups_kept}
-use Rattle.window_engine.proofs.TooMany.{told_full, workers_full}
+use Rattle.window_engine.proofs.TooMany.{reported_full, workers_full}
 use Rattle.window_engine.proofs.Unwritten.{all_committed, behind_by_none, few_before, full_before, no_line, wrote_to_edge}
-use Rattle.window_engine.proofs.Writing.{broke_batch, can_tell, committed, ended, fails_told, still_fits, told_of, wrote_batch, wrote_more, wrote_no_more, wrote_none}
+use Rattle.window_engine.proofs.Writing.{broke_batch, can_tell, committed, ended, fails_reported, still_fits, reported_of, wrote_batch, wrote_more, wrote_no_more, wrote_none}
 
 -- before the first window
-pub at_first : (until : ℕ) (c : Course) (known : Option (List ℕ)) → AtRest c → HasGroups c → Rests until c c 0 known known
+pub at_first : (until : ℕ) (c : Course) (known : Option (List ℕ)) → AtRest c → HasGroups c → WindowsRest until c c 0 known known
 at_first until c known rest has = record { rest = rest; has = has; wrote = wrote_none until (reached_in c.window) known; groups = refl; ahead = refl }
 
-module _ (until : ℕ) (began c : Course) (s : SheafValue) (written : ℕ) (known now : Option (List ℕ)) (r : Rests until began c written known now) (none : s ≡ record { first = c.position + 1; lists = [] }) where
+module _ (until : ℕ) (began c : Course) (s : SheafValue) (written : ℕ) (known now : Option (List ℕ)) (r : WindowsRest until began c written known now) (none : s ≡ record { first = c.position + 1; lists = [] }) where
   -- windows begin
   pub begun : IsWriting until began (record c { sheaf = s }) written known now
   begun = record {
@@ -64,20 +64,20 @@ module _ (until : ℕ) (began c : Course) (s : SheafValue) (written : ℕ) (know
       }
 
 -- a text of no line is owed
-pub awaits_nothing : (until : ℕ) (began c : Course) (owed : Owed) (written : ℕ) (known now : Option (List ℕ)) (f g : ℕ) → IsOwing until began c [] 0 written known now → owed.text.order.items ≡ [] → owed.lines ≡ 0 → owed.put ≡ None → g ≡ f
-    → AwaitsSink until began c owed written known now f g
-awaits_nothing until began c owed written known now f g o empty lines waits same = record {
+pub awaits_nothing : (until : ℕ) (began c : Course) (pending_text : PendingText) (written : ℕ) (known now : Option (List ℕ)) (f g : ℕ) → IsOwing until began c [] 0 written known now → pending_text.text.job.items ≡ [] → pending_text.lines ≡ 0 → pending_text.put ≡ None → g ≡ f
+    → AwaitsSink until began c pending_text written known now f g
+awaits_nothing until began c pending_text written known now f g o empty lines waits same = record {
   owing =
-      subst (λ (t : List ℕ). IsOwing until began c t owed.lines written known now) (sym (ap (text_of owed.text.scribes.items) empty))
+      subst (λ (t : List ℕ). IsOwing until began c t pending_text.lines written known now) (sym (ap (text_of pending_text.text.scribes.items) empty))
       (subst (λ (n : ℕ). IsOwing until began c [] n written known now) (sym lines) o);
-  ready = record { inside = subst (All (IsInside owed.text.scribes.items)) (sym empty) (All-nil (IsInside owed.text.scribes.items)); few = (let e = ap length empty in omega (arith, e)) };
+  ready = record { inside = subst (All (IsInside pending_text.text.scribes.items)) (sym empty) (All-nil (IsInside pending_text.text.scribes.items)); few = (let e = ap length empty in omega (arith, e)) };
   waits = waits;
   failures_are = same;
 }
 
 -- of what is owed nothing was written yet
-pub unput : (o : Owed) (before now : Option (List ℕ)) (f g : ℕ) → IsReady o.text → o.put ≡ None → now ≡ before → g ≡ f → Owes o before now f g
-unput o before now f g ready waits same fails = record { ready = ready; fares = subst (Fares (owed_text o) before now f g) (sym waits) (same, fails) }
+pub unput : (o : PendingText) (before now : Option (List ℕ)) (f g : ℕ) → IsReady o.text → o.put ≡ None → now ≡ before → g ≡ f → Owes o before now f g
+unput o before now f g ready waits same fails = record { ready = ready; fares = subst (Fares (text_pending o) before now f g) (sym waits) (same, fails) }
 
 -- where there is no memory for a first one
 pub not_begun : (workers until : ℕ) (c : Course) (known : Option (List ℕ)) (failures : ℕ) → AtRest c → HasEnded workers until c c (Err NoMemory) known known failures failures
@@ -97,7 +97,7 @@ not_begun workers until c known failures rest =
 -- a call has written so much, and ends by a fault in what follows
 pub broken_at : (workers until : ℕ) (began new : Course) (net : Reached) (written : ℕ) (known now later : Option (List ℕ)) (fault : WriteFault) (f g h : ℕ) → Wrote until (reached_in began.window) net written known now → net.position ≤ 1000000000000000
     → Broke workers until net new.position now later fault → (fault ≡ Workers CountFull → HasTooMany net) → g ≡ f → h ≡ fails_after {T = ℕ} (Err fault) g → new.groups ≡ began.groups → new.ahead ≡ began.ahead
-    → HasEnded workers until began new (Err (told_as written fault)) known later f h
+    → HasEnded workers until began new (Err (reported_as written fault)) known later f h
 broken_at workers until began new net written known now later fault f g h wrote few broke full same fails groups ahead =
     let from = reached_in began.window in
     record {
@@ -105,14 +105,14 @@ broken_at workers until began new net written known now later fault f g h wrote 
       has = tt;
       commits = ended workers until from net written (record { state = edge_of new.window; position = new.position }) known now later fault wrote broke;
       stop = tt;
-      fault = (told_of workers until written net new.position now later fault broke, told_full until from net written written known now fault wrote few full);
-      failures_are = fails ∙ ap (λ n. fails_after {T = ℕ} (Err fault) n) same ∙ fails_told Stop ℕ workers until written f fault now later net new.position broke;
+      fault = (reported_of workers until written net new.position now later fault broke, reported_full until from net written written known now fault wrote few full);
+      failures_are = fails ∙ ap (λ n. fails_after {T = ℕ} (Err fault) n) same ∙ fails_reported Stop ℕ workers until written f fault now later net new.position broke;
       groups = groups;
       ahead = ahead;
     }
 
 -- a call ends where nothing is left to write
-pub rested : (workers until : ℕ) (began c : Course) (written : ℕ) (known now : Option (List ℕ)) (f g : ℕ) (stop : Stop) → Rests until began c written known now → g ≡ f → IsStop until (edge_of c.window) stop → HasEnded workers until began c (Ok stop) known now f g
+pub rested : (workers until : ℕ) (began c : Course) (written : ℕ) (known now : Option (List ℕ)) (f g : ℕ) (stop : Stop) → WindowsRest until began c written known now → g ≡ f → IsStop until (edge_of c.window) stop → HasEnded workers until began c (Ok stop) known now f g
 rested workers until began c written known now f g stop r same stops = record {
   rest = r.rest;
   has = r.has;
@@ -150,7 +150,7 @@ module _ (until : ℕ) (began c : Course) (written : ℕ) (known now : Option (L
 
   -- the call ends by a fault in the next window
   pub broken : (workers : ℕ) (new : Course) (later : Option (List ℕ)) (fault : WriteFault) (f g h : ℕ) → Broke workers until w.net new.position now later fault → (fault ≡ Workers CountFull → HasTooMany w.net) → g ≡ f → h ≡ fails_after {T = ℕ} (Err fault) g
-      → new.groups ≡ c.groups → new.ahead ≡ c.ahead → HasEnded workers until began new (Err (told_as written fault)) known later f h
+      → new.groups ≡ c.groups → new.ahead ≡ c.ahead → HasEnded workers until began new (Err (reported_as written fault)) known later f h
   broken workers new later fault f g h broke full same fails groups ahead =
       broken_at workers until began new w.net written known now later fault f g h w.wrote few broke full same fails (groups ∙ w.groups) (ahead ∙ w.ahead)
 
@@ -160,7 +160,7 @@ module _ (until : ℕ) (began c : Course) (written : ℕ) (known now : Option (L
       broken workers c now (Workers NoMemory) f g g (wrote_no_more until w.net c.position now w.behind.committed, tt) (λ is. absurd (cc)) same refl refl refl
 
   -- what was left is written
-  pub settled : (bytes : ℕ) (new : Course) (later : Option (List ℕ)) → Wrote until w.net (reached_in c.window) bytes now later → new ≡ record c { position = new.position } → new.position ≡ c.position + length (merged c.sheaf).lines → Rests until began new (written + bytes) known later
+  pub settled : (bytes : ℕ) (new : Course) (later : Option (List ℕ)) → Wrote until w.net (reached_in c.window) bytes now later → new ≡ record c { position = new.position } → new.position ≡ c.position + length (merged c.sheaf).lines → WindowsRest until began new (written + bytes) known later
   settled bytes new later wrote rest at =
       let window : new.window ≡ c.window = ap (λ (x : Course). x.window) rest in
       let end : new.end ≡ c.end = ap (λ (x : Course). x.end) rest in
@@ -197,7 +197,7 @@ module _ (until : ℕ) (began c : Course) (written : ℕ) (known now : Option (L
 
   -- a window more: the text of what was there is owed, and the window was run and turned
   pub gone_on : (text : List ℕ) (lines : ℕ) (d new : Course) → text ≡ text_from c.sheaf.first (merged c.sheaf).lines → lines ≡ length (merged c.sheaf).lines → d.position ≡ c.position → d.groups ≡ c.groups → d.ahead ≡ c.ahead
-      → IsBehind (reached_in c.window) (record d { position = d.position + lines }) → AreBelow until (merged d.sheaf).lines → HasGroups d → new ≡ record d { pace = new.pace } → IsOwing until began new text lines written known now
+      → IsBehind (reached_in c.window) (record d { position = d.position + lines }) → AreBelow until (merged d.sheaf).lines → HasGroups d → new ≡ record d { granularity = new.granularity } → IsOwing until began new text lines written known now
   gone_on text lines d new is many at groups ahead behind early has rest =
       subst (λ (x : Course). IsOwing until began x text lines written known now) (sym rest)
       (record {
@@ -221,23 +221,23 @@ module _ (until : ℕ) (began c : Course) (text : List ℕ) (lines written : ℕ
   edge = reached_in o.was.window
 
   -- the events of what is owed can be counted
-  pub few_owed : c.position + lines ≤ 1000000000000000
-  few_owed = let few = few_before edge (record c { position = c.position + lines }) o.behind in let at = o.behind.committed in omega (arith, few, at)
+  pub few_pending : c.position + lines ≤ 1000000000000000
+  few_pending = let few = few_before edge (record c { position = c.position + lines }) o.behind in let at = o.behind.committed in omega (arith, few, at)
 
-  wrote_owed : (count : ℕ) (later : Option (List ℕ)) → Appends now later text → count ≡ length text → count < 2 ^ 71 → Wrote until w.net edge count now later
-  wrote_owed count later takes many few = wrote_batch until w.net edge count (merged o.was.sheaf) text now later w.early w.behind.gone o.text_is many few takes
+  wrote_pending : (count : ℕ) (later : Option (List ℕ)) → Appends now later text → count ≡ length text → count < 2 ^ 71 → Wrote until w.net edge count now later
+  wrote_pending count later takes many few = wrote_batch until w.net edge count (merged o.was.sheaf) text now later w.early w.behind.gone o.text_is many few takes
 
   -- its bytes too
   pub paid_fits : (count : ℕ) (later : Option (List ℕ)) → Appends now later text → count ≡ length text → count < 2 ^ 71 → written + count < 2 ^ 128
   paid_fits count later takes many few =
-      more_fits until began o.was written known now w edge count later (wrote_owed count later takes many few) (few_before edge (record c { position = c.position + lines }) o.behind)
+      more_fits until began o.was written known now w edge count later (wrote_pending count later takes many few) (few_before edge (record c { position = c.position + lines }) o.behind)
 
   -- the sink took all of it
   pub paid : (count : ℕ) (later : Option (List ℕ)) → Appends now later text → count ≡ length text → count < 2 ^ 71 → IsWriting until began (record c { position = c.position + lines }) (written + count) known later
   paid count later takes many few = record {
     net = edge;
     behind = o.behind;
-    wrote = wrote_more until (reached_in began.window) w.net edge written count known now later w.wrote (wrote_owed count later takes many few);
+    wrote = wrote_more until (reached_in began.window) w.net edge written count known now later w.wrote (wrote_pending count later takes many few);
     early = o.early;
     has = record { run = o.has.run; apart = o.has.apart };
     groups = o.groups ∙ w.groups;

@@ -20,30 +20,30 @@ use Rattle.node_core.proofs.Sent.{line_send}
 use Rattle.work_board.proofs.Sent.{piece_send}
 use Rattle.work_board.specs.contracts.board.Board as Board
 use Rattle.work_board.specs.contracts.board.Board.TheInside as InsideBoard
-use Rattle.work_board.specs.contracts.order.Order as Order
+use Rattle.work_board.specs.contracts.order.Order as Job
 use Rattle.work_board.specs.contracts.order.OrderTableRulePieceViewSnapshotVecPiece.TheImpl.{ghosts as order_ghosts}
 use Rattle.work_board.specs.contracts.piece.Piece as Piece
 use Rattle.work_board.specs.contracts.view.View as View
-use Rattle.window_engine.proofs.scribe.Scribe.TheSendSync as scribe
+use Rattle.window_engine.proofs.formatter.TextFormatter.TheSendSync as formatter
 use Rattle.window_engine.specs.contracts.desk.Desk as Desk
 use Rattle.window_engine.specs.contracts.desk.Desk.TheInside as InsideDesk
-use Rattle.window_engine.specs.contracts.desk.pass.Pass as Pass
-use Rattle.window_engine.specs.contracts.desk.pass.Pass.TheInside as InsidePass
+use Rattle.window_engine.specs.contracts.desk.ticket.Ticket as Ticket
+use Rattle.window_engine.specs.contracts.desk.ticket.Ticket.TheInside as InsideTicket
 use Rattle.window_engine.specs.contracts.desk.rule.DeskRule as DeskRule
-use Rattle.window_engine.specs.contracts.desk.rule.DeskRuleTableRuleOptionScribeUnitSnapshotSheaf.TheImpl.{ghosts as rule_ghosts}
-use Rattle.window_engine.specs.contracts.scribe.Scribe as Scribe
+use Rattle.window_engine.specs.contracts.desk.rule.DeskRuleTableRuleOptionTextFormatterUnitSnapshotSheaf.TheImpl.{ghosts as rule_ghosts}
+use Rattle.window_engine.specs.contracts.formatter.TextFormatter as TextFormatter
 
-laid_send : IsSend (Option.the_row Scribe.the_row)
-laid_send = search (sendable, scribe.the_send) depth 20
+laid_send : IsSend (Option.the_row TextFormatter.the_row)
+laid_send = search (sendable, formatter.the_send) depth 20
 
-pub pass_send : IsSend Pass.the_row
-pass_send = view_send _ _ _ _ _ (declared_send InsidePass.the_type (seat.the_send _ _ laid_send, tt))
+pub ticket_send : IsSend Ticket.the_row
+ticket_send = view_send _ _ _ _ _ (declared_send InsideTicket.the_type (seat.the_send _ _ laid_send, tt))
 
-places_send : IsSend (Table.the_row (Option.the_row Scribe.the_row) unit (Snapshot.the_row Sheaf.the_row) DeskRule.the_row Global.the_row rule_ghosts heap_ghosts)
-places_send = table.the_send (Option.the_row Scribe.the_row) unit (Snapshot.the_row Sheaf.the_row) DeskRule.the_row Global.the_row rule_ghosts heap_ghosts laid_send global.the_send heap.frees
+places_send : IsSend (Table.the_row (Option.the_row TextFormatter.the_row) unit (Snapshot.the_row Sheaf.the_row) DeskRule.the_row Global.the_row rule_ghosts heap_ghosts)
+places_send = table.the_send (Option.the_row TextFormatter.the_row) unit (Snapshot.the_row Sheaf.the_row) DeskRule.the_row Global.the_row rule_ghosts heap_ghosts laid_send global.the_send heap.frees
 
-places_sync : IsSync (Table.the_row (Option.the_row Scribe.the_row) unit (Snapshot.the_row Sheaf.the_row) DeskRule.the_row Global.the_row rule_ghosts heap_ghosts)
-places_sync = table.the_sync (Option.the_row Scribe.the_row) unit (Snapshot.the_row Sheaf.the_row) DeskRule.the_row Global.the_row rule_ghosts heap_ghosts laid_send global.the_send global.the_sync heap.frees
+places_sync : IsSync (Table.the_row (Option.the_row TextFormatter.the_row) unit (Snapshot.the_row Sheaf.the_row) DeskRule.the_row Global.the_row rule_ghosts heap_ghosts)
+places_sync = table.the_sync (Option.the_row TextFormatter.the_row) unit (Snapshot.the_row Sheaf.the_row) DeskRule.the_row Global.the_row rule_ghosts heap_ghosts laid_send global.the_send global.the_sync heap.frees
 
 pub desk_send : IsSend Desk.the_row
 desk_send = view_send _ _ _ _ _ (declared_send InsideDesk.the_type (places_send, tt))
@@ -51,8 +51,8 @@ desk_send = view_send _ _ _ _ _ (declared_send InsideDesk.the_type (places_send,
 pub desk_sync : IsSync Desk.the_row
 desk_sync = view_sync _ _ _ _ _ (declared_sync InsideDesk.the_type (places_sync, tt))
 
-pieces_send : IsSend (Table.the_row Piece.the_row View.the_row (Snapshot.the_row (Vec.the_row Piece.the_row Global.the_row heap_ghosts)) Order.the_row Global.the_row order_ghosts heap_ghosts)
-pieces_send = table.the_send Piece.the_row View.the_row (Snapshot.the_row (Vec.the_row Piece.the_row Global.the_row heap_ghosts)) Order.the_row Global.the_row order_ghosts heap_ghosts piece_send global.the_send heap.frees
+pieces_send : IsSend (Table.the_row Piece.the_row View.the_row (Snapshot.the_row (Vec.the_row Piece.the_row Global.the_row heap_ghosts)) Job.the_row Global.the_row order_ghosts heap_ghosts)
+pieces_send = table.the_send Piece.the_row View.the_row (Snapshot.the_row (Vec.the_row Piece.the_row Global.the_row heap_ghosts)) Job.the_row Global.the_row order_ghosts heap_ghosts piece_send global.the_send heap.frees
 
 pub board_send : IsSend Board.the_row
 board_send = view_send _ _ _ _ _ (declared_send InsideBoard.the_type (pieces_send, (search sendable, (global.the_send, tt))))

@@ -9,13 +9,13 @@ use lib.ListN.{get_elem?}
 use Rattle.atomic_table.specs.Table.{step, keeps, takes, gives, opening, Allows, Splits, Final}
 use Rattle.atomic_table.proofs.Lists.{set_here, set_else}
 use Rattle.window_core.specs.Sheaves.{SheafValue}
-use Rattle.window_engine.specs.Desks.{Places, Passing, LiesRight, IsDesk, taken}
+use Rattle.window_engine.specs.Desks.{Places, Passing, LiesRight, IsDesk, place_taken}
 use Rattle.window_engine.specs.Parts.{IsRight, AreRight}
-use Rattle.window_engine.specs.declared.scribe.Scribe.{Scribe}
+use Rattle.window_engine.specs.declared.formatter.TextFormatter.{TextFormatter}
 
 -- what may lie at a place
 abbrev Home : Type 0
-Home = opt.Option (Option Scribe)
+Home = opt.Option (Option TextFormatter)
 
 -- the place is taken, or what lies there is right
 abbrev AtPlace : SheafValue → ℕ → opt.Option Home → Type 0
@@ -34,7 +34,7 @@ changed sheaf s i n homes views o inside long same here = let near : i < length 
 }
 
 -- a place is taken where its word is 0, and else nothing changes but the word
-pub takes_place : (sheaf : SheafValue) (slots id i k : ℕ) (m : Passing) (said : opt.Option (Option Scribe)) → i < slots → Allows (IsDesk sheaf) slots id m i (λ n. bit_or n 1) (taken (step slots i k 0 said) m)
+pub takes_place : (sheaf : SheafValue) (slots id i k : ℕ) (m : Passing) (said : opt.Option (Option TextFormatter)) → i < slots → Allows (IsDesk sheaf) slots id m i (λ n. bit_or n 1) (place_taken (step slots i k 0 said) m)
 takes_place sheaf slots id i k m said inside s o wide me _ =
     let near : i < length s.homes = omega (arith, wide) in
     let found : ℕ = get_or s.words i 0 in
@@ -56,16 +56,16 @@ takes_place sheaf slots id i k m said inside s o wide me _ =
     ))
 
 -- what is right may be laid down
-pub lays : (sheaf : SheafValue) (slots id i k : ℕ) (m : Passing) (scribe : Scribe) (more : List (ℕ × Option Scribe)) → i < slots → m.1 ≡ (i, Some scribe) ∷ more → IsRight sheaf scribe
+pub lays : (sheaf : SheafValue) (slots id i k : ℕ) (m : Passing) (formatter : TextFormatter) (more : List (ℕ × Option TextFormatter)) → i < slots → m.1 ≡ (i, Some formatter) ∷ more → IsRight sheaf formatter
     → Allows (IsDesk sheaf) slots id m i (λ n. bit_or n k) (λ _ _. Unit)
-lays sheaf slots id i k m scribe more inside has right =
-    let same : (m.0, (i, Some scribe) ∷ more) ≡ m = ap (λ (l : List (ℕ × Option Scribe)). (m.0, l)) (sym has) in
+lays sheaf slots id i k m formatter more inside has right =
+    let same : (m.0, (i, Some formatter) ∷ more) ≡ m = ap (λ (l : List (ℕ × Option TextFormatter)). (m.0, l)) (sym has) in
     let P : Passing → Type 0 = λ x. Allows (IsDesk sheaf) slots id x i (λ n. bit_or n k) (λ _ _. Unit) in
     subst P same (λ s o wide me _. let near : i < length s.homes = omega (arith, wide) in (
       m.0,
       gives,
       tt,
-      changed sheaf s i (bit_or (get_or s.words i 0) k) (set s.homes i (opt.some (Some scribe))) _ o near (length-set s.homes i _) (λ j ne. set_else s.homes i j _ ne) (inr (Some scribe, set_here s.homes i (opt.some (Some scribe)) near, right)),
+      changed sheaf s i (bit_or (get_or s.words i 0) k) (set s.homes i (opt.some (Some formatter))) _ o near (length-set s.homes i _) (λ j ne. set_else s.homes i j _ ne) (inr (Some formatter, set_here s.homes i (opt.some (Some formatter)) near, right)),
       tt,
     ))
 
@@ -73,7 +73,7 @@ lays sheaf slots id i k m scribe more inside has right =
 pub splits : (sheaf : SheafValue) (id : ℕ) (v left right : Unit) → Splits (IsDesk sheaf) id v left right
 splits sheaf id v left right s o me = record { long = o.long; right = o.right }
 
-abbrev nothing : Option Scribe
+abbrev nothing : Option TextFormatter
 nothing = None
 
 -- nothing lies at any place
@@ -93,22 +93,22 @@ word_is [] i w e = absurd (opt.some-ne-none w (sym e))
 word_is (x ∷ xs) zero w e = opt.some-injective x w e
 word_is (x ∷ xs) (suc i) w e = word_is xs i w e
 
-within : (xs : List (Option Scribe)) (i : ℕ) (x : Option Scribe) → get_elem? xs i ≡ opt.some x → i < length xs
+within : (xs : List (Option TextFormatter)) (i : ℕ) (x : Option TextFormatter) → get_elem? xs i ≡ opt.some x → i < length xs
 within [] i x e = absurd (opt.some-ne-none x (sym e))
 within (y ∷ ys) zero x e = omega arith
 within (y ∷ ys) (suc i) x e = let h = within ys i x e in omega arith
 
 -- what is left at a place is right, unless its word is 1
-pub rest_is_right : (sheaf : SheafValue) (words : List ℕ) (xs : List (Option Scribe)) (i w : ℕ) (x : Option Scribe) → Final (IsDesk sheaf) words xs
+pub rest_is_right : (sheaf : SheafValue) (words : List ℕ) (xs : List (Option TextFormatter)) (i w : ℕ) (x : Option TextFormatter) → Final (IsDesk sheaf) words xs
     → get_elem? words i ≡ opt.some w → get_elem? xs i ≡ opt.some x → w ≢ 1 → IfSome x (IsRight sheaf)
 rest_is_right sheaf words xs i w x (s, o, is, long, homes) word value ne =
     let here : get_or s.words i 0 ≡ w = ap (λ (l : List ℕ). get_or l i 0) is ∙ word_is words i w word in
     let inside : i < length xs = within xs i x value in
     ⊎_elim (λ one. absurd (ne (sym here ∙ one)))
-    (λ (lies : LiesRight sheaf (get_elem? s.homes i)). let P : Option Scribe → Type 0 = λ y. IfSome y (IsRight sheaf) in subst P (opt.some-injective lies.0 x (sym (homes i lies.0 lies.1) ∙ value)) lies.2)
+    (λ (lies : LiesRight sheaf (get_elem? s.homes i)). let P : Option TextFormatter → Type 0 = λ y. IfSome y (IsRight sheaf) in subst P (opt.some-injective lies.0 x (sym (homes i lies.0 lies.1) ∙ value)) lies.2)
     (o.right i (omega (arith, long)))
 
 -- what is right is put behind what is, or given up
-pub put_behind : (sheaf : SheafValue) (put : Bool) (old new : List Scribe) (x : Scribe) → new ≡ (if put then old ++ x ∷ [] else old) → AreRight sheaf old → IsRight sheaf x → AreRight sheaf new
-put_behind sheaf true old new x is all one = subst (λ (l : List Scribe). AreRight sheaf l) (sym is) (All-push (IsRight sheaf) old x all one)
-put_behind sheaf false old new x is all one = subst (λ (l : List Scribe). AreRight sheaf l) (sym is) all
+pub put_behind : (sheaf : SheafValue) (put : Bool) (old new : List TextFormatter) (x : TextFormatter) → new ≡ (if put then old ++ x ∷ [] else old) → AreRight sheaf old → IsRight sheaf x → AreRight sheaf new
+put_behind sheaf true old new x is all one = subst (λ (l : List TextFormatter). AreRight sheaf l) (sym is) (All-push (IsRight sheaf) old x all one)
+put_behind sheaf false old new x is all one = subst (λ (l : List TextFormatter). AreRight sheaf l) (sym is) all

@@ -4,7 +4,7 @@ use Rattle.std.proofs.lemmas.Bool.{and_parts}
 use Rattle.std.specs.List.{enumerate_from}
 use Rattle.std.specs.FinMap.{get}
 use Rattle.scenario_image.specs.declared.parts.ScenarioParts.{ScenarioParts}
-use Rattle.ranking.proofs.Maps.{same_some, not_some}
+use Rattle.tournament.proofs.Maps.{same_some, not_some}
 use Rattle.node_core.specs.Pending.{Events}
 use Rattle.node_core.specs.TraceLine.{TraceLine}
 use Rattle.table_run.specs.State.{State, due, run}
@@ -14,7 +14,7 @@ use Rattle.window_core.specs.Partition.{group_in}
 use Rattle.window_core.specs.Standing.{Stands, joined}
 use Rattle.window_core.specs.Batches.{BatchValue}
 use Rattle.window_core.specs.Window.{WindowValue, IsFrom, IsWindow, HasGoneOn, HasTurned, states_of, machine_of, setting_in}
-use Rattle.window_core.specs.Windows.{Setting, WindowState, AreBelow, Turn, all_done, none_fired, in_order, all_lines, all_held, delivered, delivered_to, opened, moved, window_end, setting_of}
+use Rattle.window_core.specs.Windows.{Setting, WindowState, AreBelow, Turn, all_done, none_fired, in_order, all_lines, all_held, groups_delivered, delivered_to, opened, moved, window_end, setting_of}
 use Rattle.window_core.specs.Calls.{IsInRun}
 use Rattle.window_law.proofs.Due.{IsLate, late_none}
 use Rattle.window_law.proofs.Matches.{Matches}
@@ -22,7 +22,7 @@ use Rattle.window_law.proofs.Brought.{Done, Comes, window}
 use Rattle.window_law.proofs.Tidy.{Tidy, run_tidy}
 use Rattle.window_law.proofs.Turn.{lines_of_all}
 use Rattle.window_law.proofs.Fair.{maker_of, every_run_is_fair}
-use Rattle.window_law.proofs.Calls.{nothing_due, below_end, opening_matches, unfired_stand}
+use Rattle.window_law.proofs.Calls.{nothing_due, below_end, initial_matches, unfired_stand}
 use Rattle.window_law.proofs.EveryRun.{same_end}
 use Rattle.window_law.proofs.Joined.{joined_is_the_state}
 use Rattle.window_core.specs.Lookahead.{lookahead}
@@ -67,7 +67,7 @@ none_left p group m before edge w is all after is_run =
     let done : (h : ℕ) → Done group until (group_at (fires group until is_open.firings is_open.start) h) =
     λ h. subst (λ (g : List GroupState). Done group until (group_at g h)) is_open.groups_are (done_at until w.groups all h) in
     let r : Comes group maker ahead until edge [] (fires group until is_open.firings is_open.start) =
-    window group maker ahead until (length is_open.firings) is_open.firings edge [] is_open.start refl (below_end x edge w is_open maker ends fair) fair (opening_matches x edge w is_open maker) done in
+    window group maker ahead until (length is_open.firings) is_open.firings edge [] is_open.start refl (below_end x edge w is_open maker ends fair) fair (initial_matches x edge w is_open maker) done in
     let matched : Matches group maker ahead until r.state r.more w.groups = subst (Matches group maker ahead until r.state r.more) (sym is_open.groups_are) r.matches in
     let tidy : Tidy r.state r.more = run_tidy group maker ahead r.n edge r.state [] r.more r.is_run fair record { sorted = tt; before = λ q v e. tt } in
     let lines : in_order (all_lines w.groups) ≡ r.more = lines_of_all group maker ahead until r.state r.more w.groups matched tidy.sorted in
@@ -81,10 +81,10 @@ no_lines group held n [] = refl
 no_lines group held n (g ∷ groups) = no_lines group held (n + 1) groups
 
 -- what a turn gives
-turned : (x : Setting) (w : WindowState) (v : WindowState × List TraceLine) → moved x w Turn ≡ Some v → v ≡ (opened x (delivered x.group w.groups), in_order (all_lines w.groups))
+turned : (x : Setting) (w : WindowState) (v : WindowState × List TraceLine) → moved x w Turn ≡ Some v → v ≡ (opened x (groups_delivered x.group w.groups), in_order (all_lines w.groups))
 turned x w v e = go (all_done w.until w.groups) e
   where
-    go : (b : Bool) → cond b (Some (opened x (delivered x.group w.groups), in_order (all_lines w.groups))) None ≡ Some v → v ≡ (opened x (delivered x.group w.groups), in_order (all_lines w.groups))
+    go : (b : Bool) → cond b (Some (opened x (groups_delivered x.group w.groups), in_order (all_lines w.groups))) None ≡ Some v → v ≡ (opened x (groups_delivered x.group w.groups), in_order (all_lines w.groups))
     go true f = sym (same_some _ v f)
     go false f = absurd (not_some f)
 
@@ -92,8 +92,8 @@ turned x w v e = go (all_done w.until w.groups) e
 pub turned_edge : (w u : WindowValue) (batch : BatchValue) → w.out ≡ false → HasTurned w batch u → IsAtEdge u
 turned_edge w u batch inside has =
     let t = turned (setting_in w) (machine_of w) (machine_of u, batch.lines) has.moved_on in
-    let machine : machine_of u ≡ opened (setting_in w) (delivered (group_in w.entries) (states_of w.groups)) = ap (λ (p : WindowState × List TraceLine). p.0) t in
-    let groups : states_of u.groups ≡ delivered (group_in w.entries) (states_of w.groups) = ap (λ (m : WindowState). m.groups) machine in
+    let machine : machine_of u ≡ opened (setting_in w) (groups_delivered (group_in w.entries) (states_of w.groups)) = ap (λ (p : WindowState × List TraceLine). p.0) t in
+    let groups : states_of u.groups ≡ groups_delivered (group_in w.entries) (states_of w.groups) = ap (λ (m : WindowState). m.groups) machine in
     let setting : setting_in u ≡ setting_in w = ap setting_in has.rest in
     record {
       inside = ap (λ (x : WindowValue). x.out) has.rest ∙ inside;

@@ -5,14 +5,14 @@ use Rattle.scenario_image.specs.LinkLimits.{IsLinkInLimits}
 use Rattle.node_core.specs.TraceLine.{TraceLine}
 use Rattle.table_run.specs.State.{State, run}
 use Rattle.net_machine.specs.Run.{Reached}
-use Rattle.ranking.proofs.Maps.{same_some}
+use Rattle.tournament.proofs.Maps.{same_some}
 use Rattle.window_core.specs.Batches.{BatchValue}
 use Rattle.window_core.specs.Lookahead.{lesser, lookahead}
 use Rattle.window_core.specs.Partition.{group_in}
 use Rattle.window_core.specs.Window.{WindowValue, IsWindow}
 use Rattle.window_core.specs.Windows.{sum_of, at_most}
 use Rattle.window_engine.specs.Edges.{IsAtEdge, edge_of, reached_in}
-use Rattle.window_engine.specs.Engines.{GoesOn, IsNext, NoneBelow, up_to}
+use Rattle.window_engine.specs.Engines.{GoesOn, IsNext, NoneBelow, net_up_to}
 use Rattle.window_engine.proofs.Laying.{All-first, All-rest}
 use Rattle.window_engine.proofs.Resting.{end_is, some_due}
 
@@ -44,10 +44,10 @@ unfolding IsMore
 soon None time end until more before below = omega (arith, before, below)
 soon (Some delay) time end until more before below = omega (arith, more, before, below)
 
-some_line : (from : State) (to : State) (lines : List TraceLine) (moment time : ℕ) → run from (length lines) ≡ Some (lines, to) → IsNext moment (up_to moment from) time → NoneBelow moment to → 0 < length lines
+some_line : (from : State) (to : State) (lines : List TraceLine) (moment time : ℕ) → run from (length lines) ≡ Some (lines, to) → IsNext moment (net_up_to moment from) time → NoneBelow moment to → 0 < length lines
 some_line from to [] moment time ran next none =
     let same : to ≡ from = ap (λ (p : List TraceLine × State). p.1) (same_some ([], to) ([], from) (sym ran)) in
-    absurd (some_due (up_to moment from) time next.least next.within (subst (NoneBelow moment) same none))
+    absurd (some_due (net_up_to moment from) time next.least next.within (subst (NoneBelow moment) same none))
 some_line from to (line ∷ lines) moment time ran next none = omega arith
 
 -- where an event is left below a moment and the run's end, a window that ends by the moment has a line

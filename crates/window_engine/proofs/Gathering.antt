@@ -11,7 +11,7 @@ use Rattle.work_board.specs.declared.slot.Slot.{Slot}
 use Rattle.work_board.specs.declared.slot.Slot.TheVariants.{Finished, Waiting, Out}
 use Rattle.work_board.specs.Boards.{SeatState}
 use Rattle.window_engine.specs.Sweeps.{IsSwept}
-use Rattle.window_engine.specs.Outcomes.{AllDone, AllRan, any_out, first_refusal, finished_of, NoneWaits, fault_of, as_fault, CameOf, StoppedBy}
+use Rattle.window_engine.specs.Outcomes.{AllDone, AllRan, any_out, first_refusal, finished_of, NoneWaits, slots_fault, as_fault, CameOf, StoppedBy}
 use Rattle.window_engine.specs.declared.fault.EngineFault.{EngineFault}
 use Rattle.window_engine.proofs.Laying.{All-more}
 use Rattle.window_engine.specs.declared.fault.EngineFault.TheVariants.{Failed, NoMemory}
@@ -94,7 +94,7 @@ done_of : (q : PieceState) → IsSettled q → q.fault ≡ None → IsDone q
 done_of q settled none = ⊎_elim (λ d. d) (λ r. let P : Option GroupFault → Type 0 = λ o. IsSome o in let e : false ≡ true = subst P none r in let x : ⊥ = cc in absurd x) settled
 
 pub all_done : (v : View) (slots : List Slot) (got : List PieceState) → length slots ≡ length v.laid → NoneWaits slots → ((i : ℕ) (x : Slot) → slice_get slots i ≡ Some x → Tells v i x)
-    → fault_of slots ≡ None → got ≡ finished_of slots → AllDone v.laid got
+    → slots_fault slots ≡ None → got ≡ finished_of slots → AllDone v.laid got
 all_done v slots got count waits tells quiet is = let q = quiet_if (any_out slots) (first_refusal slots) quiet in record {
   count = ap length is ∙ (finished_count slots q.0 waits ∙ count);
   each = λ i p at. let f = finished_at slots i p q.0 waits q.1 (ap (λ (l : List PieceState). slice_get l i) (sym is) ∙ at) in let t : Tells v i (Finished p) = tells i (Finished p) f.0 in (t.0, done_of p t.1 f.1);
@@ -102,14 +102,14 @@ all_done v slots got count waits tells quiet is = let q = quiet_if (any_out slot
 
 -- what the last call answers
 pub ends_done : {E : Type 0} (r : Result (Vec GroupValue Global) E) (laid : List PieceState) (v : View) (slots : List Slot) → v.laid ≡ laid → length slots ≡ length v.laid → NoneWaits slots
-    → ((i : ℕ) (x : Slot) → slice_get slots i ≡ Some x → Tells v i x) → IfOk r (λ back. (fault_of slots ≡ None) × (back.items ≡ map group_in (finished_of slots))) → OnOk r (All HasFired (finished_of slots)) → IfOk r (λ back. AllRan laid back.items)
-ends_done (Ok back) laid v slots told count waits tells ok after = record {
+    → ((i : ℕ) (x : Slot) → slice_get slots i ≡ Some x → Tells v i x) → IfOk r (λ back. (slots_fault slots ≡ None) × (back.items ≡ map group_in (finished_of slots))) → OnOk r (All HasFired (finished_of slots)) → IfOk r (λ back. AllRan laid back.items)
+ends_done (Ok back) laid v slots reported count waits tells ok after = record {
   got = finished_of slots;
-  done = subst (λ (l : List PieceState). AllDone l (finished_of slots)) told (all_done v slots (finished_of slots) count waits tells ok.0 refl);
+  done = subst (λ (l : List PieceState). AllDone l (finished_of slots)) reported (all_done v slots (finished_of slots) count waits tells ok.0 refl);
   after = after;
   groups_are = ok.1;
 }
-ends_done (Err e) laid v slots told count waits tells ok after = tt
+ends_done (Err e) laid v slots reported count waits tells ok after = tt
 
 came_at : (v : View) (i : ℕ) (x : Slot) → Tells v i x → ((q : PieceState) → x ≡ Waiting q → ⊥) → CameOf v.laid i x
 came_at v i (Finished q) t waits = t
@@ -117,12 +117,12 @@ came_at v i (Waiting q) t waits = waits q refl
 came_at v i Out t waits = tt
 
 pub stops : {T : Type 0} (r : Result T EngineFault) (laid : List PieceState) (v : View) (slots : List Slot) → v.laid ≡ laid → length slots ≡ length v.laid → NoneWaits slots
-    → ((i : ℕ) (x : Slot) → slice_get slots i ≡ Some x → Tells v i x) → IfErr r (λ e. (e ≡ NoMemory) ⊎ (fault_of slots ≡ Some e))
+    → ((i : ℕ) (x : Slot) → slice_get slots i ≡ Some x → Tells v i x) → IfErr r (λ e. (e ≡ NoMemory) ⊎ (slots_fault slots ≡ Some e))
     → IfErr r (λ e. (e ≡ NoMemory) ⊎ StoppedBy laid e)
-stops (Ok x) laid v slots told count waits tells f = f
-stops (Err e) laid v slots told count waits tells f = ⊎_elim (λ m. inl m) (λ g. inr record {
+stops (Ok x) laid v slots reported count waits tells f = f
+stops (Err e) laid v slots reported count waits tells f = ⊎_elim (λ m. inl m) (λ g. inr record {
   slots = slots;
-  count = count ∙ ap (λ (l : List PieceState). length l) told;
-  each = λ i x at. let P : List PieceState → Type 0 = λ l. CameOf l i x in subst P told (came_at v i x (tells i x at) (λ q is. waits i q (at ∙ ap (λ (y : Slot). Some y) is)));
+  count = count ∙ ap (λ (l : List PieceState). length l) reported;
+  each = λ i x at. let P : List PieceState → Type 0 = λ l. CameOf l i x in subst P reported (came_at v i x (tells i x at) (λ q is. waits i q (at ∙ ap (λ (y : Slot). Some y) is)));
   fault = g;
 }) f

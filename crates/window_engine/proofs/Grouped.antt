@@ -3,7 +3,7 @@ use Rattle.std.proofs.Common.{◌≡◌, ◌≤◌, ◌+◌, ℕ, List, ◌++◌
 use Rattle.scenario_image.specs.declared.parts.ScenarioParts.{ScenarioParts}
 use Rattle.scenario_image.specs.Scenario.{IsScenario}
 use Rattle.node_core.specs.TraceLine.{TraceLine}
-use Rattle.table_run.specs.State.{State, opening, run}
+use Rattle.table_run.specs.State.{State, initial, run}
 use Rattle.table_run.specs.Laws.{ComesTo}
 use Rattle.table_run.proofs.Runs.{run_add}
 use Rattle.table_run.proofs.RunLaws.{sound_run}
@@ -53,7 +53,7 @@ runs_on groups ahead from to lines r is_run at = record {
   scenario = r.scenario;
   before = r.before ++ lines;
   is_scenario = r.is_scenario;
-  comes = subst (λ (n : ℕ). ComesTo r.scenario n (r.before ++ lines) to.state) (sym at) (run_add (opening r.scenario) from.state to.state from.position (length lines) r.before lines r.comes is_run);
+  comes = subst (λ (n : ℕ). ComesTo r.scenario n (r.before ++ lines) to.state) (sym at) (run_add (initial r.scenario) from.state to.state from.position (length lines) r.before lines r.comes is_run);
   nodes = r.nodes;
   ahead_is = r.ahead_is;
 }

@@ -4,8 +4,8 @@ use mathlib.Core.Bool.{false≢true}
 use Rattle.std.proofs.lemmas.Bool.{cases_lt}
 use Rattle.std.specs.Io.KnownBytes.{Appends}
 use Rattle.sim_time.specs.declared.key.Key.{Key}
-use Rattle.ranking.specs.Keyed.{least}
-use Rattle.ranking.proofs.Maps.{not_some, same_some}
+use Rattle.tournament.specs.Keyed.{least}
+use Rattle.tournament.proofs.Maps.{not_some, same_some}
 use Rattle.node_core.specs.declared.event.Event.{Event}
 use Rattle.node_core.specs.TraceLine.{TraceLine}
 use Rattle.table_run.specs.State.{State, below, due, run, step}
@@ -24,8 +24,8 @@ use Rattle.window_engine.specs.declared.course.Course.{Course}
 use Rattle.window_engine.specs.declared.course.WriteFault.{WriteFault}
 use Rattle.window_engine.specs.declared.course.WriteFault.TheVariants.{Workers}
 use Rattle.window_engine.specs.declared.fault.EngineFault.TheVariants.{CountFull}
-use Rattle.window_engine.specs.declared.pace.Pace.{Pace}
-use Rattle.window_engine.specs.Courses.{AtRest, HasEnded, IsApart, Rests, RunsIn, Broke, CanTell, Wrote, WroteFirst, fails_after, told_as}
+use Rattle.window_engine.specs.declared.granularity.Granularity.{Granularity}
+use Rattle.window_engine.specs.Courses.{AtRest, HasEnded, IsApart, WindowsRest, RunsIn, Broke, CanTell, Wrote, WroteFirst, fails_after, reported_as}
 use Rattle.window_engine.specs.Edges.{IsAtEdge, edge_of, reached_in}
 use Rattle.window_engine.specs.Engines.{GoesOn}
 use Rattle.window_engine.specs.Puts.{TakesFirst}
@@ -183,7 +183,7 @@ module _ (until : ℕ) (old new : Reached) (text : List ℕ) (count : ℕ) (a b 
 
 -- a course whose events are run one after another by a net, which has gone on to here: they are committed and written
 pub record IsOn (until : ℕ) (old new : Course) (net : Reached) (written now : ℕ) (a b : Option (List ℕ)) : Type 0 where
-  pub rest : new ≡ record old { position = net.position; pace = new.pace }
+  pub rest : new ≡ record old { position = net.position; granularity = new.granularity }
   pub count : ℕ
   pub written_is : now ≡ written + count
   pub wrote : Wrote until (reached_in old.window) net count a b
@@ -212,12 +212,12 @@ module _ (until : ℕ) (old c : Course) (net : Reached) (written now : ℕ) (a b
   on_end r = let w = o.wrote in run_end (length w.lines) (edge_of old.window) net.state w.lines w.is_run ∙ sym r.end
 
   -- some events more
-  pub on_more : (d : Course) (to : Reached) (more total : ℕ) (e : Option (List ℕ)) → Wrote until net to more b e → d ≡ record c { position = to.position; pace = d.pace } → total ≡ now + more → to.position ≤ 1000000000000000 → IsOn until old d to written total a e
+  pub on_more : (d : Course) (to : Reached) (more total : ℕ) (e : Option (List ℕ)) → Wrote until net to more b e → d ≡ record c { position = to.position; granularity = d.granularity } → total ≡ now + more → to.position ≤ 1000000000000000 → IsOn until old d to written total a e
   on_more d to more total e wrote rest total_is few =
       let count = o.count in
       let was = o.written_is in
       record {
-        rest = rest ∙ ap (λ (x : Course). record x { position = to.position; pace = d.pace }) o.rest;
+        rest = rest ∙ ap (λ (x : Course). record x { position = to.position; granularity = d.granularity }) o.rest;
         count = count + more;
         written_is = omega (arith, was, total_is);
         wrote = wrote_more until (reached_in old.window) net to count more a b e o.wrote wrote;
@@ -225,7 +225,7 @@ module _ (until : ℕ) (old c : Course) (net : Reached) (written now : ℕ) (a b
       }
 
 -- what a call has written, where windows before that were written too
-module _ (until bound : ℕ) (began old c : Course) (net : Reached) (written now : ℕ) (known a b : Option (List ℕ)) (r : Rests until began old written known a) (o : IsOn bound old c net written now a b) (upto : bound ≤ until) where
+module _ (until bound : ℕ) (began old c : Course) (net : Reached) (written now : ℕ) (known a b : Option (List ℕ)) (r : WindowsRest until began old written known a) (o : IsOn bound old c net written now a b) (upto : bound ≤ until) where
   abbrev from : Reached
   from = reached_in began.window
 
@@ -241,12 +241,12 @@ module _ (until bound : ℕ) (began old c : Course) (net : Reached) (written now
   later : (workers at : ℕ) (e : Option (List ℕ)) (fault : WriteFault) → 0 < workers → Broke 1 bound net at b e fault → Broke workers until net at b e fault
   later workers at e fault some broke = broke_later 1 workers bound until net at b e fault (omega (arith, some)) upto broke
 
-  pub can_be_told : (at : ℕ) (e : Option (List ℕ)) (fault : WriteFault) → Broke 1 bound net at b e fault → CanTell now fault
-  can_be_told at e fault broke = can_tell 1 until from net now at known b e fault all_written o.few (later 1 at e fault (omega arith) broke)
+  pub can_be_reported : (at : ℕ) (e : Option (List ℕ)) (fault : WriteFault) → Broke 1 bound net at b e fault → CanTell now fault
+  can_be_reported at e fault broke = can_tell 1 until from net now at known b e fault all_written o.few (later 1 at e fault (omega arith) broke)
 
   -- the call ends by a fault in those that follow
   pub broken_on : (workers : ℕ) (d : Course) (e : Option (List ℕ)) (fault : WriteFault) (f g h : ℕ) → 0 < workers → Broke 1 bound net d.position b e fault → (fault ≡ Workers CountFull → HasTooMany net) → g ≡ f → h ≡ fails_after {T = ℕ} (Err fault) g
-      → d.groups ≡ c.groups → d.ahead ≡ c.ahead → HasEnded workers until began d (Err (told_as now fault)) known e f h
+      → d.groups ≡ c.groups → d.ahead ≡ c.ahead → HasEnded workers until began d (Err (reported_as now fault)) known e f h
   broken_on workers d e fault f g h some broke full same fails groups ahead =
       let all_groups : d.groups ≡ began.groups = groups ∙ ap (λ (x : Course). x.groups) o.rest ∙ r.groups in
       let all_ahead : d.ahead ≡ began.ahead = ahead ∙ ap (λ (x : Course). x.ahead) o.rest ∙ r.ahead in
@@ -265,9 +265,9 @@ module _ (until bound : ℕ) (began old c : Course) (net : Reached) (written now
       subst (λ (x : Course). groups_of x.groups ≤ 64) (sym o.rest) few
 
   -- a window is open again
-  pub taken_up : (d : Course) → IsAtEdge d.window → reached_in d.window ≡ net → d.window.end ≡ net.state.end → IsApart c.groups c.ahead d.window → d ≡ record c { window = d.window } → Rests until began d now known b
+  pub taken_up : (d : Course) → IsAtEdge d.window → reached_in d.window ≡ net → d.window.end ≡ net.state.end → IsApart c.groups c.ahead d.window → d ≡ record c { window = d.window } → WindowsRest until began d now known b
   taken_up d edge is end apart rest =
-      let same : d ≡ record old { position = net.position; pace = c.pace; window = d.window } = rest ∙ ap (λ (x : Course). record x { window = d.window }) o.rest in
+      let same : d ≡ record old { position = net.position; granularity = c.granularity; window = d.window } = rest ∙ ap (λ (x : Course). record x { window = d.window }) o.rest in
       let at : d.position ≡ net.position = ap (λ (x : Course). x.position) same in
       let window_at : d.window.position ≡ net.position = ap (λ (n : Reached). n.position) is in
       let groups : d.groups ≡ c.groups = ap (λ (x : Course). x.groups) rest in
@@ -293,8 +293,8 @@ module _ (until bound : ℕ) (began old c : Course) (net : Reached) (written now
       }
 
 -- what a pace says is nothing of what was written
-pub rests_paced : (until : ℕ) (began c : Course) (pace : Pace) (written : ℕ) (known now : Option (List ℕ)) → Rests until began c written known now → Rests until began (record c { pace = pace }) written known now
-rests_paced until began c pace written known now r = record {
+pub rests_paced : (until : ℕ) (began c : Course) (granularity : Granularity) (written : ℕ) (known now : Option (List ℕ)) → WindowsRest until began c written known now → WindowsRest until began (record c { granularity = granularity }) written known now
+rests_paced until began c granularity written known now r = record {
   rest = record { edge = r.rest.edge; committed = r.rest.committed; few = r.rest.few; end = r.rest.end; groups = r.rest.groups };
   has = record { run = r.has.run; apart = r.has.apart };
   wrote = r.wrote;

@@ -5,9 +5,9 @@ use lib.Seq.{take-add}
 use Rattle.std.proofs.lemmas.List.Elements.{All-cons, All-nil, All-push, All-weaker}
 use Rattle.std.specs.Io.KnownBytes.{Appends}
 use Rattle.window_core.specs.Sheaves.{SheafValue, merged}
-use Rattle.window_engine.specs.declared.scribe.Part.{Part}
-use Rattle.window_engine.specs.declared.scribe.Scribe.{Scribe}
-use Rattle.window_engine.specs.declared.text.Place.{Place}
+use Rattle.window_engine.specs.declared.formatter.TextPart.{TextPart}
+use Rattle.window_engine.specs.declared.formatter.TextFormatter.{TextFormatter}
+use Rattle.window_engine.specs.declared.text.TextPlace.{TextPlace}
 use Rattle.window_engine.specs.Parts.{AreRight, HasText, IsIn, IsInside, IsPlaceAt, IsRight, bytes_at, bytes_in, text_at, text_of}
 use Rattle.window_engine.specs.Puts.{TakesFirst}
 use Rattle.window_engine.specs.Text.{text_from}
@@ -15,14 +15,14 @@ use Rattle.window_engine.proofs.Bytes.{appends_more, take_past}
 use Rattle.window_engine.proofs.Numbered.{text_both}
 
 -- a part's bytes stay where text is appended
-bytes_kept : (text more : List ℕ) (part : Part) → IsIn text part → bytes_in (text ++ more) part ≡ bytes_in text part
+bytes_kept : (text more : List ℕ) (part : TextPart) → IsIn text part → bytes_in (text ++ more) part ≡ bytes_in text part
 bytes_kept text more part is =
     let start = is.start in
     let end = is.end in
     ap (take (part.end - part.start)) (drop-append-le part.start text more (omega (arith, start, end)))
     ∙ take-append-le (part.end - part.start) (drop part.start text) more (omega (arith, start, end, length-drop part.start text))
 
-has_kept : (s : SheafValue) (old more new : List ℕ) → new ≡ old ++ more → (part : Part) → HasText s old part → HasText s new part
+has_kept : (s : SheafValue) (old more new : List ℕ) → new ≡ old ++ more → (part : TextPart) → HasText s old part → HasText s new part
 has_kept s old more new is part has =
     let end = has.inside.end in
     let long : length new ≡ length old + length more = ap length is ∙ length-append old more in
@@ -33,11 +33,11 @@ has_kept s old more new is part has =
     }
 
 -- so do those of all parts
-pub right_kept : (s : SheafValue) (old more new : List ℕ) (parts : List Part) → new ≡ old ++ more → All (HasText s old) parts → All (HasText s new) parts
+pub right_kept : (s : SheafValue) (old more new : List ℕ) (parts : List TextPart) → new ≡ old ++ more → All (HasText s old) parts → All (HasText s new) parts
 right_kept s old more new parts is all = All-weaker (HasText s old) (HasText s new) (has_kept s old more new is) parts all
 
 -- what is appended is the last part's
-pub has_appended : (s : SheafValue) (old new : List ℕ) (part : Part) → part.start ≡ length old → part.end ≡ length new → part.from + part.count ≤ length (merged s).lines
+pub has_appended : (s : SheafValue) (old new : List ℕ) (part : TextPart) → part.start ≡ length old → part.end ≡ length new → part.from + part.count ≤ length (merged s).lines
     → new ≡ old ++ text_from (s.first + part.from) (take part.count (drop part.from (merged s).lines)) → HasText s new part
 has_appended s old new part start end within is =
     let more = text_from (s.first + part.from) (take part.count (drop part.from (merged s).lines)) in
@@ -55,49 +55,49 @@ has_appended s old new part start end within is =
     }
 
 -- a thread that made no part
-right_none : (s : SheafValue) (scribe : Scribe) → scribe.parts.items ≡ [] → IsRight s scribe
-right_none s scribe none = subst (All (HasText s scribe.text)) (sym none) (All-nil (HasText s scribe.text))
+right_none : (s : SheafValue) (formatter : TextFormatter) → formatter.parts.items ≡ [] → IsRight s formatter
+right_none s formatter none = subst (All (HasText s formatter.text)) (sym none) (All-nil (HasText s formatter.text))
 
 -- one more made none
-pub rights_none : (s : SheafValue) (scribes : List Scribe) (i : ℕ) (scribe : Scribe) → i < length scribes → AreRight s (take i scribes) → scribe.parts.items ≡ [] → AreRight s (take (i + 1) (set scribes i scribe))
-rights_none s scribes i scribe l all none = subst (AreRight s) (sym (take_more_set scribes i scribe l)) (All-push (IsRight s) (take i scribes) scribe all (right_none s scribe none))
+pub rights_none : (s : SheafValue) (scribes : List TextFormatter) (i : ℕ) (formatter : TextFormatter) → i < length scribes → AreRight s (take i scribes) → formatter.parts.items ≡ [] → AreRight s (take (i + 1) (set scribes i formatter))
+rights_none s scribes i formatter l all none = subst (AreRight s) (sym (take_more_set scribes i formatter l)) (All-push (IsRight s) (take i scribes) formatter all (right_none s formatter none))
 
 -- the text of a thread by its number
-pub text_at-is : (scribes : List Scribe) (i : ℕ) (d : Scribe) → i < length scribes → text_at scribes i ≡ (get_or scribes i d).text
+pub text_at-is : (scribes : List TextFormatter) (i : ℕ) (d : TextFormatter) → i < length scribes → text_at scribes i ≡ (get_or scribes i d).text
 text_at-is [] i d l = absurd (omega (arith, l))
 text_at-is (s ∷ ss) zero d l = refl
 text_at-is (s ∷ ss) (suc i) d l = text_at-is ss i d (omega (arith, l))
 
 -- a place of nothing
-abbrev pub none : Place
-none = record { scribe = 0; part = record { from = 0; count = 0; start = 0; end = 0 } }
+abbrev pub none : TextPlace
+none = record { formatter = 0; part = record { from = 0; count = 0; start = 0; end = 0 } }
 
-text_of-append : (ss : List Scribe) (ps qs : List Place) → text_of ss (ps ++ qs) ≡ text_of ss ps ++ text_of ss qs
+text_of-append : (ss : List TextFormatter) (ps qs : List TextPlace) → text_of ss (ps ++ qs) ≡ text_of ss ps ++ text_of ss qs
 text_of-append ss [] qs = refl
 text_of-append ss (p ∷ ps) qs = ap (λ l. bytes_at ss p ++ l) (text_of-append ss ps qs) ∙ sym (append_assoc (bytes_at ss p) (text_of ss ps) (text_of ss qs))
 
 -- a place more
-pub text_of-push : (ss : List Scribe) (ps : List Place) (p : Place) → text_of ss (ps ++ p ∷ []) ≡ text_of ss ps ++ bytes_at ss p
+pub text_of-push : (ss : List TextFormatter) (ps : List TextPlace) (p : TextPlace) → text_of ss (ps ++ p ∷ []) ≡ text_of ss ps ++ bytes_at ss p
 text_of-push ss ps p = text_of-append ss ps (p ∷ []) ∙ ap (λ (bytes : List ℕ). text_of ss ps ++ bytes) (append-nil (bytes_at ss p))
 
 -- the places so far, and the next
-pub text_of-more : (ss : List Scribe) (ps : List Place) (i : ℕ) (d : Place) → i < length ps → text_of ss (take (i + 1) ps) ≡ text_of ss (take i ps) ++ bytes_at ss (get_or ps i d)
+pub text_of-more : (ss : List TextFormatter) (ps : List TextPlace) (i : ℕ) (d : TextPlace) → i < length ps → text_of ss (take (i + 1) ps) ≡ text_of ss (take i ps) ++ bytes_at ss (get_or ps i d)
 text_of-more ss ps i d l = ap (text_of ss) (take_more ps i d l) ∙ text_of-push ss (take i ps) (get_or ps i d)
 
 -- the places so far, the next and the rest
-text_of-rest : (ss : List Scribe) (ps : List Place) (i : ℕ) (d : Place) → i < length ps → text_of ss ps ≡ text_of ss (take i ps) ++ (bytes_at ss (get_or ps i d) ++ text_of ss (drop (i + 1) ps))
+text_of-rest : (ss : List TextFormatter) (ps : List TextPlace) (i : ℕ) (d : TextPlace) → i < length ps → text_of ss ps ≡ text_of ss (take i ps) ++ (bytes_at ss (get_or ps i d) ++ text_of ss (drop (i + 1) ps))
 text_of-rest ss ps i d l =
     ap (text_of ss) (sym (take-append-drop i ps))
     ∙ text_of-append ss (take i ps) (drop i ps)
-    ∙ ap (λ (qs : List Place). text_of ss (take i ps) ++ text_of ss qs) (drop_more ps i d l)
+    ∙ ap (λ (qs : List TextPlace). text_of ss (take i ps) ++ text_of ss qs) (drop_more ps i d l)
 
 -- the bytes of a place more were taken
-pub part_taken : (ss : List Scribe) (ps : List Place) (i : ℕ) (d : Place) (a b c : Option (List ℕ)) → i < length ps → Appends a b (text_of ss (take i ps)) → Appends b c (bytes_at ss (get_or ps i d))
+pub part_taken : (ss : List TextFormatter) (ps : List TextPlace) (i : ℕ) (d : TextPlace) (a b c : Option (List ℕ)) → i < length ps → Appends a b (text_of ss (take i ps)) → Appends b c (bytes_at ss (get_or ps i d))
     → Appends a c (text_of ss (take (i + 1) ps))
 part_taken ss ps i d a b c l h k = subst (Appends a c) (sym (text_of-more ss ps i d l)) (appends_more a b c (text_of ss (take i ps)) (bytes_at ss (get_or ps i d)) h k)
 
 -- the first bytes of a place were taken
-pub part_broken : (ss : List Scribe) (ps : List Place) (i done n : ℕ) (d : Place) (a b c : Option (List ℕ)) → i < length ps → done ≡ length (text_of ss (take i ps)) → Appends a b (text_of ss (take i ps))
+pub part_broken : (ss : List TextFormatter) (ps : List TextPlace) (i done n : ℕ) (d : TextPlace) (a b c : Option (List ℕ)) → i < length ps → done ≡ length (text_of ss (take i ps)) → Appends a b (text_of ss (take i ps))
     → TakesFirst n (bytes_at ss (get_or ps i d)) b c → TakesFirst (done + n) (text_of ss ps) a c
 part_broken ss ps i done n d a b c l count h k =
     let before = text_of ss (take i ps) in
@@ -113,14 +113,14 @@ part_broken ss ps i done n d a b c l count h k =
     )
 
 -- the part of a thread's that begins with a line is at its place
-pub is_place : (s : SheafValue) (ss : List Scribe) (at i : ℕ) (d : Scribe) (part : Part) → i < length ss → HasText s (get_or ss i d).text part → part.from ≡ at → 0 < part.count
-    → IsPlaceAt s ss at (record { scribe = i; part = part })
+pub is_place : (s : SheafValue) (ss : List TextFormatter) (at i : ℕ) (d : TextFormatter) (part : TextPart) → i < length ss → HasText s (get_or ss i d).text part → part.from ≡ at → 0 < part.count
+    → IsPlaceAt s ss at (record { formatter = i; part = part })
 is_place s ss at i d part l has from some =
     let lines = (merged s).lines in
     let text = text_at-is ss i d l in
     let within = has.within in
     record {
-      inside = record { scribe = l; part = subst (λ (t : List ℕ). IsIn t part) (sym text) has.inside };
+      inside = record { formatter = l; part = subst (λ (t : List ℕ). IsIn t part) (sym text) has.inside };
       some = some;
       within = omega (arith, within, from);
       is =
@@ -134,7 +134,7 @@ pub text_of_none : (s : SheafValue) → [] ≡ text_from s.first (take 0 (merged
 text_of_none s = refl
 
 -- the text up to a line, and the part that begins there
-pub text_up_to : (s : SheafValue) (ss : List Scribe) (ps : List Place) (at : ℕ) (p : Place) → text_of ss ps ≡ text_from s.first (take at (merged s).lines) → IsPlaceAt s ss at p
+pub text_up_to : (s : SheafValue) (ss : List TextFormatter) (ps : List TextPlace) (at : ℕ) (p : TextPlace) → text_of ss ps ≡ text_from s.first (take at (merged s).lines) → IsPlaceAt s ss at p
     → text_of ss (ps ++ p ∷ []) ≡ text_from s.first (take (at + p.part.count) (merged s).lines)
 text_up_to s ss ps at p so_far is =
     let lines = (merged s).lines in
@@ -149,17 +149,17 @@ text_up_to s ss ps at p so_far is =
     ∙ ap (text_from s.first) (sym both)
 
 -- the first thread made the text of all lines
-pub first_inside : (s : SheafValue) (ss : List Scribe) (scribe : Scribe) (part : Part) → 0 < length ss → HasText s scribe.text part → All (IsInside (set ss 0 scribe)) (record { scribe = 0; part = part } ∷ [])
-first_inside s [] scribe part some has = absurd (omega (arith, some))
-first_inside s (q ∷ qs) scribe part some has = All-cons (IsInside (scribe ∷ qs)) _ [] (record { scribe = omega arith; part = has.inside }) (All-nil (IsInside (scribe ∷ qs)))
+pub first_inside : (s : SheafValue) (ss : List TextFormatter) (formatter : TextFormatter) (part : TextPart) → 0 < length ss → HasText s formatter.text part → All (IsInside (set ss 0 formatter)) (record { formatter = 0; part = part } ∷ [])
+first_inside s [] formatter part some has = absurd (omega (arith, some))
+first_inside s (q ∷ qs) formatter part some has = All-cons (IsInside (formatter ∷ qs)) _ [] (record { formatter = omega arith; part = has.inside }) (All-nil (IsInside (formatter ∷ qs)))
 
-pub first_text : (s : SheafValue) (ss : List Scribe) (scribe : Scribe) (part : Part) → 0 < length ss → HasText s scribe.text part → part.from ≡ 0 → part.count ≡ length (merged s).lines
-    → text_of (set ss 0 scribe) (record { scribe = 0; part = part } ∷ []) ≡ text_from s.first (merged s).lines
-first_text s [] scribe part some has from count = absurd (omega (arith, some))
-first_text s (q ∷ qs) scribe part some has from count =
+pub first_text : (s : SheafValue) (ss : List TextFormatter) (formatter : TextFormatter) (part : TextPart) → 0 < length ss → HasText s formatter.text part → part.from ≡ 0 → part.count ≡ length (merged s).lines
+    → text_of (set ss 0 formatter) (record { formatter = 0; part = part } ∷ []) ≡ text_from s.first (merged s).lines
+first_text s [] formatter part some has from count = absurd (omega (arith, some))
+first_text s (q ∷ qs) formatter part some has from count =
     let lines = (merged s).lines in
     let zeroth : s.first + 0 ≡ s.first = omega arith in
-    append-nil (bytes_in scribe.text part)
+    append-nil (bytes_in formatter.text part)
     ∙ has.is
     ∙ ap (λ n. text_from (s.first + n) (take part.count (drop n lines))) from
     ∙ ap (λ n. text_from n (take part.count lines)) zeroth

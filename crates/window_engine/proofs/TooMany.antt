@@ -8,7 +8,7 @@ use Rattle.table_run.proofs.Runs.{run_add}
 use Rattle.node_core.specs.TraceLine.{TraceLine}
 use Rattle.net_machine.specs.Run.{Reached}
 use Rattle.window_core.specs.GroupFaults.{IsFaultAt}
-use Rattle.window_core.specs.Full.{HasTooMany, RunsTooLong, opening_at}
+use Rattle.window_core.specs.Full.{HasTooMany, RunsTooLong, initial_at}
 use Rattle.window_core.specs.Group.{GroupValue, AfterFirings}
 use Rattle.window_core.specs.Window.{WindowValue, IsFrom, IsWindow, value_at}
 use Rattle.window_core.proofs.TooMany.{full_group_has_too_many}
@@ -17,7 +17,7 @@ use Rattle.window_engine.specs.declared.fault.EngineFault.{EngineFault}
 use Rattle.window_engine.specs.declared.fault.EngineFault.TheVariants.{CountFull, Failed}
 use Rattle.window_engine.specs.declared.course.WriteFault.{WriteFault}
 use Rattle.window_engine.specs.declared.course.WriteFault.TheVariants.{Workers, Sink as Failing}
-use Rattle.window_engine.specs.Courses.{Wrote, told_as}
+use Rattle.window_engine.specs.Courses.{Wrote, reported_as}
 use Rattle.window_engine.specs.Edges.{IsAtEdge, edge_of, reached_in}
 use Rattle.window_engine.specs.Laid.{laid_for, HasFullGroup, IsDoneBy}
 use Rattle.window_engine.specs.Outcomes.{SomeLaidFull}
@@ -25,7 +25,7 @@ use Rattle.window_engine.proofs.Edge.{edge_is}
 use Rattle.window_engine.proofs.Laying.{laid_at}
 
 -- what holds of the state at which a window opened holds of its edge
-at_edge : (v w : WindowValue) (is : IsWindow v) → IsAtEdge v → w.position ≡ v.position → HasTooMany (opening_at is.edge w) → HasTooMany (reached_in v)
+at_edge : (v w : WindowValue) (is : IsWindow v) → IsAtEdge v → w.position ≡ v.position → HasTooMany (initial_at is.edge w) → HasTooMany (reached_in v)
 at_edge v w is at position many =
     let state : is.edge ≡ edge_of v = sym (edge_is v is.edge is.from at.unfired) in
     subst (λ (s : State). HasTooMany (record { state = s; position = v.position })) state
@@ -69,15 +69,15 @@ earlier_full from to lines runs at few many =
       one_due = many.one_due;
     }
 
-told_by : WriteFault → EngineFault
-told_by (Workers fault) = fault
-told_by (Failing count) = Failed
+reported_by : WriteFault → EngineFault
+reported_by (Workers fault) = fault
+reported_by (Failing count) = Failed
 
 -- the workers' fault is that the count is full
 pub workers_full : (at : Reached) (fault : EngineFault) → (fault ≡ CountFull → HasTooMany at) → Workers fault ≡ Workers CountFull → HasTooMany at
-unfolding told_by
-workers_full at fault full is = full (ap told_by is)
+unfolding reported_by
+workers_full at fault full is = full (ap reported_by is)
 
-pub told_full : (until : ℕ) (from to : Reached) (n written : ℕ) (a b : Option (List ℕ)) (fault : WriteFault) → Wrote until from to n a b → to.position ≤ 1000000000000000 → (fault ≡ Workers CountFull → HasTooMany to) → told_as written fault ≡ CountFull → HasTooMany from
-told_full until from to n written a b (Workers fault) w few full is = earlier_full from to w.lines w.is_run w.position_is few (full (ap (λ (f : EngineFault). Workers f) is))
-told_full until from to n written a b (Failing count) w few full is = let x : ⊥ = cc in absurd x
+pub reported_full : (until : ℕ) (from to : Reached) (n written : ℕ) (a b : Option (List ℕ)) (fault : WriteFault) → Wrote until from to n a b → to.position ≤ 1000000000000000 → (fault ≡ Workers CountFull → HasTooMany to) → reported_as written fault ≡ CountFull → HasTooMany from
+reported_full until from to n written a b (Workers fault) w few full is = earlier_full from to w.lines w.is_run w.position_is few (full (ap (λ (f : EngineFault). Workers f) is))
+reported_full until from to n written a b (Failing count) w few full is = let x : ⊥ = cc in absurd x

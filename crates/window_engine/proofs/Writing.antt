@@ -12,10 +12,10 @@ use Rattle.window_core.specs.Windows.{AreBelow}
 use Rattle.window_engine.specs.Outcomes.{IsOfRun, IsOfWorkers}
 use Rattle.window_engine.specs.Puts.{TakesFirst}
 use Rattle.window_engine.specs.Text.{text_from}
-use Rattle.window_engine.specs.Engines.{GoesOn, Commits, Takes, sink_failures}
+use Rattle.window_engine.specs.Engines.{GoesOn, Commits, SinkTakes, sink_failures}
 use Rattle.window_engine.specs.declared.course.WriteFault.{WriteFault}
 use Rattle.window_engine.specs.declared.course.WriteFault.TheVariants.{Workers, Sink as Failing}
-use Rattle.window_engine.specs.Courses.{CanTell, Wrote, WroteFirst, WroteTo, Broke, told_as, fails_after}
+use Rattle.window_engine.specs.Courses.{CanTell, Wrote, WroteFirst, WroteTo, Broke, reported_as, fails_after}
 use Rattle.window_engine.proofs.Bytes.{appends_nothing, appends_more, take_past}
 use Rattle.window_engine.proofs.Numbered.{text_both}
 use Rattle.window_engine.proofs.Whole.{below_later, below_more, whole_none, whole_more}
@@ -93,7 +93,7 @@ pub committed : {T : Type 0} (until : ℕ) (from to new : Reached) (n : ℕ) (a 
     → Commits {T = T} until from (Ok answer) new a b
 committed until from to new n a b answer w at same = record { lines = w.lines; state = to.state; is_run = w.is_run; whole = w.whole; early = w.early; position_is = at ∙ w.position_is; state_is = same; takes = w.takes }
 
-takes_all : (T : Type 0) (workers : ℕ) (fault : EngineFault) (text : List ℕ) (a b : Option (List ℕ)) → IsOfWorkers workers fault → Appends a b text → Takes {T = T} (Err fault) text a b
+takes_all : (T : Type 0) (workers : ℕ) (fault : EngineFault) (text : List ℕ) (a b : Option (List ℕ)) → IsOfWorkers workers fault → Appends a b text → SinkTakes {T = T} (Err fault) text a b
 takes_all T workers NoMemory text a b is took = took
 takes_all T workers CountFull text a b is took = took
 takes_all T workers NoWorker text a b is took = absurd is
@@ -143,7 +143,7 @@ failed until from to n count new a b c w x =
 
 -- where the next window wasn't written
 pub ended : {T : Type 0} (workers until : ℕ) (from to : Reached) (n : ℕ) (new : Reached) (a b c : Option (List ℕ)) (fault : WriteFault) → Wrote until from to n a b → Broke workers until to new.position b c fault
-    → Commits {T = T} until from (Err (told_as n fault)) new a c
+    → Commits {T = T} until from (Err (reported_as n fault)) new a c
 ended {T} workers until from to n new a b c (Workers fault) w broke = stopped {T = T} workers until from to n new a b c fault w broke.0 broke.1
 ended {T} workers until from to n new a b c (Failing count) w broke = failed {T = T} until from to n count new a b c w broke
 
@@ -176,19 +176,19 @@ of_run workers Failed is = is
 of_run workers (Sink written) is = tt
 
 -- the fault that is told is of the workers or of the sink
-pub told_of : (workers until n : ℕ) (from : Reached) (at : ℕ) (x y : Option (List ℕ)) (fault : WriteFault) → Broke workers until from at x y fault → IsOfRun workers (told_as n fault)
-told_of workers until n from at x y (Workers fault) broke = of_run workers fault broke.1
-told_of workers until n from at x y (Failing count) broke = tt
+pub reported_of : (workers until n : ℕ) (from : Reached) (at : ℕ) (x y : Option (List ℕ)) (fault : WriteFault) → Broke workers until from at x y fault → IsOfRun workers (reported_as n fault)
+reported_of workers until n from at x y (Workers fault) broke = of_run workers fault broke.1
+reported_of workers until n from at x y (Failing count) broke = tt
 
 -- a failure is counted once
-pub fails_told : (T U : Type 0) (workers until written n : ℕ) (fault : WriteFault) (old new : Option (List ℕ)) (from : Reached) (at : ℕ) → Broke workers until from at old new fault
-    → fails_after {T = U} (Err fault) n ≡ sink_failures {T = T} (Err (told_as written fault)) n
-fails_told T U workers until written n (Workers NoMemory) old new from at broke = refl
-fails_told T U workers until written n (Workers CountFull) old new from at broke = refl
-fails_told T U workers until written n (Workers NoWorker) old new from at broke = absurd broke.1
-fails_told T U workers until written n (Workers Failed) old new from at broke = refl
-fails_told T U workers until written n (Workers (Sink count)) old new from at broke = absurd broke.1
-fails_told T U workers until written n (Failing count) old new from at broke = refl
+pub fails_reported : (T U : Type 0) (workers until written n : ℕ) (fault : WriteFault) (old new : Option (List ℕ)) (from : Reached) (at : ℕ) → Broke workers until from at old new fault
+    → fails_after {T = U} (Err fault) n ≡ sink_failures {T = T} (Err (reported_as written fault)) n
+fails_reported T U workers until written n (Workers NoMemory) old new from at broke = refl
+fails_reported T U workers until written n (Workers CountFull) old new from at broke = refl
+fails_reported T U workers until written n (Workers NoWorker) old new from at broke = absurd broke.1
+fails_reported T U workers until written n (Workers Failed) old new from at broke = refl
+fails_reported T U workers until written n (Workers (Sink count)) old new from at broke = absurd broke.1
+fails_reported T U workers until written n (Failing count) old new from at broke = refl
 
 can_tell_of : (workers until : ℕ) (from : Reached) (at n : ℕ) (fault : WriteFault) (old new : Option (List ℕ)) → Broke workers until from at old new fault → n < 2 ^ 127 → CanTell n fault
 can_tell_of workers until from at n (Workers fault) old new broke small = tt

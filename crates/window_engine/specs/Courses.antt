@@ -19,14 +19,14 @@ use Rattle.window_engine.specs.declared.course.WriteFault.TheVariants.{Workers, 
 use Rattle.window_engine.specs.declared.fault.EngineFault.{EngineFault}
 use Rattle.window_engine.specs.declared.fault.EngineFault.TheVariants.{Sink as SinkFailed}
 use Rattle.window_engine.specs.declared.fault.Stop.{Stop}
-use Rattle.window_engine.specs.declared.owed.Owed.{Owed}
+use Rattle.window_engine.specs.declared.pending_text.PendingText.{PendingText}
 use Rattle.window_engine.specs.declared.pipeline.Stage.{Stage}
 use Rattle.window_engine.specs.declared.pipeline.Stage.TheVariants.{ToShare, Ended}
 use Rattle.window_engine.specs.Edges.{IsAtEdge, edge_of, reached_in}
 use Rattle.window_engine.specs.Engines.{AreWhole, Commits, GoesOn, IsStop, sink_failures}
 use Rattle.window_engine.specs.Failures.{counted}
 use Rattle.window_engine.specs.Outcomes.{IsOfWorkers, IsRunFault}
-use Rattle.window_engine.specs.Owed.{owed_text}
+use Rattle.window_engine.specs.PendingText.{text_pending}
 use Rattle.window_engine.specs.Parts.{IsReady}
 use Rattle.window_engine.specs.Puts.{TakesFirst}
 use Rattle.window_engine.specs.Text.{text_from}
@@ -111,9 +111,9 @@ CanTell written (Workers fault) = Unit {0}
 CanTell written (Sink count) = written + count < 2 ^ 128
 
 -- the fault of a call in which earlier windows wrote so many bytes
-abbrev pub told_as : ℕ → WriteFault → EngineFault
-told_as written (Workers fault) = fault
-told_as written (Sink count) = SinkFailed (written + count)
+abbrev pub reported_as : ℕ → WriteFault → EngineFault
+reported_as written (Workers fault) = fault
+reported_as written (Sink count) = SinkFailed (written + count)
 
 -- a call's windows so far, from a course on: all but the last are written, so many bytes of a text, and the sheaf has the lines of the last, whose events are not committed
 pub record IsWriting (until : ℕ) (began c : Course) (written : ℕ) (known now : Option (List ℕ)) : Type 0 where
@@ -139,7 +139,7 @@ pub record IsOwing (until : ℕ) (began c : Course) (text : List ℕ) (lines wri
   pub ahead : c.ahead ≡ was.ahead
 
 -- all windows of a call so far are written, and the events that were run one after another between them
-pub record Rests (until : ℕ) (began c : Course) (written : ℕ) (known now : Option (List ℕ)) : Type 0 where
+pub record WindowsRest (until : ℕ) (began c : Course) (written : ℕ) (known now : Option (List ℕ)) : Type 0 where
   pub rest : AtRest c
   pub has : HasGroups c
   pub wrote : Wrote until (reached_in began.window) (reached_in c.window) written known now
@@ -147,10 +147,10 @@ pub record Rests (until : ℕ) (began c : Course) (written : ℕ) (known now : O
   pub ahead : c.ahead ≡ began.ahead
 
 -- a text is owed, and nothing of it was written; the sink has not failed
-pub record AwaitsSink (until : ℕ) (began c : Course) (owed : Owed) (written : ℕ) (known now : Option (List ℕ)) (failures failed : ℕ) : Type 0 where
-  pub owing : IsOwing until began c (owed_text owed) owed.lines written known now
-  pub ready : IsReady owed.text
-  pub waits : owed.put ≡ None
+pub record AwaitsSink (until : ℕ) (began c : Course) (pending_text : PendingText) (written : ℕ) (known now : Option (List ℕ)) (failures failed : ℕ) : Type 0 where
+  pub owing : IsOwing until began c (text_pending pending_text) pending_text.lines written known now
+  pub ready : IsReady pending_text.text
+  pub waits : pending_text.put ≡ None
   pub failures_are : failed ≡ failures
 
 -- a call of windows by so many workers has ended
@@ -165,6 +165,6 @@ pub record HasEnded (workers until : ℕ) (began new : Course) (r : Result Stop 
   pub ahead : new.ahead ≡ began.ahead
 
 -- a call of windows by so many workers has come so far, or ended
-abbrev pub StandsAt : ℕ → ℕ → Course → Course → Owed → ℕ → Option (List ℕ) → Option (List ℕ) → ℕ → ℕ → Stage → Type 0
-StandsAt workers until began c owed written known now failures failed ToShare = AwaitsSink until began c owed written known now failures failed
-StandsAt workers until began c owed written known now failures failed (Ended r) = HasEnded workers until began c r known now failures failed
+abbrev pub StandsAt : ℕ → ℕ → Course → Course → PendingText → ℕ → Option (List ℕ) → Option (List ℕ) → ℕ → ℕ → Stage → Type 0
+StandsAt workers until began c pending_text written known now failures failed ToShare = AwaitsSink until began c pending_text written known now failures failed
+StandsAt workers until began c pending_text written known now failures failed (Ended r) = HasEnded workers until began c r known now failures failed

@@ -7,7 +7,7 @@ use Rattle.atomic_table.specs.Seated.{TableId, table_id_coded}
 use Rattle.atomic_table.specs.Table.{Me, State, Step}
 use Rattle.line_merge.specs.SheafCode.{sheaf_code}
 use Rattle.window_core.specs.Sheaves.{SheafValue}
-use Rattle.window_engine.specs.declared.scribe.Scribe.{Scribe}
+use Rattle.window_engine.specs.declared.formatter.TextFormatter.{TextFormatter}
 use Rattle.window_engine.specs.Parts.{IsRight}
 
 -- which desk it is, and the lines of which text is made
@@ -19,20 +19,20 @@ abbrev pub desk_code : Coded DeskState
 desk_code = code_by (TableId × SheafValue) (coded× table_id_coded sheaf_code) (λ d. (d.table, d.sheaf)) (λ t. record { table = t.0; sheaf = t.1 }) (λ _. refl)
 
 -- a clause sees of a pass which desk it is of
-abbrev pub PassState : Type 0
-PassState = TableId
+abbrev pub TicketState : Type 0
+TicketState = TableId
 
 -- the pass is of this desk
-abbrev pub IsPassOf : DeskState → PassState → Type 0
-IsPassOf desk pass = pass ≡ desk.table
+abbrev pub IsTicketOf : DeskState → TicketState → Type 0
+IsTicketOf desk ticket = ticket ≡ desk.table
 
 -- a desk as its steps see it: the words of its places, and what lies there
 abbrev pub Places : Type 0
-Places = State (Option Scribe) Unit
+Places = State (Option TextFormatter) Unit
 
 -- what lies at the place is there, and is right where it is something
-abbrev pub LiesRight : SheafValue → opt.Option (opt.Option (Option Scribe)) → Type 0
-LiesRight sheaf home = (x : Option Scribe) × (home ≡ opt.some (opt.some x)) × IfSome x (IsRight sheaf)
+abbrev pub LiesRight : SheafValue → opt.Option (opt.Option (Option TextFormatter)) → Type 0
+LiesRight sheaf home = (x : Option TextFormatter) × (home ≡ opt.some (opt.some x)) × IfSome x (IsRight sheaf)
 
 -- between any two steps: what lies at a place is right, unless its word is 1: then a thread has taken the place. It is 0 before, and more where something was laid down
 pub record IsDesk (sheaf : SheafValue) (s : Places) : Type 0 where
@@ -41,8 +41,8 @@ pub record IsDesk (sheaf : SheafValue) (s : Places) : Type 0 where
 
 -- a pass as its steps see it: the places that it has taken
 abbrev pub Passing : Type 0
-Passing = Me (Option Scribe) Unit
+Passing = Me (Option TextFormatter) Unit
 
 -- where the word was 0, the pass has taken the place
-abbrev pub taken : Step (Option Scribe) → Passing → ℕ → Passing → Type 0
-taken st m found n = (found ≡ 0 → (x : Option Scribe) × (n ≡ (m.0, (st.word, x) ∷ m.1))) × (found ≢ 0 → n ≡ m)
+abbrev pub place_taken : Step (Option TextFormatter) → Passing → ℕ → Passing → Type 0
+place_taken st m found n = (found ≡ 0 → (x : Option TextFormatter) × (n ≡ (m.0, (st.word, x) ∷ m.1))) × (found ≢ 0 → n ≡ m)

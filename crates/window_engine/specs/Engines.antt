@@ -2,7 +2,7 @@
 use Rattle.std.specs.Prelude.{ℕ, ◌+◌, ◌<◌, ◌≡◌, ◌≢◌, min, Bool, List, length, Option, None, Some, option_map, Result, Err, OnOk}
 use Rattle.std.specs.Io.KnownBytes.{Appends}
 use Rattle.sim_time.specs.declared.key.Key.{Key}
-use Rattle.ranking.specs.Keyed.{next_key}
+use Rattle.tournament.specs.Keyed.{next_key}
 use Rattle.node_core.specs.TraceLine.{TraceLine}
 use Rattle.table_run.specs.State.{State, due, run}
 use Rattle.net_machine.specs.Run.{Reached}
@@ -24,12 +24,12 @@ pub record EngineValue : Type 0 where
   pub failed : Bool
 
 -- the net that ends by another moment
-abbrev pub up_to : ℕ → State → State
-up_to moment s = record { parts = s.parts; pending = s.pending; end = moment }
+abbrev pub net_up_to : ℕ → State → State
+net_up_to moment s = record { parts = s.parts; pending = s.pending; end = moment }
 
 -- no event below the moment is pending
 abbrev pub NoneBelow : ℕ → State → Type 0
-NoneBelow moment s = due (up_to moment s) ≡ None
+NoneBelow moment s = due (net_up_to moment s) ≡ None
 
 -- when the least pending event is
 abbrev pub next_time : State → Option ℕ
@@ -62,9 +62,9 @@ pub record GoesOn (old : Reached) (batch : BatchValue) (new : Reached) : Type 0 
   pub whole : AreWhole batch.lines new.state
 
 -- what a sink took of a text in a call: all of it, or its first bytes, where the call ended since the sink failed
-abbrev pub Takes : {T : Type 0} → Result T EngineFault → List ℕ → Option (List ℕ) → Option (List ℕ) → Type 0
-Takes (Err (Sink written)) text old new = TakesFirst written text old new
-Takes _ text old new = Appends old new text
+abbrev pub SinkTakes : {T : Type 0} → Result T EngineFault → List ℕ → Option (List ℕ) → Option (List ℕ) → Type 0
+SinkTakes (Err (Sink written)) text old new = TakesFirst written text old new
+SinkTakes _ text old new = Appends old new text
 
 -- the next lines of the run from a net were committed, those of whole windows and each of an event below a moment, and a sink took their text; where the call had no fault, the other net is the one after them
 pub record Commits {T : Type 0} (until : ℕ) (old : Reached) (r : Result T EngineFault) (new : Reached) (before after : Option (List ℕ)) : Type 0 where
@@ -75,7 +75,7 @@ pub record Commits {T : Type 0} (until : ℕ) (old : Reached) (r : Result T Engi
   pub early : AreBelow until lines
   pub position_is : new.position ≡ old.position + length lines
   pub state_is : OnOk r (new.state ≡ state)
-  pub takes : Takes r (text_from (old.position + 1) lines) before after
+  pub takes : SinkTakes r (text_from (old.position + 1) lines) before after
 
 -- where windows ended: at the run's end, or with no event left below a moment, and later ones left
 abbrev pub IsStop : ℕ → State → Stop → Type 0

@@ -5,7 +5,7 @@ pub mod Over
 pub mod Puts
 pub mod Text
 pub mod Parts
-pub mod Owed
+pub mod PendingText
 pub mod Desks
 pub mod Engines
 pub mod EngineCode

@@ -50,8 +50,8 @@ as_fault group.NoMemory = NoMemory
 as_fault group.CountFull = CountFull
 
 -- a piece that did not come back counts before a refusal, and of several refusals the first
-abbrev pub fault_of : List Slot → Option EngineFault
-fault_of slots = if any_out slots then Some Failed else option_map as_fault (first_refusal slots)
+abbrev pub slots_fault : List Slot → Option EngineFault
+slots_fault slots = if any_out slots then Some Failed else option_map as_fault (first_refusal slots)
 
 -- no piece is left waiting
 abbrev pub NoneWaits : List Slot → Type 0
@@ -68,7 +68,7 @@ pub record StoppedBy (laid : List PieceState) (e : EngineFault) : Type 0 where
   pub slots : List Slot
   pub count : length slots ≡ length laid
   pub each : (i : ℕ) (x : Slot) → slice_get slots i ≡ Some x → CameOf laid i x
-  pub fault : fault_of slots ≡ Some e
+  pub fault : slots_fault slots ≡ Some e
 
 -- memory was refused, or the pieces say it
 abbrev pub IsPiecesFault : List PieceState → EngineFault → Type 0

@@ -1,57 +1,57 @@
 -- The text of a window's lines, in parts that threads made.
 use Rattle.std.specs.Prelude.{◌≡◌, ◌≤◌, ◌<◌, ◌+◌, ◌-◌, ℕ, zero, suc, All, List, [], ◌∷◌, ◌++◌, length, take, drop}
 use Rattle.window_core.specs.Sheaves.{SheafValue, merged}
-use Rattle.window_engine.specs.declared.scribe.Part.{Part}
-use Rattle.window_engine.specs.declared.scribe.Scribe.{Scribe}
-use Rattle.window_engine.specs.declared.text.Place.{Place}
+use Rattle.window_engine.specs.declared.formatter.TextPart.{TextPart}
+use Rattle.window_engine.specs.declared.formatter.TextFormatter.{TextFormatter}
+use Rattle.window_engine.specs.declared.text.TextPlace.{TextPlace}
 use Rattle.window_engine.specs.declared.text.Text.{Text}
 use Rattle.window_engine.specs.Text.{text_from}
 
 -- the bytes of a part, in the text that has it
-abbrev pub bytes_in : List ℕ → Part → List ℕ
+abbrev pub bytes_in : List ℕ → TextPart → List ℕ
 bytes_in text part = take (part.end - part.start) (drop part.start text)
 
 -- the bytes of the part are in the text
-pub record IsIn (text : List ℕ) (part : Part) : Type 0 where
+pub record IsIn (text : List ℕ) (part : TextPart) : Type 0 where
   pub start : part.start ≤ part.end
   pub end : part.end ≤ length text
 
 -- the part has the text of its lines
-pub record HasText (s : SheafValue) (text : List ℕ) (part : Part) : Type 0 where
+pub record HasText (s : SheafValue) (text : List ℕ) (part : TextPart) : Type 0 where
   pub inside : IsIn text part
   pub within : part.from + part.count ≤ length (merged s).lines
   pub is : bytes_in text part ≡ text_from (s.first + part.from) (take part.count (drop part.from (merged s).lines))
 
 -- each of its parts has the text of its lines
-abbrev pub IsRight : SheafValue → Scribe → Type 0
-IsRight s scribe = All (HasText s scribe.text) scribe.parts.items
+abbrev pub IsRight : SheafValue → TextFormatter → Type 0
+IsRight s formatter = All (HasText s formatter.text) formatter.parts.items
 
 -- so has each thread's
-abbrev pub AreRight : SheafValue → List Scribe → Type 0
+abbrev pub AreRight : SheafValue → List TextFormatter → Type 0
 AreRight s scribes = All (IsRight s) scribes
 
 -- the text of a thread by its number
-abbrev pub text_at : List Scribe → ℕ → List ℕ
+abbrev pub text_at : List TextFormatter → ℕ → List ℕ
 text_at [] i = []
-text_at (scribe ∷ scribes) zero = scribe.text
-text_at (scribe ∷ scribes) (suc i) = text_at scribes i
+text_at (formatter ∷ scribes) zero = formatter.text
+text_at (formatter ∷ scribes) (suc i) = text_at scribes i
 
 -- the bytes at a place
-abbrev pub bytes_at : List Scribe → Place → List ℕ
-bytes_at scribes place = bytes_in (text_at scribes place.scribe) place.part
+abbrev pub bytes_at : List TextFormatter → TextPlace → List ℕ
+bytes_at scribes place = bytes_in (text_at scribes place.formatter) place.part
 
 -- the bytes of a place are there
-pub record IsInside (scribes : List Scribe) (place : Place) : Type 0 where
-  pub scribe : place.scribe < length scribes
-  pub part : IsIn (text_at scribes place.scribe) place.part
+pub record IsInside (scribes : List TextFormatter) (place : TextPlace) : Type 0 where
+  pub formatter : place.formatter < length scribes
+  pub part : IsIn (text_at scribes place.formatter) place.part
 
 -- the bytes at the places, one after another
-abbrev pub text_of : List Scribe → List Place → List ℕ
+abbrev pub text_of : List TextFormatter → List TextPlace → List ℕ
 text_of scribes [] = []
 text_of scribes (place ∷ places) = bytes_at scribes place ++ text_of scribes places
 
 -- at the place is the text of some lines from an index on
-pub record IsPlaceAt (s : SheafValue) (scribes : List Scribe) (at : ℕ) (place : Place) : Type 0 where
+pub record IsPlaceAt (s : SheafValue) (scribes : List TextFormatter) (at : ℕ) (place : TextPlace) : Type 0 where
   pub inside : IsInside scribes place
   pub some : 0 < place.part.count
   pub within : at + place.part.count ≤ length (merged s).lines
@@ -59,10 +59,10 @@ pub record IsPlaceAt (s : SheafValue) (scribes : List Scribe) (at : ℕ) (place 
 
 -- a text's bytes are where its places say
 pub record IsReady (text : Text) : Type 0 where
-  pub inside : All (IsInside text.scribes.items) text.order.items
-  pub few : length text.order.items ≤ 64
+  pub inside : All (IsInside text.scribes.items) text.job.items
+  pub few : length text.job.items ≤ 64
 
 -- at the places, in their order, is the text of all lines
 pub record IsWhole (s : SheafValue) (text : Text) : Type 0 where
   pub ready : IsReady text
-  pub is : text_of text.scribes.items text.order.items ≡ text_from s.first (merged s).lines
+  pub is : text_of text.scribes.items text.job.items ≡ text_from s.first (merged s).lines

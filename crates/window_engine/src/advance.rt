@@ -11,17 +11,17 @@ ghost use Rattle.window_core.specs.Windows.{AreBelow};
 ghost use Rattle.window_engine.specs.Edges.{IsAtEdge, StaysNet, edge_of, reached_in};
 ghost use Rattle.window_engine.specs.Engines.{GoesOn, IsNext, NoneBelow};
 ghost use Rattle.window_engine.specs.Outcomes.{IsWorkersFault};
-ghost use Rattle.window_engine.specs.Owed.{Owes};
+ghost use Rattle.window_engine.specs.PendingText.{Owes};
 ghost use Rattle.window_engine.specs.Parts.{AreRight};
 ghost use Rattle.window_engine.specs.Laid.{laid_for, HasRun, HasRunOr, HasFullGroup, IsDoneBy};
 
 use crate::fault::{EngineFault, group_fault};
+use crate::formatter::TextFormatter;
 use crate::gate::Gate;
-use crate::lines::Lines;
-use crate::order::Order;
-use crate::owed::Owed;
+use crate::job::Job;
+use crate::lines::LineTarget;
+use crate::pending_text::PendingText;
 use crate::pieces::run_pieces;
-use crate::scribe::Scribe;
 use crate::sink::Sink;
 use sim_time::Time;
 use std::alloc::{AllocError, Global};
@@ -83,14 +83,14 @@ fn run_in_turn(gate: &Gate, window: &mut Window) -> Result<(), EngineFault>
 /// written meanwhile. After a fault they are out.
 pub(crate) fn run_apart<R: Wait, S: Sink>(
     rt: &R,
-    pool: &ThreadPool<Order>,
+    pool: &ThreadPool<Job>,
     alloc: Global,
     workers: usize,
     gate: &Gate,
     window: &mut Window,
     sheaf: &mut Sheaf,
-    scribes: &mut Vec<Scribe>,
-    owed: &mut Owed,
+    scribes: &mut Vec<TextFormatter>,
+    pending_text: &mut PendingText,
     before: &Snapshot<S>,
     sink: &mut S,
 ) -> Result<(), EngineFault>
@@ -101,19 +101,29 @@ pub(crate) fn run_apart<R: Wait, S: Sink>(
     requires workers { (1 < workers) × (workers ≤ 64) }
     requires right { AreRight sheaf.old scribes.old.items }
     requires fits { sheaf.old.first + length (merged sheaf.old).lines < 2 ^ 63 }
-    requires owes { Owes owed.old (S.contents before.now.value) (S.contents sink.old) (S.failures before.now.value) (S.failures sink.old) }
+    requires owes { Owes pending_text.old (S.contents before.now.value) (S.contents sink.old) (S.failures before.now.value) (S.failures sink.old) }
     ensures done { OnOk result (HasRun window.old window.new) }
     ensures stays { StaysNet window.old window.new }
     ensures fault { IfErr result (IsWorkersFault workers (HasFullGroup window.old)) }
     ensures sheaf { sheaf.new ≡ sheaf.old }
     ensures right { AreRight sheaf.new scribes.new.items }
-    ensures owes { Owes owed.new (S.contents before.now.value) (S.contents sink.new) (S.failures before.now.value) (S.failures sink.new) }
-    ensures same { owed.new ≡ record owed.old { put = owed.new.put } }
+    ensures owes { Owes pending_text.new (S.contents before.now.value) (S.contents sink.new) (S.failures before.now.value) (S.failures sink.new) }
+    ensures same { pending_text.new ≡ record pending_text.old { put = pending_text.new.put } }
 {
     let end = window.end();
     let pieces = pieces_of(alloc, window.take_groups(), end)?;
     let groups = run_pieces(
-        rt, pool, alloc, workers, gate, pieces, sheaf, scribes, owed, before, sink,
+        rt,
+        pool,
+        alloc,
+        workers,
+        gate,
+        pieces,
+        sheaf,
+        scribes,
+        pending_text,
+        before,
+        sink,
     )?;
     window.put_groups(groups);
     Ok(())
@@ -122,7 +132,7 @@ pub(crate) fn run_apart<R: Wait, S: Sink>(
 /// Where workers have not run the groups, runs them on the calling thread, up to the window's end or a
 /// moment that is sooner, in the memory of lines that are read. How the window was before is for clauses
 /// alone.
-fn run_rest<L: Lines>(
+fn run_rest<L: LineTarget>(
     gate: &Gate,
     ran: bool,
     until: Time,
@@ -151,7 +161,7 @@ fn run_rest<L: Lines>(
 /// Ends a window that workers have run, up to its end or a moment that is sooner, or that is as it was:
 /// then the calling thread runs it, and it is turned. A window with an event in it has a line. After a
 /// fault groups may be out, and there may be no lines. How the window was before is for clauses alone.
-pub(crate) fn finish<L: Lines>(
+pub(crate) fn finish<L: LineTarget>(
     gate: &Gate,
     _workers: usize,
     ran: Result<bool, EngineFault>,
@@ -168,10 +178,10 @@ pub(crate) fn finish<L: Lines>(
     requires stays { StaysNet before.now.value window.old }
     requires fault { IfErr ran (IsWorkersFault _workers (HasTooMany (reached_in before.now.value))) }
     ensures edge { OnOk result (IsAtEdge window.new) }
-    ensures gone { OnOk result (GoesOn (reached_in before.now.value) (L.told lines.new) (reached_in window.new)) }
+    ensures gone { OnOk result (GoesOn (reached_in before.now.value) (L.reported lines.new) (reached_in window.new)) }
     ensures none_left { OnOk result (NoneBelow (min before.now.value.until until) (edge_of window.new)) }
-    ensures early { OnOk result (AreBelow (min before.now.value.until until) (L.told lines.new).lines) }
-    ensures some { OnOk result ((time : ℕ) → IsNext until (edge_of before.now.value) time → 0 < length (L.told lines.new).lines) }
+    ensures early { OnOk result (AreBelow (min before.now.value.until until) (L.reported lines.new).lines) }
+    ensures some { OnOk result ((time : ℕ) → IsNext until (edge_of before.now.value) time → 0 < length (L.reported lines.new).lines) }
     ensures stays { StaysNet before.now.value window.new }
     ensures fault { IfErr result (IsWorkersFault _workers (HasTooMany (reached_in before.now.value))) }
 {

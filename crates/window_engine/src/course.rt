@@ -7,12 +7,12 @@ ghost use Rattle.window_core.specs.Sheaves.{merged};
 ghost use Rattle.window_core.specs.Windows.{AreBelow};
 ghost use Rattle.window_engine.specs.Edges.{IsAtEdge, StaysNet, edge_of, reached_in};
 ghost use Rattle.window_engine.specs.Engines.{Commits, GoesOn, IsNext, IsStop, next_time, sink_failures};
-ghost use Rattle.window_engine.specs.Courses.{AtRest, HasGroups, CanTell, Wrote, Broke, fails_after, told_as};
+ghost use Rattle.window_engine.specs.Courses.{AtRest, HasGroups, CanTell, Wrote, Broke, fails_after, reported_as};
 ghost use Rattle.window_engine.specs.Outcomes.{IsOfRun};
 ghost use Rattle.window_engine.specs.Parts.{IsWhole};
 
 use crate::fault::{EngineFault, Stop};
-use crate::pace::{Pace, Turnout};
+use crate::granularity::{Granularity, Turnout};
 use crate::slice::{aim, slice_after};
 use sim_time::Time;
 use std::alloc::Global;
@@ -32,7 +32,7 @@ pub(crate) struct Course {
     /// The least delay of a link between two of them, in nanoseconds.
     pub ahead: Option<Time>,
     /// Whether events are run by windows or one after another, and for how long.
-    pub pace: Pace,
+    pub granularity: Granularity,
     /// The net, by groups.
     pub window: Window,
     /// Events before this moment are run, in nanoseconds.
@@ -47,7 +47,7 @@ pub(crate) struct Course {
 
 /// A window that is to be run.
 #[derive(Clone, Copy, Drop)]
-pub(crate) struct Plan {
+pub(crate) struct WindowPlan {
     /// When its first event is, in nanoseconds.
     pub next: Time,
     /// By when it ends at the latest.
@@ -68,9 +68,9 @@ pub(crate) enum WriteFault {
 }
 
 /// The fault as the engine tells it, after so many bytes of earlier windows.
-pub(crate) fn told(fault: WriteFault, written: u128) -> EngineFault
+pub(crate) fn reported(fault: WriteFault, written: u128) -> EngineFault
     requires { CanTell written fault }
-    ensures { result ≡ told_as written fault }
+    ensures { result ≡ reported_as written fault }
 {
     match fault {
         WriteFault::Workers(fault) => fault,
@@ -112,7 +112,7 @@ impl Course {
 
     /// The next window, which ends by a moment at the latest and is no longer than a slice, where an event
     /// is left below the moment; else why windows end.
-    pub(crate) fn plan(&self, until: Time, slice: Time) -> Result<Plan, Stop>
+    pub(crate) fn plan(&self, until: Time, slice: Time) -> Result<WindowPlan, Stop>
         requires edge { IsAtEdge self.now.window }
         requires end { self.now.end ≡ self.now.window.end }
         requires slice { 1 ≤ slice }
@@ -123,7 +123,7 @@ impl Course {
         let next = self.next_below(until)?;
         let bound = until.min(next.saturating_add(slice));
         let end = self.window.end();
-        Ok(Plan {
+        Ok(WindowPlan {
             next,
             bound,
             span: end.min(bound).saturating_sub(next),
@@ -143,7 +143,7 @@ impl Course {
     }
 
     /// How long the next window may be after one, by so many workers, in nanoseconds.
-    pub(crate) fn slice_after(&self, plan: &Plan, workers: usize) -> Time
+    pub(crate) fn slice_after(&self, plan: &WindowPlan, workers: usize) -> Time
         ensures { 1 ≤ result }
     {
         let events = self.sheaf.len();
@@ -155,7 +155,7 @@ impl Course {
     /// the next events are run by windows: not where the last windows held few events or threads came late to them, and
     /// after a while again, to see how it is then; and always for a gate that asks for all workers in each window.
     pub(crate) fn choose(&mut self, worth: usize, whole: bool, turnout: Turnout)
-        ensures { self.new ≡ record self.old { pace = self.new.pace } }
+        ensures { self.new ≡ record self.old { granularity = self.new.granularity } }
     {
         if worth == 0 {
             return;
@@ -166,8 +166,8 @@ impl Course {
         } else {
             turnout
         };
-        self.pace.count(self.sheaf.len(), whole, turnout);
+        self.granularity.count(self.sheaf.len(), whole, turnout);
         let (nodes, groups) = (self.groups.nodes(), self.groups.groups());
-        self.pace.choose(nodes, groups);
+        self.granularity.choose(nodes, groups);
     }
 }

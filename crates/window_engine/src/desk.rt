@@ -1,14 +1,14 @@
 //! Where the threads of a window lay down what they made of its text.
 ghost use Rattle.std.specs.Prelude.{◌≡◌, IfOk};
-ghost use Rattle.window_engine.specs.Desks.{IsPassOf};
+ghost use Rattle.window_engine.specs.Desks.{IsTicketOf};
 ghost use Rattle.window_engine.specs.Parts.{AreRight, IsRight};
 
-mod pass;
 mod rule;
+mod ticket;
 
-pub(crate) use self::pass::Pass;
-use self::rule::{Cut, DeskRule, Lay, Take};
-use crate::scribe::Scribe;
+use self::rule::{DeskCut, DeskRule, Lay, Take};
+pub(crate) use self::ticket::Ticket;
+use crate::formatter::TextFormatter;
 use atomic_table::Table;
 use std::alloc::{AllocError, Global};
 use std::marker::Model;
@@ -25,7 +25,7 @@ const LAID: u64 = 2;
 #[derive(Drop)]
 pub(crate) struct Desk {
     /// A word and a slot for each place: at least one.
-    table: Table<Option<Scribe>, (), Snapshot<Sheaf>, DeskRule, Global>,
+    table: Table<Option<TextFormatter>, (), Snapshot<Sheaf>, DeskRule, Global>,
 }
 
 impl Model for Desk {
@@ -48,47 +48,49 @@ impl Desk {
         alloc: Global,
         sheaf: &Sheaf,
         places: usize,
-    ) -> Result<(Desk, Pass), AllocError>
+    ) -> Result<(Desk, Ticket), AllocError>
         ensures sheaf { IfOk result (λ r. r.0.sheaf ≡ sheaf.now) }
-        ensures pass { IfOk result (λ r. IsPassOf r.0 r.1) }
+        ensures ticket { IfOk result (λ r. IsTicketOf r.0 r.1) }
     {
         let places = places.max(1);
         let words = vec![in alloc; 0u64; places]?;
         let about = Snapshot::of(sheaf);
         let (table, seat) = Table::vacant(alloc, words.as_slice(), places, &about)?;
-        Ok((Desk { table }, Pass { seat }))
+        Ok((Desk { table }, Ticket { seat }))
     }
 
     /// A second pass. It takes no memory.
-    pub(crate) fn split(&self, pass: Pass) -> (Pass, Pass)
-        requires { IsPassOf self.now pass }
-        ensures first { IsPassOf self.now result.0 }
-        ensures second { IsPassOf self.now result.1 }
+    pub(crate) fn split(&self, ticket: Ticket) -> (Ticket, Ticket)
+        requires { IsTicketOf self.now ticket }
+        ensures first { IsTicketOf self.now result.0 }
+        ensures second { IsTicketOf self.now result.1 }
     {
-        let Pass { mut seat } = pass;
-        let other = self.table.shared.split_seat::<Cut>(&mut seat);
-        (Pass { seat }, Pass { seat: other })
+        let Ticket { mut seat } = ticket;
+        let other = self.table.shared.split_seat::<DeskCut>(&mut seat);
+        (Ticket { seat }, Ticket { seat: other })
     }
 
     /// Lays down what a thread made, at a place that nobody has taken. Where it is taken, or there is no such place, it
     /// is given up. It takes no memory.
-    pub(crate) fn lay_down(&self, pass: Pass, place: usize, scribe: Scribe)
-        requires pass { IsPassOf self.now pass }
-        requires right { IsRight self.now.sheaf scribe }
+    pub(crate) fn lay_down(&self, ticket: Ticket, place: usize, formatter: TextFormatter)
+        requires ticket { IsTicketOf self.now ticket }
+        requires right { IsRight self.now.sheaf formatter }
     {
         if place >= self.table.word_count() {
             return;
         }
-        let Pass { mut seat } = pass;
+        let Ticket { mut seat } = ticket;
         if self.table.shared.fetch_or::<Take>(&mut seat, place, TAKEN) != 0 {
             return;
         }
-        self.table.shared.exchange(&mut seat, place, Some(scribe));
+        self.table
+            .shared
+            .exchange(&mut seat, place, Some(formatter));
         self.table.shared.fetch_or::<Lay>(&mut seat, place, LAID);
     }
 
     /// Ends the desk, and gives what was laid down behind others. Where there is no memory for one it is given up.
-    pub(crate) fn clear(self, scribes: &mut Vec<Scribe>)
+    pub(crate) fn clear(self, scribes: &mut Vec<TextFormatter>)
         requires { AreRight self.sheaf scribes.old.items }
         ensures { AreRight self.sheaf scribes.new.items }
     {
@@ -98,9 +100,9 @@ impl Desk {
             let word = closed.word(place);
             let laid = closed.take(place);
             if word != TAKEN
-                && let Some(scribe) = laid
+                && let Some(formatter) = laid
             {
-                let _ = scribes.push(scribe);
+                let _ = scribes.push(formatter);
             }
         }
         closed.free();

@@ -3,7 +3,7 @@ ghost use Rattle.std.specs.Prelude.{◌≡◌, ◌≢◌, ◌<◌, ◌≤◌, �
 ghost use Rattle.scenario_image.specs.declared.parts.ScenarioParts.{ScenarioParts};
 ghost use Rattle.scenario_image.specs.Scenario.{IsScenario};
 ghost use Rattle.node_core.specs.TraceLine.{TraceLine};
-ghost use Rattle.table_run.specs.State.{due, opening};
+ghost use Rattle.table_run.specs.State.{due, initial};
 ghost use Rattle.table_run.specs.Laws.{ComesTo};
 ghost use Rattle.net_machine.specs.Run.{IsRun};
 ghost use Rattle.window_core.specs.Full.{HasTooMany};
@@ -15,12 +15,12 @@ ghost use Rattle.window_engine.specs.Engines.{GoesOn, NoneBelow, Commits, IsNext
 
 use crate::advance::finish;
 use crate::course::Course;
-use crate::crew::Crew;
 use crate::fault::{EngineFault, Stop};
 use crate::gate::Gate;
-use crate::pace::Pace;
+use crate::granularity::Granularity;
 use crate::several::Hands;
 use crate::sink::Sink;
+use crate::window_workers::WindowWorkers;
 use net_machine::Net;
 use scenario_image::Scenario;
 use sim_time::Time;
@@ -57,25 +57,25 @@ impl Model for Engine {
 
 /// The numbers of the nodes, those of the first group before those of the second, and so on.
 fn by_groups(alloc: Global, partition: &Partition) -> Result<Vec<u16>, AllocError> {
-    let mut order = Vec::new(alloc);
+    let mut job = Vec::new(alloc);
     for group in 0..partition.groups() {
         for node in 0..partition.nodes() {
             match u16::try_from(node) {
-                Ok(number) if partition.group(node) == group => order.push(number)?,
+                Ok(number) if partition.group(node) == group => job.push(number)?,
                 _ => {}
             }
         }
     }
-    Ok(order)
+    Ok(job)
 }
 
 /// The net of a scenario before anything is sent. What the nodes of a group keep stands together in memory, so that
 /// workers do not write to the same cache lines.
-fn opening_net(alloc: Global, scenario: &Scenario, partition: &Partition) -> Result<Net, AllocError>
-    ensures state { IfOk result (λ net. net ≡ record { state = opening scenario.now; position = 0 }) }
+fn initial_net(alloc: Global, scenario: &Scenario, partition: &Partition) -> Result<Net, AllocError>
+    ensures state { IfOk result (λ net. net ≡ record { state = initial scenario.now; position = 0 }) }
 {
-    let order = by_groups(alloc, partition)?;
-    Net::new(alloc, scenario)?.copy_in(&order)
+    let job = by_groups(alloc, partition)?;
+    Net::new(alloc, scenario)?.copy_in(&job)
 }
 
 impl Engine {
@@ -86,10 +86,10 @@ impl Engine {
         partition: Partition,
     ) -> Result<Engine, AllocError>
         requires { length partition ≡ length scenario.now.nodes }
-        ensures { IfOk result (λ e. e ≡ record { entries = partition; ahead = lookahead (group_in partition) scenario.now.links; net = record { state = opening scenario.now; position = 0 }; failed = false }) }
+        ensures { IfOk result (λ e. e ≡ record { entries = partition; ahead = lookahead (group_in partition) scenario.now.links; net = record { state = initial scenario.now; position = 0 }; failed = false }) }
     {
         let _parts = scenario.parts();
-        let net = opening_net(alloc, scenario, &partition)?;
+        let net = initial_net(alloc, scenario, &partition)?;
         Engine::at(alloc, net, partition)
     }
 
@@ -110,7 +110,7 @@ impl Engine {
                 course: Course {
                     groups,
                     ahead: window.lookahead(),
-                    pace: Pace::new(),
+                    granularity: Granularity::new(),
                     window,
                     end,
                     position,
@@ -189,7 +189,7 @@ impl Engine {
         let _reached = self.course.window.position();
         let alloc = self.course.alloc;
         let before = Snapshot::of(&self.course.window);
-        let crew = Crew {
+        let window_workers = WindowWorkers {
             gate,
             workers,
             // No text is made.
@@ -199,11 +199,11 @@ impl Engine {
         let mut none = Sheaf::new(alloc, 1);
         let mut scribes = Vec::new(alloc);
         let window = &mut self.course.window;
-        let many = crew.hands(window, self.shared, 0, until);
+        let many = window_workers.hands(window, self.shared, 0, until);
         let ran = if many == 1 {
             Ok(false)
         } else {
-            crew.run_once(hands, many, until, window, &mut none, &mut scribes)
+            window_workers.run_once(hands, many, until, window, &mut none, &mut scribes)
         };
         let mut batch = Batch::new(alloc, 0);
         match finish(gate, workers, ran, until, &before, window, &mut batch) {
@@ -246,13 +246,15 @@ impl Engine {
         }
         let _reached = self.course.window.position();
         let alloc = self.course.alloc;
-        let crew = Crew {
+        let window_workers = WindowWorkers {
             gate,
             workers,
             processors: hands.processors(),
             alloc,
         };
-        let outcome = self.course.write_together(hands, &crew, until, sink);
+        let outcome = self
+            .course
+            .write_together(hands, &window_workers, until, sink);
         self.failed = outcome.is_err();
         outcome
     }

@@ -2,7 +2,7 @@
 ghost use Rattle.std.specs.Prelude.{◌≡◌, ◌⊎◌, All, map as each, Some, None, IfOk, IfErr, OnOk};
 ghost use Rattle.window_core.specs.Group.{AfterFirings};
 ghost use Rattle.work_board.specs.Pieces.{PieceState};
-ghost use Rattle.window_engine.specs.Outcomes.{NoneWaits, SomeFull, fault_of, finished_of};
+ghost use Rattle.window_engine.specs.Outcomes.{NoneWaits, SomeFull, slots_fault, finished_of};
 
 use crate::fault::{EngineFault, group_fault};
 use std::alloc::Global;
@@ -13,9 +13,9 @@ use work_board::Slot;
 /// told before a refusal, and of several refusals the first.
 pub(crate) fn gather(alloc: Global, slots: Vec<Slot>) -> Result<Vec<Group>, EngineFault>
     requires { NoneWaits slots.items }
-    ensures ok { IfOk result (λ v. (fault_of slots.items ≡ None) × (v.items ≡ each (λ (p : PieceState). p.group) (finished_of slots.items))) }
+    ensures ok { IfOk result (λ v. (slots_fault slots.items ≡ None) × (v.items ≡ each (λ (p : PieceState). p.group) (finished_of slots.items))) }
     ensures after { OnOk result (All (λ (p : PieceState). AfterFirings p.end p.began p.group) (finished_of slots.items)) }
-    ensures err { IfErr result (λ e. (e ≡ EngineFault.NoMemory) ⊎ (fault_of slots.items ≡ Some e)) }
+    ensures err { IfErr result (λ e. (e ≡ EngineFault.NoMemory) ⊎ (slots_fault slots.items ≡ Some e)) }
     ensures full { IfErr result (λ e. e ≡ EngineFault.CountFull → SomeFull slots.items) }
 {
     let Ok(mut groups) = Vec::with_capacity(alloc, slots.len()) else {

@@ -4,7 +4,7 @@ use crate::fault::EngineFault;
 use window_core::{Batch, Sheaf, TurnFault, Window};
 
 /// What a window's lines go to.
-pub(crate) trait Lines {
+pub(crate) trait LineTarget {
     ghost use Rattle.std.specs.Prelude.{◌≡◌, true, false, IfErr, OnOk};
     ghost use Rattle.table_run.specs.State.{State};
     ghost use Rattle.window_core.specs.Batches.{BatchValue};
@@ -15,7 +15,7 @@ pub(crate) trait Lines {
     ghost use Rattle.window_engine.specs.Outcomes.{IsWorkersFault};
 
     // The lines that it has.
-    ghost told: { Self → BatchValue };
+    ghost reported: { Self → BatchValue };
 
     /// Gives the memory of lines that are read back to the groups that wrote them, where it has that.
     fn give_back(&mut self, window: &mut Window)
@@ -26,15 +26,15 @@ pub(crate) trait Lines {
     fn turn(&mut self, window: &mut Window) -> Result<(), EngineFault>
         requires inside { window.old.out ≡ false }
         requires done { all_done window.old.until (states_of window.old.groups) ≡ true }
-        ensures turned { OnOk result (HasTurned window.old (told self.new) window.new) }
-        ensures run { OnOk result ((edge : State) → IsFrom edge window.old → HasGoneOn edge (told self.new).lines window.new) }
-        ensures below { OnOk result (AreBelow window.old.until (told self.new).lines) }
+        ensures turned { OnOk result (HasTurned window.old (reported self.new) window.new) }
+        ensures run { OnOk result ((edge : State) → IsFrom edge window.old → HasGoneOn edge (reported self.new).lines window.new) }
+        ensures below { OnOk result (AreBelow window.old.until (reported self.new).lines) }
         ensures fault { IfErr result (IsWorkersFault 1 (RunsTooLong window.old)) }
         ensures stays { StaysNet window.old window.new };
 }
 
-impl Lines for Batch {
-    ghost told = { λ batch. batch };
+impl LineTarget for Batch {
+    ghost reported = { λ batch. batch };
 
     fn give_back(&mut self, _window: &mut Window) {}
 
@@ -48,10 +48,10 @@ impl Lines for Batch {
     }
 }
 
-impl Lines for Sheaf {
+impl LineTarget for Sheaf {
     ghost use Rattle.window_core.specs.Sheaves.{merged};
 
-    ghost told = { merged };
+    ghost reported = { merged };
 
     fn give_back(&mut self, window: &mut Window) {
         window.reclaim(self);

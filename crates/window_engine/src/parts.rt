@@ -42,7 +42,7 @@ pub(crate) struct Parts {
 
 /// A part: shares of the lines from one on up to another.
 #[derive(Clone, Copy, Debug, PartialEq, Eq)]
-pub(crate) struct Stretch {
+pub(crate) struct PartRange {
     /// Its first share.
     pub from: usize,
     /// The share behind its last.
@@ -119,7 +119,7 @@ impl Parts {
     }
 
     /// A part that no thread has taken yet.
-    pub(crate) fn take(&self) -> Option<Stretch>
+    pub(crate) fn take(&self) -> Option<PartRange>
         ensures { IfSome result (λ stretch. stretch.from < self.now.shares) }
     {
         let part = self.asked.fetch_add(1, SeqCst) as usize;
@@ -128,6 +128,6 @@ impl Parts {
             return None;
         }
         let to = share_of(part.saturating_add(1), self.shares, self.workers);
-        Some(Stretch { from, to })
+        Some(PartRange { from, to })
     }
 }

@@ -2,15 +2,15 @@
 ghost use Rattle.std.specs.Prelude.{◌≡◌, ◌+◌, ◌<◌, ◌≤◌, ◌^◌, length, IfOk, IfErr};
 ghost use Rattle.window_core.specs.Sheaves.{merged};
 ghost use Rattle.window_engine.specs.Outcomes.{AllRan, IsPiecesFault, SomeLaidFull};
-ghost use Rattle.window_engine.specs.Owed.{Owes};
+ghost use Rattle.window_engine.specs.PendingText.{Owes};
 ghost use Rattle.window_engine.specs.Parts.{AreRight};
 
 use crate::fault::EngineFault;
+use crate::formatter::TextFormatter;
 use crate::gate::Gate;
 use crate::gather::gather;
-use crate::order::Order;
-use crate::owed::Owed;
-use crate::scribe::Scribe;
+use crate::job::Job;
+use crate::pending_text::PendingText;
 use crate::sink::Sink;
 use crate::sweep::sweep;
 use std::alloc::Global;
@@ -25,14 +25,14 @@ use work_board::{Board, Piece};
 /// up.
 pub(crate) fn run_pieces<R: Wait, S: Sink>(
     rt: &R,
-    pool: &ThreadPool<Order>,
+    pool: &ThreadPool<Job>,
     alloc: Global,
     workers: usize,
     gate: &Gate,
     pieces: Vec<Piece>,
     sheaf: &mut Sheaf,
-    scribes: &mut Vec<Scribe>,
-    owed: &mut Owed,
+    scribes: &mut Vec<TextFormatter>,
+    pending_text: &mut PendingText,
     before: &Snapshot<S>,
     sink: &mut S,
 ) -> Result<Vec<Group>, EngineFault>
@@ -41,20 +41,30 @@ pub(crate) fn run_pieces<R: Wait, S: Sink>(
     requires workers { (0 < workers) × (workers ≤ 64) }
     requires right { AreRight sheaf.old scribes.old.items }
     requires fits { sheaf.old.first + length (merged sheaf.old).lines < 2 ^ 63 }
-    requires owes { Owes owed.old (S.contents before.now.value) (S.contents sink.old) (S.failures before.now.value) (S.failures sink.old) }
+    requires owes { Owes pending_text.old (S.contents before.now.value) (S.contents sink.old) (S.failures before.now.value) (S.failures sink.old) }
     ensures done { IfOk result (λ v. AllRan pieces.items v.items) }
     ensures err { IfErr result (IsPiecesFault pieces.items) }
     ensures full { IfErr result (λ e. e ≡ EngineFault.CountFull → SomeLaidFull pieces.items) }
     ensures sheaf { sheaf.new ≡ sheaf.old }
     ensures right { AreRight sheaf.new scribes.new.items }
-    ensures owes { Owes owed.new (S.contents before.now.value) (S.contents sink.new) (S.failures before.now.value) (S.failures sink.new) }
-    ensures same { owed.new ≡ record owed.old { put = owed.new.put } }
+    ensures owes { Owes pending_text.new (S.contents before.now.value) (S.contents sink.new) (S.failures before.now.value) (S.failures sink.new) }
+    ensures same { pending_text.new ≡ record pending_text.old { put = pending_text.new.put } }
 {
     let Ok((board, seat)) = Board::lay(alloc, pieces) else {
         return Err(EngineFault::NoMemory);
     };
     let Ok((board, seat)) = sweep(
-        rt, pool, workers, gate, board, seat, sheaf, scribes, owed, before, sink,
+        rt,
+        pool,
+        workers,
+        gate,
+        board,
+        seat,
+        sheaf,
+        scribes,
+        pending_text,
+        before,
+        sink,
     ) else {
         return Err(EngineFault::NoMemory);
     };

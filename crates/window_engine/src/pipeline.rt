@@ -9,25 +9,25 @@ ghost use Rattle.window_core.specs.Full.{HasTooMany};
 ghost use Rattle.window_core.specs.Sheaves.{merged};
 ghost use Rattle.window_core.specs.Window.{IsWindow};
 ghost use Rattle.window_core.specs.Windows.{AreBelow};
-ghost use Rattle.window_engine.specs.Courses.{AtRest, AwaitsSink, HasGroups, IsOwing, IsWriting, HasEnded, Rests, StandsAt, Wrote, Broke, fails_after};
+ghost use Rattle.window_engine.specs.Courses.{AtRest, AwaitsSink, HasGroups, IsOwing, IsWriting, HasEnded, WindowsRest, StandsAt, Wrote, Broke, fails_after};
 ghost use Rattle.window_engine.specs.Edges.{StaysNet, edge_of, reached_in};
 ghost use Rattle.window_engine.specs.Engines.{GoesOn, IsNext, IsStop};
 ghost use Rattle.window_engine.specs.Laid.{HasRunOr};
 ghost use Rattle.window_engine.specs.Outcomes.{IsWorkersFault};
-ghost use Rattle.window_engine.specs.Owed.{Owes, owed_text};
+ghost use Rattle.window_engine.specs.PendingText.{Owes, text_pending};
 ghost use Rattle.window_engine.specs.Parts.{AreRight, IsReady, IsWhole};
 
 use crate::advance::finish;
-use crate::course::{Course, Plan, WriteFault, told};
-use crate::crew::{Crew, lacks_threads};
+use crate::course::{Course, WindowPlan, WriteFault, reported};
 use crate::fault::{EngineFault, Stop};
 use crate::gate::Gate;
-use crate::order::Order;
-use crate::owed::Owed;
+use crate::job::Job;
+use crate::pending_text::PendingText;
 use crate::several::Hands;
 use crate::sink::Sink;
 use crate::slice::FIRST_SLICE;
 use crate::text::Text;
+use crate::window_workers::{WindowWorkers, lacks_threads};
 use sim_time::Time;
 use std::alloc::AllocError;
 use std::mem::swap;
@@ -41,7 +41,7 @@ struct Writing {
     /// Memory for the text of the last window's lines.
     text: Text,
     /// The text of the window before the last.
-    owed: Owed,
+    pending_text: PendingText,
     /// How long the next window may be, in nanoseconds.
     slice: Time,
     /// How many bytes were written.
@@ -97,20 +97,20 @@ impl Course {
         _known: &Snapshot<S>,
         before: &Snapshot<S>,
         _now: &Snapshot<Window>,
-        owed: &mut Owed,
+        pending_text: &mut PendingText,
         written: &mut u128,
         sink: &mut S,
     ) -> Result<(), EngineFault>
-        requires owing { IsOwing _until _began.now.value (record self.old { window = _now.now.value }) (owed_text owed.old) owed.old.lines written.old (S.contents _known.now.value) (S.contents before.now.value) }
-        requires owes { Owes owed.old (S.contents before.now.value) (S.contents sink.old) (S.failures before.now.value) (S.failures sink.old) }
+        requires owing { IsOwing _until _began.now.value (record self.old { window = _now.now.value }) (text_pending pending_text.old) pending_text.old.lines written.old (S.contents _known.now.value) (S.contents before.now.value) }
+        requires owes { Owes pending_text.old (S.contents before.now.value) (S.contents sink.old) (S.failures before.now.value) (S.failures sink.old) }
         requires failures { S.failures before.now.value ≡ S.failures _known.now.value }
         ensures writing { OnOk result (IsWriting _until _began.now.value (record self.new { window = _now.now.value }) written.new (S.contents _known.now.value) (S.contents sink.new)) }
         ensures failures { OnOk result (S.failures sink.new ≡ S.failures _known.now.value) }
         ensures rest { self.new ≡ record self.old { position = self.new.position } }
         ensures ended { IfErr result (λ fault. HasEnded _workers _until _began.now.value self.new (Err fault) (S.contents _known.now.value) (S.contents sink.new) (S.failures _known.now.value) (S.failures sink.new)) }
     {
-        let put = owed.put(before, sink);
-        self.position += owed.lines;
+        let put = pending_text.put(before, sink);
+        self.position += pending_text.lines;
         match put {
             Ok(count) => {
                 *written += count;
@@ -131,13 +131,13 @@ impl Course {
         gate: &Gate,
         workers: usize,
         _until: Time,
-        plan: &Plan,
+        plan: &WindowPlan,
         ran: Result<bool, EngineFault>,
         _began: &Snapshot<Course>,
         _known: &Snapshot<S>,
         now: &Snapshot<Window>,
         text: &mut Text,
-        owed: &mut Owed,
+        pending_text: &mut PendingText,
         written: u128,
         sink: &mut S,
     ) -> Result<Time, EngineFault>
@@ -151,9 +151,9 @@ impl Course {
         requires stays { StaysNet now.now.value self.old.window }
         requires fault { IfErr ran (IsWorkersFault workers (HasTooMany (reached_in now.now.value))) }
         ensures sink { OnOk result (sink.new ≡ sink.old) }
-        ensures owing { OnOk result (IsOwing _until _began.now.value self.new (owed_text owed.new) owed.new.lines written (S.contents _known.now.value) (S.contents sink.new)) }
-        ensures ready { OnOk result (IsReady owed.new.text) }
-        ensures waits { OnOk result (owed.new.put ≡ None) }
+        ensures owing { OnOk result (IsOwing _until _began.now.value self.new (text_pending pending_text.new) pending_text.new.lines written (S.contents _known.now.value) (S.contents sink.new)) }
+        ensures ready { OnOk result (IsReady pending_text.new.text) }
+        ensures waits { OnOk result (pending_text.new.put ≡ None) }
         ensures slice { IfOk result (λ slice. 1 ≤ slice) }
         ensures some { OnOk result ((time : ℕ) → IsNext plan.now.bound (edge_of now.now.value) time → now.now.value.position < self.new.window.position) }
         ensures ended { IfErr result (λ fault. HasEnded workers _until _began.now.value self.new (Err fault) (S.contents _known.now.value) (S.contents sink.new) (S.failures _known.now.value) (S.failures sink.new)) }
@@ -162,9 +162,9 @@ impl Course {
         let Ok(()) = text.complete(&self.sheaf) else {
             return Err(EngineFault::NoMemory);
         };
-        swap(text, &mut owed.text);
-        owed.lines = self.sheaf.len() as u64;
-        owed.put = None;
+        swap(text, &mut pending_text.text);
+        pending_text.lines = self.sheaf.len() as u64;
+        pending_text.put = None;
         let bound = plan.bound;
         match finish(
             gate,
@@ -177,8 +177,8 @@ impl Course {
         ) {
             Ok(()) => {}
             Err(fault) => {
-                self.position += owed.lines;
-                return match owed.text.put(sink) {
+                self.position += pending_text.lines;
+                return match pending_text.text.put(sink) {
                     Ok(_) => Err(fault),
                     Err(count) => Err(EngineFault::Sink {
                         written: written + count,
@@ -206,7 +206,7 @@ impl Course {
         requires writing { IsWriting _until _began.now.value self.old written.old (S.contents _known.now.value) (S.contents sink.old) }
         requires failures { S.failures sink.old ≡ S.failures _known.now.value }
         requires workers { 0 < _workers }
-        ensures rests { OnOk result (Rests _until _began.now.value self.new written.new (S.contents _known.now.value) (S.contents sink.new)) }
+        ensures rests { OnOk result (WindowsRest _until _began.now.value self.new written.new (S.contents _known.now.value) (S.contents sink.new)) }
         ensures failures { OnOk result (S.failures sink.new ≡ S.failures _known.now.value) }
         ensures rest { self.new ≡ record self.old { position = self.new.position } }
         ensures ended { IfErr result (λ fault. HasEnded _workers _until _began.now.value self.new (Err fault) (S.contents _known.now.value) (S.contents sink.new) (S.failures _known.now.value) (S.failures sink.new)) }
@@ -218,7 +218,7 @@ impl Course {
                 *written += count;
                 Ok(())
             }
-            Err(fault) => Err(told(fault, *written)),
+            Err(fault) => Err(reported(fault, *written)),
         }
     }
 
@@ -262,12 +262,12 @@ impl Course {
         requires failures { S.failures sink.old ≡ S.failures known.now.value }
         requires workers { 0 < workers }
         ensures writing { OnOk result (IsWriting until began.now.value self.new written.new (S.contents known.now.value) (S.contents sink.new)) }
-        ensures owing { OnOk result (self.old.pace.single ≡ true → IsOwing until began.now.value self.new [] 0 written.new (S.contents known.now.value) (S.contents sink.new)) }
+        ensures owing { OnOk result (self.old.granularity.single ≡ true → IsOwing until began.now.value self.new [] 0 written.new (S.contents known.now.value) (S.contents sink.new)) }
         ensures failures { OnOk result (S.failures sink.new ≡ S.failures known.now.value) }
         ensures on { OnOk result (self.old.window.position ≤ self.new.window.position) }
         ensures ended { IfErr result (λ fault. HasEnded workers until began.now.value self.new (Err fault) (S.contents known.now.value) (S.contents sink.new) (S.failures known.now.value) (S.failures sink.new)) }
     {
-        if !self.pace.is_single() {
+        if !self.granularity.is_single() {
             return Ok(());
         }
         match self.come_to_rest(workers, until, began, known, text, written, sink) {
@@ -296,8 +296,8 @@ impl Course {
         sink: &mut S,
     ) -> Result<Stop, EngineFault>
         requires now { now.now.value ≡ self.old.window }
-        requires owing { IsOwing until began.now.value self.old (owed_text writing.old.owed) writing.old.owed.lines writing.old.written (S.contents known.now.value) (S.contents before.now.value) }
-        requires owes { Owes writing.old.owed (S.contents before.now.value) (S.contents sink.old) (S.failures before.now.value) (S.failures sink.old) }
+        requires owing { IsOwing until began.now.value self.old (text_pending writing.old.pending_text) writing.old.pending_text.lines writing.old.written (S.contents known.now.value) (S.contents before.now.value) }
+        requires owes { Owes writing.old.pending_text (S.contents before.now.value) (S.contents sink.old) (S.failures before.now.value) (S.failures sink.old) }
         requires failures { S.failures before.now.value ≡ S.failures known.now.value }
         requires workers { 0 < workers }
         requires stop { IsStop until (edge_of self.old.window) stop }
@@ -310,7 +310,7 @@ impl Course {
             known,
             before,
             now,
-            &mut writing.owed,
+            &mut writing.pending_text,
             &mut writing.written,
             sink,
         )?;
@@ -337,13 +337,13 @@ impl Course {
         writing: &mut Writing,
         sink: &mut S,
     ) -> Result<(), EngineFault>
-        requires owing { AwaitsSink until began.now.value self.old writing.old.owed writing.old.written (S.contents known.now.value) (S.contents sink.old) (S.failures known.now.value) (S.failures sink.old) }
+        requires owing { AwaitsSink until began.now.value self.old writing.old.pending_text writing.old.written (S.contents known.now.value) (S.contents sink.old) (S.failures known.now.value) (S.failures sink.old) }
         requires workers { 0 < workers }
-        ensures owing { OnOk result (AwaitsSink until began.now.value self.new writing.new.owed writing.new.written (S.contents known.now.value) (S.contents sink.new) (S.failures known.now.value) (S.failures sink.new)) }
+        ensures owing { OnOk result (AwaitsSink until began.now.value self.new writing.new.pending_text writing.new.written (S.contents known.now.value) (S.contents sink.new) (S.failures known.now.value) (S.failures sink.new)) }
         ensures on { OnOk result (self.old.window.position ≤ self.new.window.position) }
         ensures ended { IfErr result (λ fault. HasEnded workers until began.now.value self.new (Err fault) (S.contents known.now.value) (S.contents sink.new) (S.failures known.now.value) (S.failures sink.new)) }
     {
-        if !self.pace.is_single() {
+        if !self.granularity.is_single() {
             return Ok(());
         }
         let (before, now) = (Snapshot::of(sink), Snapshot::of(&self.window));
@@ -354,7 +354,7 @@ impl Course {
             known,
             &before,
             &now,
-            &mut writing.owed,
+            &mut writing.pending_text,
             &mut writing.written,
             sink,
         ) {
@@ -373,30 +373,37 @@ impl Course {
             Ok(()) => {}
             Err(fault) => return Err(fault),
         }
-        writing.owed.forget();
+        writing.pending_text.forget();
         Ok(())
     }
 
-    /// Has a crew run windows, makes the text of each while the next one runs, and writes it while the one after that
+    /// Has a window_workers run windows, makes the text of each while the next one runs, and writes it while the one after that
     /// begins, until they end, or until threads are to share one and none wait for it. How the course and the sink were
     /// as the call began is for clauses alone.
     fn write_on<H: Hands, S: Sink>(
         &mut self,
         by: &H,
-        crew: &Crew,
-        pool: Option<&ThreadPool<Order>>,
+        window_workers: &WindowWorkers,
+        pool: Option<&ThreadPool<Job>>,
         until: Time,
         began: &Snapshot<Course>,
         known: &Snapshot<S>,
         writing: &mut Writing,
         sink: &mut S,
     ) -> Stage
-        requires owing { AwaitsSink until began.now.value self.old writing.old.owed writing.old.written (S.contents known.now.value) (S.contents sink.old) (S.failures known.now.value) (S.failures sink.old) }
-        ensures stands { StandsAt crew.now.workers until began.now.value self.new writing.new.owed writing.new.written (S.contents known.now.value) (S.contents sink.new) (S.failures known.now.value) (S.failures sink.new) result }
+        requires owing { AwaitsSink until began.now.value self.old writing.old.pending_text writing.old.written (S.contents known.now.value) (S.contents sink.old) (S.failures known.now.value) (S.failures sink.old) }
+        ensures stands { StandsAt window_workers.now.workers until began.now.value self.new writing.new.pending_text writing.new.written (S.contents known.now.value) (S.contents sink.new) (S.failures known.now.value) (S.failures sink.new) result }
         ensures shared { result ≡ Stage.ToShare → pool.entry ≡ None }
     {
         loop {
-            match self.write_singly_owing(crew.workers, until, began, known, writing, sink) {
+            match self.write_singly_owing(
+                window_workers.workers,
+                until,
+                began,
+                known,
+                writing,
+                sink,
+            ) {
                 Ok(()) => {}
                 Err(fault) => return Stage::Ended(Err(fault)),
             }
@@ -406,7 +413,7 @@ impl Course {
                 Err(stop) => {
                     let ended = self.end_owing(
                         stop,
-                        crew.workers,
+                        window_workers.workers,
                         until,
                         began,
                         known,
@@ -419,13 +426,13 @@ impl Course {
                 }
             };
             let shared = self.sheaf.beside_most();
-            let hands = crew.hands(&self.window, shared, self.sheaf.len(), plan.bound);
+            let hands = window_workers.hands(&self.window, shared, self.sheaf.len(), plan.bound);
             if lacks_threads(pool, hands) {
                 return Stage::ToShare;
             }
             let _reached = self.window.position();
             writing.text.clear(&self.sheaf);
-            let ran = crew.run_or_leave(
+            let ran = window_workers.run_or_leave(
                 by,
                 pool,
                 hands,
@@ -433,18 +440,18 @@ impl Course {
                 &mut self.window,
                 &mut self.sheaf,
                 &mut writing.text.scribes,
-                &mut writing.owed,
+                &mut writing.pending_text,
                 &before,
                 sink,
             );
             match self.settle(
-                crew.workers,
+                window_workers.workers,
                 until,
                 began,
                 known,
                 &before,
                 &now,
-                &mut writing.owed,
+                &mut writing.pending_text,
                 &mut writing.written,
                 sink,
             ) {
@@ -452,8 +459,8 @@ impl Course {
                 Err(fault) => return Stage::Ended(Err(fault)),
             }
             match self.go_on(
-                crew.gate,
-                crew.workers,
+                window_workers.gate,
+                window_workers.workers,
                 until,
                 &plan,
                 ran,
@@ -461,7 +468,7 @@ impl Course {
                 known,
                 &now,
                 &mut writing.text,
-                &mut writing.owed,
+                &mut writing.pending_text,
                 writing.written,
                 sink,
             ) {
@@ -475,18 +482,27 @@ impl Course {
     fn write_shared<H: Hands, S: Sink>(
         &mut self,
         by: &H,
-        crew: &Crew,
-        pool: &ThreadPool<Order>,
+        window_workers: &WindowWorkers,
+        pool: &ThreadPool<Job>,
         until: Time,
         began: &Snapshot<Course>,
         known: &Snapshot<S>,
         writing: &mut Writing,
         sink: &mut S,
     ) -> Result<Stop, EngineFault>
-        requires owing { AwaitsSink until began.now.value self.old writing.old.owed writing.old.written (S.contents known.now.value) (S.contents sink.old) (S.failures known.now.value) (S.failures sink.old) }
-        ensures { HasEnded crew.now.workers until began.now.value self.new result (S.contents known.now.value) (S.contents sink.new) (S.failures known.now.value) (S.failures sink.new) }
+        requires owing { AwaitsSink until began.now.value self.old writing.old.pending_text writing.old.written (S.contents known.now.value) (S.contents sink.old) (S.failures known.now.value) (S.failures sink.old) }
+        ensures { HasEnded window_workers.now.workers until began.now.value self.new result (S.contents known.now.value) (S.contents sink.new) (S.failures known.now.value) (S.failures sink.new) }
     {
-        let stage = self.write_on(by, crew, Some(pool), until, began, known, writing, sink);
+        let stage = self.write_on(
+            by,
+            window_workers,
+            Some(pool),
+            until,
+            began,
+            known,
+            writing,
+            sink,
+        );
         match stage {
             Stage::Ended(outcome) => outcome,
             Stage::ToShare => unreachable!(),
@@ -497,7 +513,7 @@ impl Course {
     fn write_by_threads<H: Hands, S: Sink>(
         &mut self,
         by: &H,
-        crew: &Crew,
+        window_workers: &WindowWorkers,
         until: Time,
         began: &Snapshot<Course>,
         known: &Snapshot<S>,
@@ -505,20 +521,20 @@ impl Course {
         sink: &mut S,
     ) -> Result<Stop, EngineFault>
         requires ready { H.ready by.now }
-        requires owing { AwaitsSink until began.now.value self.old writing.old.owed writing.old.written (S.contents known.now.value) (S.contents sink.old) (S.failures known.now.value) (S.failures sink.old) }
-        ensures { HasEnded crew.now.workers until began.now.value self.new result (S.contents known.now.value) (S.contents sink.new) (S.failures known.now.value) (S.failures sink.new) }
+        requires owing { AwaitsSink until began.now.value self.old writing.old.pending_text writing.old.written (S.contents known.now.value) (S.contents sink.old) (S.failures known.now.value) (S.failures sink.old) }
+        ensures { HasEnded window_workers.now.workers until began.now.value self.new result (S.contents known.now.value) (S.contents sink.new) (S.failures known.now.value) (S.failures sink.new) }
     {
-        let Ok(pool) = crew.pool_for(&self.window) else {
+        let Ok(pool) = window_workers.pool_for(&self.window) else {
             let (before, now) = (Snapshot::of(sink), Snapshot::of(&self.window));
-            let (owed, written) = (&mut writing.owed, &mut writing.written);
+            let (pending_text, written) = (&mut writing.pending_text, &mut writing.written);
             self.settle(
-                crew.workers,
+                window_workers.workers,
                 until,
                 began,
                 known,
                 &before,
                 &now,
-                owed,
+                pending_text,
                 written,
                 sink,
             )?;
@@ -526,47 +542,57 @@ impl Course {
         };
         let pool = &pool;
         by.with_threads(
-            crew.gate,
+            window_workers.gate,
             pool,
             &mut || -> Result<Stop, EngineFault>
-                requires owing { AwaitsSink until began.now.value self.now writing.now.owed writing.now.written (S.contents known.now.value) (S.contents sink.now) (S.failures known.now.value) (S.failures sink.now) }
-                ensures { HasEnded crew.entry.now.workers until began.entry.now.value self.exit.now result (S.contents known.entry.now.value) (S.contents sink.exit.now) (S.failures known.entry.now.value) (S.failures sink.exit.now) }
-            { self.write_shared(by, crew, pool, until, began, known, writing, sink) },
+                requires owing { AwaitsSink until began.now.value self.now writing.now.pending_text writing.now.written (S.contents known.now.value) (S.contents sink.now) (S.failures known.now.value) (S.failures sink.now) }
+                ensures { HasEnded window_workers.entry.now.workers until began.entry.now.value self.exit.now result (S.contents known.entry.now.value) (S.contents sink.exit.now) (S.failures known.entry.now.value) (S.failures sink.exit.now) }
+            { self.write_shared(by, window_workers, pool, until, began, known, writing, sink) },
         )
     }
 
-    /// Has a crew run windows, and writes the lines of each while later ones run, up to the run's end or
+    /// Has a window_workers run windows, and writes the lines of each while later ones run, up to the run's end or
     /// until no event is left below a moment. Nothing is left to write where they end. Threads are started once
     /// a window is worth it, and stay. Where windows hold few events, or threads come late to them, events are run
     /// one after another for a while.
     pub(crate) fn write_together<H: Hands, S: Sink>(
         &mut self,
         by: &H,
-        crew: &Crew,
+        window_workers: &WindowWorkers,
         until: Time,
         sink: &mut S,
     ) -> Result<Stop, EngineFault>
         requires ready { H.ready by.now }
         requires rest { AtRest self.old }
         requires groups { HasGroups self.old }
-        ensures { HasEnded crew.now.workers until self.old self.new result (S.contents sink.old) (S.contents sink.new) (S.failures sink.old) (S.failures sink.new) }
+        ensures { HasEnded window_workers.now.workers until self.old self.new result (S.contents sink.old) (S.contents sink.new) (S.failures sink.old) (S.failures sink.new) }
     {
-        let (Ok(text), Ok(owed)) = (Text::new(self.alloc), Owed::new(self.alloc)) else {
+        let (Ok(text), Ok(pending_text)) = (Text::new(self.alloc), PendingText::new(self.alloc))
+        else {
             return Err(EngineFault::NoMemory);
         };
         let mut writing = Writing {
             text,
-            owed,
+            pending_text,
             slice: FIRST_SLICE,
             written: 0,
         };
         let (began, known) = (Snapshot::of(self), Snapshot::of(sink));
         self.sheaf = Sheaf::new(self.alloc, self.position + 1);
-        match self.write_on(by, crew, None, until, &began, &known, &mut writing, sink) {
+        match self.write_on(
+            by,
+            window_workers,
+            None,
+            until,
+            &began,
+            &known,
+            &mut writing,
+            sink,
+        ) {
             Stage::Ended(outcome) => outcome,
             Stage::ToShare => self.write_by_threads(
                 by,
-                crew,
+                window_workers,
                 until,
                 &began,
                 &known,

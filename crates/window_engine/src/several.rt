@@ -6,15 +6,15 @@ ghost use Rattle.window_core.specs.Sheaves.{merged};
 ghost use Rattle.window_engine.specs.Edges.{IsAtEdge, StaysNet, reached_in};
 ghost use Rattle.window_engine.specs.Laid.{HasRunOr};
 ghost use Rattle.window_engine.specs.Outcomes.{IsWorkersFault};
-ghost use Rattle.window_engine.specs.Owed.{Owes};
+ghost use Rattle.window_engine.specs.PendingText.{Owes};
 ghost use Rattle.window_engine.specs.Parts.{AreRight};
 
 use crate::advance::run_apart;
 use crate::fault::EngineFault;
+use crate::formatter::TextFormatter;
 use crate::gate::Gate;
-use crate::order::Order;
-use crate::owed::Owed;
-use crate::scribe::Scribe;
+use crate::job::Job;
+use crate::pending_text::PendingText;
 use crate::sink::Sink;
 use crate::sweep::keep_workers;
 use sim_time::Time;
@@ -35,7 +35,7 @@ pub trait Hands {
     ghost use Rattle.window_engine.specs.Edges.{IsAtEdge, StaysNet, reached_in};
     ghost use Rattle.window_engine.specs.Laid.{HasRunOr};
     ghost use Rattle.window_engine.specs.Outcomes.{IsWorkersFault};
-    ghost use Rattle.window_engine.specs.Owed.{Owes};
+    ghost use Rattle.window_engine.specs.PendingText.{Owes};
     ghost use Rattle.window_engine.specs.Parts.{AreRight};
 
     // Its threads may share what it shares.
@@ -51,14 +51,14 @@ pub trait Hands {
     fn run_shared<S: Sink>(
         &self,
         gate: &Gate,
-        pool: &ThreadPool<Order>,
+        pool: &ThreadPool<Job>,
         alloc: Global,
         workers: usize,
         until: Time,
         window: &mut Window,
         sheaf: &mut Sheaf,
-        scribes: &mut Vec<Scribe>,
-        owed: &mut Owed,
+        scribes: &mut Vec<TextFormatter>,
+        pending_text: &mut PendingText,
         before: &Snapshot<S>,
         sink: &mut S,
     ) -> Result<bool, EngineFault>
@@ -67,20 +67,20 @@ pub trait Hands {
         requires few { groups_of window.old.entries ≤ 64 }
         requires right { AreRight sheaf.old scribes.old.items }
         requires fits { sheaf.old.first + length (merged sheaf.old).lines < 2 ^ 63 }
-        requires owes { Owes owed.old (S.contents before.now.value) (S.contents sink.old) (S.failures before.now.value) (S.failures sink.old) }
+        requires owes { Owes pending_text.old (S.contents before.now.value) (S.contents sink.old) (S.failures before.now.value) (S.failures sink.old) }
         ensures ran { IfOk result (λ ran. HasRunOr ran until window.old window.new) }
         ensures stays { StaysNet window.old window.new }
         ensures fault { IfErr result (IsWorkersFault workers (HasTooMany (reached_in window.old))) }
         ensures sheaf { sheaf.new ≡ sheaf.old }
         ensures right { AreRight sheaf.new scribes.new.items }
-        ensures owes { Owes owed.new (S.contents before.now.value) (S.contents sink.new) (S.failures before.now.value) (S.failures sink.new) }
-        ensures same { owed.new ≡ record owed.old { put = owed.new.put } };
+        ensures owes { Owes pending_text.new (S.contents before.now.value) (S.contents sink.new) (S.failures before.now.value) (S.failures sink.new) }
+        ensures same { pending_text.new ≡ record pending_text.old { put = pending_text.new.put } };
 
     /// Works while a pool's threads wait for orders, which go then.
     fn with_threads<A, F: FnMut() -> A>(
         &self,
         gate: &Gate,
-        pool: &ThreadPool<Order>,
+        pool: &ThreadPool<Job>,
         work: &mut F,
     ) -> A
         requires ready { ready self.now }
@@ -100,14 +100,14 @@ impl Hands for Alone {
     fn run_shared<S: Sink>(
         &self,
         _gate: &Gate,
-        _pool: &ThreadPool<Order>,
+        _pool: &ThreadPool<Job>,
         _alloc: Global,
         _workers: usize,
         _until: Time,
         _window: &mut Window,
         _sheaf: &mut Sheaf,
-        _scribes: &mut Vec<Scribe>,
-        _owed: &mut Owed,
+        _scribes: &mut Vec<TextFormatter>,
+        _pending_text: &mut PendingText,
         _before: &Snapshot<S>,
         _sink: &mut S,
     ) -> Result<bool, EngineFault> {
@@ -117,7 +117,7 @@ impl Hands for Alone {
     fn with_threads<A, F: FnMut() -> A>(
         &self,
         _gate: &Gate,
-        _pool: &ThreadPool<Order>,
+        _pool: &ThreadPool<Job>,
         work: &mut F,
     ) -> A {
         work()
@@ -146,14 +146,14 @@ impl<'a, R: Threads + Wait + Sync> Hands for Several<'a, R> {
     fn run_shared<S: Sink>(
         &self,
         gate: &Gate,
-        pool: &ThreadPool<Order>,
+        pool: &ThreadPool<Job>,
         alloc: Global,
         workers: usize,
         until: Time,
         window: &mut Window,
         sheaf: &mut Sheaf,
-        scribes: &mut Vec<Scribe>,
-        owed: &mut Owed,
+        scribes: &mut Vec<TextFormatter>,
+        pending_text: &mut PendingText,
         before: &Snapshot<S>,
         sink: &mut S,
     ) -> Result<bool, EngineFault> {
@@ -161,7 +161,17 @@ impl<'a, R: Threads + Wait + Sync> Hands for Several<'a, R> {
         window.limit(until);
         let _limited = window.position();
         run_apart(
-            self.rt, pool, alloc, workers, gate, window, sheaf, scribes, owed, before, sink,
+            self.rt,
+            pool,
+            alloc,
+            workers,
+            gate,
+            window,
+            sheaf,
+            scribes,
+            pending_text,
+            before,
+            sink,
         )?;
         Ok(true)
     }
@@ -169,7 +179,7 @@ impl<'a, R: Threads + Wait + Sync> Hands for Several<'a, R> {
     fn with_threads<A, F: FnMut() -> A>(
         &self,
         gate: &Gate,
-        pool: &ThreadPool<Order>,
+        pool: &ThreadPool<Job>,
         work: &mut F,
     ) -> A {
         work_with_threads(self.rt, gate, pool, work)
@@ -180,7 +190,7 @@ impl<'a, R: Threads + Wait + Sync> Hands for Several<'a, R> {
 fn work_with_threads<R: Threads + Wait + Sync, A, F: FnMut() -> A>(
     rt: &R,
     gate: &Gate,
-    pool: &ThreadPool<Order>,
+    pool: &ThreadPool<Job>,
     work: &mut F,
 ) -> A
     requires { F.pre work.old }

@@ -4,12 +4,12 @@
 ghost use Rattle.std.specs.Prelude.{◌≡◌, ◌<◌, ◌≤◌, [], IfOk, IfErr, OnOk};
 ghost use Rattle.window_core.specs.Full.{HasTooMany};
 ghost use Rattle.window_core.specs.Partition.{groups_of};
-ghost use Rattle.window_engine.specs.Courses.{Broke, HasEnded, IsApart, Rests, RunsIn, Wrote, fails_after};
+ghost use Rattle.window_engine.specs.Courses.{Broke, HasEnded, IsApart, WindowsRest, RunsIn, Wrote, fails_after};
 ghost use Rattle.window_engine.specs.Edges.{IsAtEdge, reached_in};
 ghost use Rattle.window_engine.specs.Outcomes.{IsWorkersFault};
 ghost use Rattle.window_engine.specs.Singly.{HasGone};
 
-use crate::course::{Course, WriteFault, told};
+use crate::course::{Course, WriteFault, reported};
 use crate::fault::EngineFault;
 use crate::parts::LINE_BYTES;
 use crate::put::put_all;
@@ -206,35 +206,35 @@ impl Course {
         written: &mut u128,
         sink: &mut S,
     ) -> Result<(), EngineFault>
-        requires rests { Rests until _began.now.value self.old written.old (S.contents _known.now.value) (S.contents sink.old) }
+        requires rests { WindowsRest until _began.now.value self.old written.old (S.contents _known.now.value) (S.contents sink.old) }
         requires failures { S.failures sink.old ≡ S.failures _known.now.value }
         requires workers { 0 < _workers }
-        ensures rests { OnOk result (Rests until _began.now.value self.new written.new (S.contents _known.now.value) (S.contents sink.new)) }
+        ensures rests { OnOk result (WindowsRest until _began.now.value self.new written.new (S.contents _known.now.value) (S.contents sink.new)) }
         ensures failures { OnOk result (S.failures sink.new ≡ S.failures _known.now.value) }
         ensures on { OnOk result (self.old.window.position ≤ self.new.window.position) }
         ensures ended { IfErr result (λ fault. HasEnded _workers until _began.now.value self.new (Err fault) (S.contents _known.now.value) (S.contents sink.new) (S.failures _known.now.value) (S.failures sink.new)) }
     {
         let _reached = self.window.position();
         let Ok(net) = self.window.edge() else {
-            self.pace.go_by_windows();
+            self.granularity.go_by_windows();
             return Ok(());
         };
         let Ok(mut single) = Single::new(self.alloc, net) else {
-            self.pace.go_by_windows();
+            self.granularity.go_by_windows();
             return Ok(());
         };
         let bound = until.min(self.end);
         let mut more = true;
-        while more && self.pace.is_single() {
+        while more && self.granularity.is_single() {
             let before = self.position;
             let put = self.write_some(&mut single, bound, sink);
             let _reached = single.net.position();
             match put {
                 Ok(count) => *written += count,
-                Err(fault) => return Err(told(fault, *written)),
+                Err(fault) => return Err(reported(fault, *written)),
             }
             more = self.position != before;
-            self.pace.pass(self.position - before);
+            self.granularity.ticket(self.position - before);
         }
         match self.take_up(single.net) {
             Ok(()) => Ok(()),

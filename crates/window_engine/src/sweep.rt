@@ -3,17 +3,17 @@ ghost use Rattle.std.specs.Prelude.{◌≡◌, ◌+◌, ◌<◌, ◌≤◌, ◌^
 ghost use Rattle.std.specs.Arc.{arc_value};
 ghost use Rattle.window_core.specs.Sheaves.{merged};
 ghost use Rattle.work_board.specs.Seats.{IsOf, HoldsNothing};
-ghost use Rattle.window_engine.specs.Desks.{IsPassOf};
-ghost use Rattle.window_engine.specs.Owed.{Owes};
+ghost use Rattle.window_engine.specs.Desks.{IsTicketOf};
+ghost use Rattle.window_engine.specs.PendingText.{Owes};
 ghost use Rattle.window_engine.specs.Parts.{AreRight};
 ghost use Rattle.window_engine.specs.Sweeps.{IsSwept};
 
-use crate::desk::{Desk, Pass};
+use crate::desk::{Desk, Ticket};
+use crate::formatter::TextFormatter;
 use crate::gate::Gate;
-use crate::order::{Begin, Order, Tasks, serve};
-use crate::owed::Owed;
+use crate::job::{Begin, Job, Tasks, serve};
 use crate::parts::Parts;
-use crate::scribe::Scribe;
+use crate::pending_text::PendingText;
 use crate::sink::Sink;
 use std::alloc::{AllocError, AllocFailed, Global};
 use std::mem::replace;
@@ -42,72 +42,68 @@ fn sole<T: Drop, R: Wait>(rt: &R, shared: Arc<T, Global>) -> T
 }
 
 /// Is the first of a pool's workers, starts the others, and ends once all have gone.
-pub(crate) fn keep_workers<R: Threads + Wait + Sync>(
-    rt: &R,
-    gate: &Gate,
-    pool: &ThreadPool<Order>,
-) {
-    run_workers(rt, &|order: Order| order.carry_out(gate), pool);
+pub(crate) fn keep_workers<R: Threads + Wait + Sync>(rt: &R, gate: &Gate, pool: &ThreadPool<Job>) {
+    run_workers(rt, &|job: Job| job.carry_out(gate), pool);
 }
 
 /// Memory for a worker's text, that of the window before where there is some.
-fn take_scribe(sheaf: &Sheaf, scribes: &mut Vec<Scribe>) -> Scribe
+fn take_formatter(sheaf: &Sheaf, scribes: &mut Vec<TextFormatter>) -> TextFormatter
     requires { AreRight sheaf.now scribes.old.items }
     ensures { AreRight sheaf.now scribes.new.items }
 {
     let alloc = *scribes.allocator();
     match scribes.pop() {
-        Some(scribe) => scribe,
-        None => Scribe::new(alloc),
+        Some(formatter) => formatter,
+        None => TextFormatter::new(alloc),
     }
 }
 
-/// Gives each thread of so many workers an order, each with a scribe. The answer is the rest of the seat and of the
+/// Gives each thread of so many workers an order, each with a formatter. The answer is the rest of the seat and of the
 /// pass.
 fn give_orders<R: Wait>(
     rt: &R,
-    pool: &ThreadPool<Order>,
+    pool: &ThreadPool<Job>,
     tasks: &Arc<Tasks, Global>,
     workers: usize,
     seat: Seat,
-    pass: Pass,
-    scribes: &mut Vec<Scribe>,
-) -> (Seat, Pass)
+    ticket: Ticket,
+    scribes: &mut Vec<TextFormatter>,
+) -> (Seat, Ticket)
     requires board { IsOf (arc_value tasks.now).board seat }
     requires idle { HoldsNothing seat }
-    requires pass { IsPassOf (arc_value tasks.now).desk pass }
+    requires ticket { IsTicketOf (arc_value tasks.now).desk ticket }
     requires right { AreRight (arc_value tasks.now).sheaf scribes.old.items }
     ensures board { IsOf (arc_value tasks.now).board result.0 }
     ensures idle { HoldsNothing result.0 }
-    ensures pass { IsPassOf (arc_value tasks.now).desk result.1 }
+    ensures ticket { IsTicketOf (arc_value tasks.now).desk result.1 }
     ensures right { AreRight (arc_value tasks.now).sheaf scribes.new.items }
 {
-    let (mut seat, mut pass) = (seat, pass);
+    let (mut seat, mut ticket) = (seat, ticket);
     for thread in 0..workers.saturating_sub(1) {
         let (mine, theirs) = tasks.board.split(seat);
         seat = mine;
-        let (kept, given) = tasks.desk.split(pass);
-        pass = kept;
+        let (kept, given) = tasks.desk.split(ticket);
+        ticket = kept;
         let begin = Begin {
             seat: theirs,
-            pass: given,
-            // The last place has the scribe that is taken first: so each thread has its own one again.
+            ticket: given,
+            // The last place has the formatter that is taken first: so each thread has its own one again.
             place: workers.saturating_sub(thread).saturating_sub(1),
             workers,
-            scribe: take_scribe(&tasks.sheaf, scribes),
+            formatter: take_formatter(&tasks.sheaf, scribes),
         };
         if let Ok(shared) = Arc::try_clone(tasks) {
-            let _ = pool.give(rt, thread, Order::new(shared, begin));
+            let _ = pool.give(rt, thread, Job::new(shared, begin));
         }
     }
-    (seat, pass)
+    (seat, ticket)
 }
 
 /// Takes back what threads have not begun, and waits for what they have.
-fn end_orders<R: Wait>(rt: &R, gate: &Gate, pool: &ThreadPool<Order>, workers: usize) {
+fn end_jobs<R: Wait>(rt: &R, gate: &Gate, pool: &ThreadPool<Job>, workers: usize) {
     for thread in 0..workers.saturating_sub(1) {
-        if let Some(order) = pool.take_back(rt, thread) {
-            order.carry_out(gate);
+        if let Some(job) = pool.take_back(rt, thread) {
+            job.carry_out(gate);
         }
     }
     pool.rest(rt);
@@ -115,17 +111,17 @@ fn end_orders<R: Wait>(rt: &R, gate: &Gate, pool: &ThreadPool<Order>, workers: u
 
 /// Has so many workers go over the board and then make the text of a sheaf's lines: the calling thread is one of
 /// them, and the others are threads of a pool. While they begin it writes the text of the window before. It waits for
-/// all of them, and gives the board and its own seat back. The scribes are then what each made of the text.
+/// all of them, and gives the board and its own seat back. The formatters are then what each made of the text.
 pub(crate) fn sweep<R: Wait, S: Sink>(
     rt: &R,
-    pool: &ThreadPool<Order>,
+    pool: &ThreadPool<Job>,
     workers: usize,
     gate: &Gate,
     board: Board,
     seat: Seat,
     sheaf: &mut Sheaf,
-    scribes: &mut Vec<Scribe>,
-    owed: &mut Owed,
+    scribes: &mut Vec<TextFormatter>,
+    pending_text: &mut PendingText,
     before: &Snapshot<S>,
     sink: &mut S,
 ) -> Result<(Board, Seat), AllocError>
@@ -134,17 +130,17 @@ pub(crate) fn sweep<R: Wait, S: Sink>(
     requires workers { workers ≤ 64 }
     requires right { AreRight sheaf.old scribes.old.items }
     requires fits { sheaf.old.first + length (merged sheaf.old).lines < 2 ^ 63 }
-    requires owes { Owes owed.old (S.contents before.now.value) (S.contents sink.old) (S.failures before.now.value) (S.failures sink.old) }
+    requires owes { Owes pending_text.old (S.contents before.now.value) (S.contents sink.old) (S.failures before.now.value) (S.failures sink.old) }
     ensures same { IfOk result (λ r. r.0 ≡ board) }
     ensures board { IfOk result (λ r. IsOf r.0 r.1) }
     ensures swept { IfOk result (λ r. IsSwept r.1) }
     ensures sheaf { sheaf.new ≡ sheaf.old }
     ensures right { AreRight sheaf.new scribes.new.items }
-    ensures owes { Owes owed.new (S.contents before.now.value) (S.contents sink.new) (S.failures before.now.value) (S.failures sink.new) }
-    ensures rest { owed.new ≡ record owed.old { put = owed.new.put } }
+    ensures owes { Owes pending_text.new (S.contents before.now.value) (S.contents sink.new) (S.failures before.now.value) (S.failures sink.new) }
+    ensures rest { pending_text.new ≡ record pending_text.old { put = pending_text.new.put } }
 {
     let alloc = *scribes.allocator();
-    let (desk, pass) = Desk::new(alloc, sheaf, workers)?;
+    let (desk, ticket) = Desk::new(alloc, sheaf, workers)?;
     let parts = Parts::new(sheaf, workers);
     let lent = replace(sheaf, Sheaf::new(alloc, 0));
     let tasks = match Arc::new(
@@ -163,18 +159,18 @@ pub(crate) fn sweep<R: Wait, S: Sink>(
         }
     };
     let mut made = replace(scribes, Vec::new(alloc));
-    let (seat, pass) = give_orders(rt, pool, &tasks, workers, seat, pass, &mut made);
+    let (seat, ticket) = give_orders(rt, pool, &tasks, workers, seat, ticket, &mut made);
     tasks.parts.cut(&tasks.sheaf);
-    let _ = owed.put(before, sink);
+    let _ = pending_text.put(before, sink);
     let begin = Begin {
         seat,
-        pass,
+        ticket,
         place: 0,
         workers,
-        scribe: take_scribe(&tasks.sheaf, &mut made),
+        formatter: take_formatter(&tasks.sheaf, &mut made),
     };
     let seat = serve(&tasks, gate, begin);
-    end_orders(rt, gate, pool, workers);
+    end_jobs(rt, gate, pool, workers);
     let Tasks {
         board,
         parts: _,

@@ -6,42 +6,42 @@ ghost use Rattle.window_engine.specs.Failures.{failures_after};
 ghost use Rattle.window_engine.specs.Parts.{IsInside, AreRight, HasText, IsPlaceAt, IsReady, IsRight, IsWhole, bytes_at, text_of};
 ghost use Rattle.window_engine.specs.Puts.{TakesFirst};
 
-use crate::pace::Turnout;
+use crate::formatter::{TextFormatter, TextPart};
+use crate::granularity::Turnout;
 use crate::parts::MOST_PARTS;
 use crate::put::put_all;
-use crate::scribe::{Part, Scribe};
 use crate::sink::Sink;
 use std::alloc::{AllocError, Global};
 use window_core::{Cursor, Sheaf};
 
 /// Where a part's text is.
 #[derive(Clone, Copy, Drop)]
-pub(crate) struct Place {
+pub(crate) struct TextPlace {
     /// The number of the thread's text.
-    pub scribe: usize,
+    pub formatter: usize,
     /// The part.
-    pub part: Part,
+    pub part: TextPart,
 }
 
 /// A window's text.
 #[derive(Drop)]
 pub(crate) struct Text {
     /// What each thread made of it.
-    pub scribes: Vec<Scribe>,
+    pub scribes: Vec<TextFormatter>,
     /// The places of the parts, in the order of their lines.
-    pub order: Vec<Place>,
+    pub job: Vec<TextPlace>,
     /// Where the merge of the lines stands, on the calling thread.
     cursor: Cursor,
 }
 
 /// The part of a thread's that begins with a line, where it made one and has a line.
-fn part_from(sheaf: &Sheaf, scribe: &Scribe, at: usize) -> Option<Part>
-    requires { IsRight sheaf.now scribe.now }
-    ensures text { IfSome result (HasText sheaf.now scribe.now.text) }
+fn part_from(sheaf: &Sheaf, formatter: &TextFormatter, at: usize) -> Option<TextPart>
+    requires { IsRight sheaf.now formatter.now }
+    ensures text { IfSome result (HasText sheaf.now formatter.now.text) }
     ensures from { IfSome result (λ part. part.from ≡ at) }
     ensures some { IfSome result (λ part. 0 < part.count) }
 {
-    for part in scribe.parts.as_slice() {
+    for part in formatter.parts.as_slice() {
         if part.from == at && part.count > 0 {
             return Some(*part);
         }
@@ -50,55 +50,55 @@ fn part_from(sheaf: &Sheaf, scribe: &Scribe, at: usize) -> Option<Part>
 }
 
 /// The place of the part that begins with a line, where one was made.
-fn place_from(sheaf: &Sheaf, scribes: &[Scribe], at: usize) -> Option<Place>
+fn place_from(sheaf: &Sheaf, scribes: &[TextFormatter], at: usize) -> Option<TextPlace>
     requires { AreRight sheaf.now scribes.now }
     ensures { IfSome result (IsPlaceAt sheaf.now scribes.now at) }
 {
-    for scribe in 0..scribes.len() {
-        if let Some(part) = part_from(sheaf, &scribes[scribe], at) {
-            return Some(Place { scribe, part });
+    for formatter in 0..scribes.len() {
+        if let Some(part) = part_from(sheaf, &scribes[formatter], at) {
+            return Some(TextPlace { formatter, part });
         }
     }
     None
 }
 
 /// The bytes at a place.
-fn bytes_of(scribes: &[Scribe], place: Place) -> &[u8]
+fn bytes_of(scribes: &[TextFormatter], place: TextPlace) -> &[u8]
     requires { IsInside scribes.now place }
     ensures { result.now ≡ bytes_at scribes.now place }
 {
-    let text = scribes[place.scribe].text.as_slice();
+    let text = scribes[place.formatter].text.as_slice();
     &text[place.part.start..place.part.end]
 }
 
-/// Sees that there is a scribe.
-fn need_one(scribes: &mut Vec<Scribe>) -> Result<(), AllocError>
+/// Sees that there is a formatter.
+fn need_one(scribes: &mut Vec<TextFormatter>) -> Result<(), AllocError>
     ensures { OnOk result (0 < length scribes.new.items) }
 {
     if scribes.is_empty() {
         let alloc = *scribes.allocator();
-        scribes.push(Scribe::new(alloc))?;
+        scribes.push(TextFormatter::new(alloc))?;
     }
     Ok(())
 }
 
 /// Forgets what each made.
-fn clear_all(sheaf: &Sheaf, scribes: &mut [Scribe])
+fn clear_all(sheaf: &Sheaf, scribes: &mut [TextFormatter])
     ensures { AreRight sheaf.now scribes.new }
 {
-    for scribe in scribes.iter_mut() {
-        scribe.clear();
+    for formatter in scribes.iter_mut() {
+        formatter.clear();
     }
 }
 
 impl Text {
     /// No text yet.
     pub(crate) fn new(alloc: Global) -> Result<Text, AllocError>
-        ensures { IfOk result (λ text. text.order.items ≡ []) }
+        ensures { IfOk result (λ text. text.job.items ≡ []) }
     {
         Ok(Text {
             scribes: Vec::new(alloc),
-            order: Vec::new(alloc),
+            job: Vec::new(alloc),
             cursor: Cursor::new(alloc)?,
         })
     }
@@ -113,9 +113,9 @@ impl Text {
     /// How many groups threads ran of the window that follows the text's.
     pub(crate) fn turnout(&self) -> Turnout {
         let mut turnout = Turnout::none();
-        for scribe in &self.scribes {
-            turnout.most = turnout.most.max(scribe.ran);
-            turnout.all = turnout.all.saturating_add(scribe.ran);
+        for formatter in &self.scribes {
+            turnout.most = turnout.most.max(formatter.ran);
+            turnout.all = turnout.all.saturating_add(formatter.ran);
         }
         turnout
     }
@@ -126,13 +126,13 @@ impl Text {
         ensures { IfOk result (λ all. all ≡ true → IsWhole sheaf.now self.new) }
     {
         let lines = sheaf.len();
-        self.order.clear();
+        self.job.clear();
         let mut at = 0;
         for _ in 0..MOST_PARTS {
             let Some(place) = place_from(sheaf, self.scribes.as_slice(), at) else {
                 break;
             };
-            self.order.push(place)?;
+            self.job.push(place)?;
             at += place.part.count;
         }
         Ok(at == lines)
@@ -145,8 +145,8 @@ impl Text {
     {
         need_one(&mut self.scribes)?;
         let part = self.scribes[0].make_all(sheaf, &mut self.cursor)?;
-        self.order.clear();
-        self.order.push(Place { scribe: 0, part })?;
+        self.job.clear();
+        self.job.push(TextPlace { formatter: 0, part })?;
         Ok(())
     }
 
@@ -167,15 +167,15 @@ impl Text {
     /// failed.
     pub(crate) fn put<S: Sink>(&self, sink: &mut S) -> Result<u128, u128>
         requires { IsReady self.now }
-        ensures ok { OnOk result (Appends (S.contents sink.old) (S.contents sink.new) (text_of self.now.scribes.items self.now.order.items)) }
-        ensures count { IfOk result (λ count. count ≡ length (text_of self.now.scribes.items self.now.order.items)) }
+        ensures ok { OnOk result (Appends (S.contents sink.old) (S.contents sink.new) (text_of self.now.scribes.items self.now.job.items)) }
+        ensures count { IfOk result (λ count. count ≡ length (text_of self.now.scribes.items self.now.job.items)) }
         ensures few { IfOk result (λ count. count < 2 ^ 71) }
-        ensures err { IfErr result (λ written. TakesFirst written (text_of self.now.scribes.items self.now.order.items) (S.contents sink.old) (S.contents sink.new)) }
+        ensures err { IfErr result (λ written. TakesFirst written (text_of self.now.scribes.items self.now.job.items) (S.contents sink.old) (S.contents sink.new)) }
         ensures few_before { IfErr result (λ written. written < 2 ^ 71) }
         ensures failures { S.failures sink.new ≡ failures_after result (S.failures sink.old) }
     {
         let mut done: u128 = 0;
-        for place in self.order.as_slice() {
+        for place in self.job.as_slice() {
             let bytes = bytes_of(self.scribes.as_slice(), *place);
             match put_all(sink, bytes) {
                 Ok(()) => done += bytes.len() as u128,

@@ -6,7 +6,7 @@ use Rattle.std.specs.Option.{option_map, unwrap_or}
 use Rattle.std.specs.FinMap.{get}
 use Rattle.sim_time.specs.declared.key.Key.{Key}
 use Rattle.node_core.specs.declared.event.Event.{Event}
-use Rattle.ranking.specs.Keyed.{least}
+use Rattle.tournament.specs.Keyed.{least}
 use Rattle.table_run.specs.State.{State, below, due, effect_of, stepped, line_of, step, run}
 use Rattle.node_core.specs.TraceLine.{TraceLine}
 use Rattle.window_law.specs.Groups.{GroupState, no_group, group_at, up_to, fire_on, fire_or_stay, fire_at, fires}

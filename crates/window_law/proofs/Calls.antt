@@ -8,9 +8,9 @@ use Rattle.sim_time.specs.declared.key.Key.{Key}
 use Rattle.node_core.specs.declared.event.Event.{Event}
 use Rattle.table_run.specs.State.{State, no_part, part_at, due, effect_of, stepped, line_of, run}
 use Rattle.node_core.specs.TraceLine.{TraceLine}
-use Rattle.ranking.proofs.Maps.{same_some}
+use Rattle.tournament.proofs.Maps.{same_some}
 use Rattle.window_law.specs.Groups.{GroupState, no_group, group_at, up_to, fire_on, fire_at, fires}
-use Rattle.window_law.specs.Windows.{Setting, WindowState, AreBelow, in_order, all_lines, delivered, all_done, is_empty, none_fired, opened}
+use Rattle.window_law.specs.Windows.{Setting, WindowState, AreBelow, in_order, all_lines, groups_delivered, all_done, is_empty, none_fired, opened}
 use Rattle.window_law.specs.Standing.{Stands}
 use Rattle.window_law.specs.Calls.{IsOpenFrom, IsTurned, HaveFired}
 use Rattle.window_law.proofs.Premises.{FairStep}
@@ -98,29 +98,29 @@ module _ (x : Setting) (edge : State) where
           soon = m.soon;
         }
 
-    pub opening_matches : (maker : Key → ℕ) → Matches x.group maker x.ahead w.until edge [] m.start
-    opening_matches maker = matches_from x.group edge m.start m.stands maker x.ahead w.until m.soon
+    pub initial_matches : (maker : Key → ℕ) → Matches x.group maker x.ahead w.until edge [] m.start
+    initial_matches maker = matches_from x.group edge m.start m.stands maker x.ahead w.until m.soon
 
     module _ (maker : Key → ℕ) (ends : edge.end ≡ x.end) (fair : Along (FairStep x.group maker x.ahead) edge) where
       pub below_end : w.until ≤ edge.end
       below_end = let b = m.within in omega (arith, b, ends)
 
-      pub turn_gives : all_done w.until w.groups ≡ true → IsTurned x edge w.until (in_order (all_lines w.groups)) (opened x (delivered x.group w.groups))
+      pub turn_gives : all_done w.until w.groups ≡ true → IsTurned x edge w.until (in_order (all_lines w.groups)) (opened x (groups_delivered x.group w.groups))
       turn_gives all =
           let until = w.until in
           let done : (h : ℕ) → Done x.group until (group_at (fires x.group until m.firings m.start) h) = λ h. subst (λ (g : List GroupState). Done x.group until (group_at g h)) m.groups_are (done_at until w.groups all h) in
-          let r = window x.group maker x.ahead until (length m.firings) m.firings edge [] m.start refl below_end fair (opening_matches maker) done in
+          let r = window x.group maker x.ahead until (length m.firings) m.firings edge [] m.start refl below_end fair (initial_matches maker) done in
           let matched : Matches x.group maker x.ahead until r.state r.more w.groups = subst (Matches x.group maker x.ahead until r.state r.more) (sym m.groups_are) r.matches in
           let tidy : Tidy r.state r.more = run_tidy x.group maker x.ahead r.n edge r.state [] r.more r.is_run fair record { sorted = tt; before = λ q v e. tt } in
           let lines : in_order (all_lines w.groups) ≡ r.more = lines_of_all x.group maker x.ahead until r.state r.more w.groups matched tidy.sorted in
           let exact : run edge (length r.more) ≡ Some (r.more, r.state) = ap (run edge) (run_length r.n edge r.state r.more r.is_run) ∙ r.is_run in
-          let stands : Stands x.group r.state (delivered x.group w.groups) = stands_after x.group maker x.ahead until r.state r.more w.groups matched in
+          let stands : Stands x.group r.state (groups_delivered x.group w.groups) = stands_after x.group maker x.ahead until r.state r.more w.groups matched in
           record {
             state = r.state;
             is_run = subst (λ ls. run edge (length ls) ≡ Some (ls, r.state)) (sym lines) exact;
             early = subst (AreBelow until) (sym lines) r.early;
             stands = stands;
-            is_open = record { start = delivered x.group w.groups; stands = stands; firings = []; groups_are = refl; within = end_le x (delivered x.group w.groups); soon = end_soon x.group r.state (delivered x.group w.groups) stands x };
+            is_open = record { start = groups_delivered x.group w.groups; stands = stands; firings = []; groups_are = refl; within = end_le x (groups_delivered x.group w.groups); soon = end_soon x.group r.state (groups_delivered x.group w.groups) stands x };
           }
 
 -- BETWEEN TURNS
@@ -157,7 +157,7 @@ module _ (x : Setting) (edge : State) (w : WindowState) (m : IsOpenFrom x edge w
       → ((n : ℕ) → x.group n ≡ h → part_at t n ≡ get_or (group_at w.groups h).parts n no_part) × ((k : Key) → x.group k.node ≡ h → k.time < w.until → get t.pending k ≡ get (group_at w.groups h).pending k)
   inside j lines t e on h mine =
       let until = w.until in
-      let r = follow x.group maker x.ahead until j edge t [] lines m.start (below_end x edge w m maker ends fair) (opening_matches x edge w m maker) fair e on in
+      let r = follow x.group maker x.ahead until j edge t [] lines m.start (below_end x edge w m maker ends fair) (initial_matches x edge w m maker) fair e on in
       let at : group_at w.groups h ≡ group_at (fires x.group until m.firings m.start) h = ap (λ (g : List GroupState). group_at g h) m.groups_are in
       let same : h < length m.start → group_at w.groups h ≡ group_at (fires x.group until r.0 m.start) h =
       λ l. at ∙ same_group x.group until h m.firings r.0 m.start l (ap (λ (g : GroupState). length g.lines) (sym at) ∙ ap length (mine ∙ sym (r.1.lines_are h))) in

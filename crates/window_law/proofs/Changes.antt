@@ -10,9 +10,9 @@ use Rattle.sim_time.specs.declared.key.Key.{Key}
 use Rattle.sim_time.specs.Keys.{key_cmp}
 use Rattle.sim_time.proofs.Order.{exact_keys}
 use Rattle.node_core.specs.declared.event.Event.{Event}
-use Rattle.ranking.specs.Keyed.{apply, changed, entering}
-use Rattle.node_core.specs.Pending.{Events, Change}
-use Rattle.ranking.proofs.Maps.{not_some, is_equal, is_less, both_of, get-changed, tied}
+use Rattle.tournament.specs.Keyed.{apply, changed, entering}
+use Rattle.node_core.specs.Pending.{Events, EventChange}
+use Rattle.tournament.proofs.Maps.{not_some, is_equal, is_less, both_of, get-changed, tied}
 use Rattle.table_run.specs.Sound.{EachEvent}
 use Rattle.table_run.proofs.Changes.{of_changed}
 
@@ -20,20 +20,20 @@ abbrev pub same : Key → Key → Bool
 same a b = eq_by_cmp key_cmp a b
 
 -- what is at the key k after the changes, where x was
-abbrev pub over : List Change → Key → Option Event → Option Event
+abbrev pub over : List EventChange → Key → Option Event → Option Event
 over [] k x = x
 over (c ∷ cs) k x = over cs k (cond (same k c.0) c.1 x)
 
-pub get-apply : (cs : List Change) (m : Events) (k : Key) → get (apply cs m) k ≡ over cs k (get m k)
+pub get-apply : (cs : List EventChange) (m : Events) (k : Key) → get (apply cs m) k ≡ over cs k (get m k)
 get-apply [] m k = refl
 get-apply (c ∷ cs) m k = get-apply cs (changed m c.0 c.1) k ∙ ap (over cs k) (get-changed m c.0 c.1 k)
 
-pub over-append : (cs ds : List Change) (k : Key) (x : Option Event) → over (cs ++ ds) k x ≡ over ds k (over cs k x)
+pub over-append : (cs ds : List EventChange) (k : Key) (x : Option Event) → over (cs ++ ds) k x ≡ over ds k (over cs k x)
 over-append [] ds k x = refl
 over-append (c ∷ cs) ds k x = over-append cs ds k (cond (same k c.0) c.1 x)
 
 -- changes that put events in, where a map before others has the key
-pub over-or : (cs : List Change) (k : Key) (a b : Option Event) → AllByRecursion (λ (c : Change). same k c.0 ≡ true → c.1 ≢ None) cs → over cs k (option_or a b) ≡ option_or (over cs k a) b
+pub over-or : (cs : List EventChange) (k : Key) (a b : Option Event) → AllByRecursion (λ (c : EventChange). same k c.0 ≡ true → c.1 ≢ None) cs → over cs k (option_or a b) ≡ option_or (over cs k a) b
 over-or [] k a b all = refl
 over-or (c ∷ cs) k a b all =
     elim (same k c.0) as (λ t. same k c.0 ≡ t → over cs k (cond t c.1 (option_or a b)) ≡ option_or (over cs k (cond t c.1 a)) b) [
@@ -59,16 +59,16 @@ apart p a b pa pb =
       | false ↦ λ t. refl
     ] refl
 
-pub over-keep : (p : Key → Bool) (cs : List Change) (k : Key) (x : Option Event) → p k ≡ true → over (filter (λ (c : Change). p c.0) cs) k x ≡ over cs k x
+pub over-keep : (p : Key → Bool) (cs : List EventChange) (k : Key) (x : Option Event) → p k ≡ true → over (filter (λ (c : EventChange). p c.0) cs) k x ≡ over cs k x
 over-keep p [] k x e = refl
 over-keep p (c ∷ cs) k x e =
-    elim (p c.0) as (λ b. p c.0 ≡ b → over (cond b (c ∷ filter (λ (c : Change). p c.0) cs) (filter (λ (c : Change). p c.0) cs)) k x ≡ over (c ∷ cs) k x) [
+    elim (p c.0) as (λ b. p c.0 ≡ b → over (cond b (c ∷ filter (λ (c : EventChange). p c.0) cs) (filter (λ (c : EventChange). p c.0) cs)) k x ≡ over (c ∷ cs) k x) [
       | true ↦ λ h. over-keep p cs k (cond (same k c.0) c.1 x) e
       | false ↦ λ h. over-keep p cs k x e ∙ ap (λ b. over cs k (cond b c.1 x)) (sym (apart p k c.0 e h))
     ] refl
 
 -- changes at other keys
-pub over-absent : (Q : Key → Type 0) (cs : List Change) (k : Key) (x : Option Event) → AllByRecursion (λ (c : Change). Q c.0) cs → (Q k → ⊥) → over cs k x ≡ x
+pub over-absent : (Q : Key → Type 0) (cs : List EventChange) (k : Key) (x : Option Event) → AllByRecursion (λ (c : EventChange). Q c.0) cs → (Q k → ⊥) → over cs k x ≡ x
 over-absent Q [] k x all off = refl
 over-absent Q (c ∷ cs) k x all off =
     elim (same k c.0) as (λ b. same k c.0 ≡ b → over cs k (cond b c.1 x) ≡ x) [

@@ -8,10 +8,10 @@ use Rattle.sim_time.specs.declared.key.Key.{Key}
 use Rattle.sim_time.specs.Keys.{key_cmp}
 use Rattle.sim_time.proofs.Order.{keys_total, earlier_less}
 use Rattle.node_core.specs.declared.event.Event.{Event}
-use Rattle.ranking.specs.Keyed.{least}
+use Rattle.tournament.specs.Keyed.{least}
 use Rattle.node_core.specs.Pending.{Events}
 use Rattle.table_run.specs.State.{below}
-use Rattle.ranking.proofs.Maps.{both_of, is_less}
+use Rattle.tournament.proofs.Maps.{both_of, is_less}
 use Rattle.window_law.proofs.Changes.{same, same_is, same_itself}
 
 pub never_below : (a b : Key) → key_cmp a b ≡ Less → key_cmp b a ≡ Less → ⊥

@@ -5,28 +5,28 @@ use Rattle.std.proofs.lemmas.List.{get_or_past}
 use Rattle.std.specs.FinMap.{get}
 use Rattle.sim_time.specs.declared.key.Key.{Key}
 use Rattle.scenario_image.specs.declared.parts.ScenarioParts.{ScenarioParts}
-use Rattle.ranking.proofs.Maps.{not_some, same_some}
+use Rattle.tournament.proofs.Maps.{not_some, same_some}
 use Rattle.node_core.specs.declared.event.Event.{Event}
 use Rattle.node_core.specs.TraceLine.{TraceLine}
-use Rattle.table_run.specs.State.{State, no_part, opening, due}
+use Rattle.table_run.specs.State.{State, no_part, initial, due}
 use Rattle.table_run.specs.Laws.{ComesTo}
 use Rattle.table_run.proofs.Runs.{run_add, run_end}
 use Rattle.table_run.proofs.Ends.{runs_end}
 use Rattle.window_law.specs.Lookahead.{lookahead}
 use Rattle.window_law.specs.Groups.{GroupState, no_group, group_at, up_to}
-use Rattle.window_law.specs.Windows.{WindowState, Turn, all_done, in_order, all_lines, delivered, opened, went, course_of, setting_of}
+use Rattle.window_law.specs.Windows.{WindowState, Turn, all_done, in_order, all_lines, groups_delivered, opened, went, course_of, setting_of}
 use Rattle.window_law.specs.Calls.{IsOpenFrom, IsTurned, IsInRun, TurnGivesTheRun, EachFiringIsOfTheRun}
 use Rattle.window_law.specs.Schedules.{EveryScheduleGivesTheRun, EveryGroupIsTheRuns, EveryGroupIsAtAStep}
 use Rattle.window_law.proofs.Due.{due_is}
 use Rattle.window_law.proofs.Matches.{pending_under, held_under}
 use Rattle.window_law.proofs.Alone.{times, fires_alone}
-use Rattle.window_law.proofs.Calls.{many, nothing_due, below_end, opening_matches, turn_gives}
+use Rattle.window_law.proofs.Calls.{many, nothing_due, below_end, initial_matches, turn_gives}
 use Rattle.window_law.proofs.Caught.{Caught, goes_on, catch}
 use Rattle.window_law.proofs.Fair.{maker_of, every_run_is_fair}
 use Rattle.window_law.proofs.Schedules.{mid_of, law, between}
 
 pub same_end : (p : ScenarioParts) (m : ℕ) (before : List TraceLine) (s : State) → ComesTo p m before s → s.end ≡ p.end
-same_end p m before s e = run_end m (opening p) s before e
+same_end p m before s e = run_end m (initial p) s before e
 
 -- SCHEDULES
 
@@ -35,7 +35,7 @@ every_schedule_gives_the_run p m before s is_scenario e group groups st moves po
     let x = setting_of group p in
     let r = law x (maker_of p.links) s (same_end p m before s e) (every_run_is_fair p m before s is_scenario e group) groups st moves possible in
     let c = went x (course_of group p groups moves) Turn in
-    record { state = r.state; comes = run_add (opening p) s r.state m (length c.given) before c.given e r.is_run; stands = r.stands }
+    record { state = r.state; comes = run_add (initial p) s r.state m (length c.given) before c.given e r.is_run; stands = r.stands }
 
 pub every_group_is_the_runs : EveryGroupIsTheRuns
 every_group_is_the_runs p m before s is_scenario e group groups st moves =
@@ -53,19 +53,19 @@ module _ (p : ScenarioParts) (group : ℕ → ℕ) (m : ℕ) (before : List Trac
   ends : edge.end ≡ p.end
   ends = same_end p m before edge r.comes
 
-  pub turn_of : all_done w.until w.groups ≡ true → IsTurned (setting_of group p) edge w.until (in_order (all_lines w.groups)) (opened (setting_of group p) (delivered group w.groups))
+  pub turn_of : all_done w.until w.groups ≡ true → IsTurned (setting_of group p) edge w.until (in_order (all_lines w.groups)) (opened (setting_of group p) (groups_delivered group w.groups))
   turn_of all = turn_gives (setting_of group p) edge w r.is_open maker ends (every_run_is_fair p m before edge r.is_scenario r.comes group) all
 
   -- the run catches up with each group
   pub caught : (h : ℕ) → h < length w.groups → Caught group maker ahead w.until h (group_at w.groups h) edge []
   caught h l =
       let ended = runs_end p r.is_scenario in
-      let on = goes_on (opening p) edge ended.last m ended.steps before ended.lines r.comes ended.comes ended.none_due in
+      let on = goes_on (initial p) edge ended.last m ended.steps before ended.lines r.comes ended.comes ended.none_due in
       let inside : h < length r.is_open.start = (let size = many (setting_of group p) edge w r.is_open in omega (arith, l, size)) in
       catch group maker ahead w.until h (group_at w.groups h) on.n edge ended.last [] on.lines r.is_open.start on.is_run ended.none_due
       (below_end (setting_of group p) edge w r.is_open maker ends (every_run_is_fair p m before edge r.is_scenario r.comes group))
       (every_run_is_fair p m before edge r.is_scenario r.comes group)
-      (opening_matches (setting_of group p) edge w r.is_open maker) inside (times group w.until h r.is_open.firings)
+      (initial_matches (setting_of group p) edge w r.is_open maker) inside (times group w.until h r.is_open.firings)
       (ap (λ (g : List GroupState). group_at g h) r.is_open.groups_are ∙ fires_alone group w.until h r.is_open.firings r.is_open.start inside)
 
 pub turn_gives_the_run : TurnGivesTheRun
@@ -106,6 +106,6 @@ every_group_is_at_a_step p m before s is_scenario e group groups st moves b h l 
     let mid = mid_of x (maker_of p.links) s (same_end p m before s e) (every_run_is_fair p m before s is_scenario e group) groups st moves in
     let same = same_some (c.given, mid.edge) (c.given, b.edge) (sym mid.is_run ∙ b.is_run) in
     let is_open : IsOpenFrom x b.edge c.window = subst (λ (q : List TraceLine × State). IsOpenFrom x q.1 c.window) same mid.is_open in
-    let in_run : IsInRun p group (m + length c.given) (before ++ c.given) b.edge c.window = record { is_scenario = is_scenario; comes = run_add (opening p) s b.edge m (length c.given) before c.given e b.is_run; is_open = is_open } in
+    let in_run : IsInRun p group (m + length c.given) (before ++ c.given) b.edge c.window = record { is_scenario = is_scenario; comes = run_add (initial p) s b.edge m (length c.given) before c.given e b.is_run; is_open = is_open } in
     let r = caught p group (m + length c.given) (before ++ c.given) b.edge c.window in_run h l in
     record { steps = r.n; lines = r.more; state = r.state; is_run = r.is_run; are_lines = (r.early, ap (λ (g : GroupState). g.lines) r.same ∙ r.matches.lines_are h) }

@@ -8,11 +8,11 @@ use Rattle.sim_time.proofs.Order.{earlier_less}
 use Rattle.scenario_image.specs.declared.parts.LinkPart.{LinkPart}
 use Rattle.scenario_image.specs.declared.parts.ScenarioParts.{ScenarioParts}
 use Rattle.scenario_image.specs.Scenario.{IsScenario}
-use Rattle.ranking.proofs.Maps.{not_some, same_some}
+use Rattle.tournament.proofs.Maps.{not_some, same_some}
 use Rattle.node_core.specs.declared.event.Event.{Event}
-use Rattle.node_core.specs.Pending.{Change}
+use Rattle.node_core.specs.Pending.{EventChange}
 use Rattle.node_core.specs.TraceLine.{TraceLine}
-use Rattle.table_run.specs.State.{State, opening}
+use Rattle.table_run.specs.State.{State, initial}
 use Rattle.table_run.specs.Laws.{ComesTo, made_by, IsDueSoon, ComesOver, IsMadeAt}
 use Rattle.table_run.proofs.Lists.{all_map}
 use Rattle.table_run.proofs.Runs.{Along, run_add}
@@ -27,7 +27,7 @@ from_of : Option LinkPart → ℕ
 from_of None = 0
 from_of (Some link) = link.from
 
--- who may change a key: an alarm its node, an arrival the node that the link leaves
+-- who may change a key: a timer its node, an arrival the node that the link leaves
 pub maker_of : List LinkPart → Key → ℕ
 maker_of links k = cond (k.source == 0) k.node (from_of (slice_get links (k.source - 1)))
 
@@ -70,7 +70,7 @@ unfolding is_own
 others_node group h k e same = true≢false (sym (eq-eqb _ _ same) ∙ e)
 
 module _ (p : ScenarioParts) (group : ℕ → ℕ) (k : Key) where
-  made_here : (c : Change) → IsMadeAt p k c → maker_of p.links c.0 ≡ k.node
+  made_here : (c : EventChange) → IsMadeAt p k c → maker_of p.links c.0 ≡ k.node
   unfolding maker_of from_of
   made_here c h =
       ⊎_elim
@@ -84,7 +84,7 @@ module _ (p : ScenarioParts) (group : ℕ → ℕ) (k : Key) where
       ∙ o.leaves)
       h
 
-  far_off : (c : Change) → IsMadeAt p k c → is_own group (group k.node) c.0 ≡ false → IsAhead (lookahead group p.links) k.time c.0.time
+  far_off : (c : EventChange) → IsMadeAt p k c → is_own group (group k.node) c.0 ≡ false → IsAhead (lookahead group p.links) k.time c.0.time
   far_off c h other =
       let off = others_node group (group k.node) c.0 other in
       ⊎_elim
@@ -94,7 +94,7 @@ module _ (p : ScenarioParts) (group : ℕ → ℕ) (k : Key) where
       (crossing_by group p.links o.number o.link o.its_link (λ same. off (ap group (sym o.ends) ∙ same ∙ ap group o.leaves))) o.late)
       h
 
-  soon_later : (c : Change) → IfSome c.1 (λ _. IsDueSoon k.time c.0) → IfSome c.1 (λ _. key_cmp k c.0 ≡ Less)
+  soon_later : (c : EventChange) → IfSome c.1 (λ _. IsDueSoon k.time c.0) → IfSome c.1 (λ _. key_cmp k c.0 ≡ Less)
   soon_later c h = at c.0 c.1 h
     where
       at : (q : Key) (o : Option Event) → IfSome o (λ _. IsDueSoon k.time q) → IfSome o (λ _. key_cmp k q ≡ Less)
@@ -104,11 +104,11 @@ module _ (p : ScenarioParts) (group : ℕ → ℕ) (k : Key) where
 -- from each state of a scenario's run on
 pub every_run_is_fair : (p : ScenarioParts) (m : ℕ) (before : List TraceLine) (s : State) → IsScenario p → ComesTo p m before s → (group : ℕ → ℕ) → Along (FairStep group (maker_of p.links) (lookahead group p.links)) s
 every_run_is_fair p m before s is_scenario e group n lines t is k v due_is =
-    let all : ComesTo p (m + n) (before ++ lines) t = run_add (opening p) s t m n before lines e is in
+    let all : ComesTo p (m + n) (before ++ lines) t = run_add (initial p) s t m n before lines e is in
     let local = effects_are_local p (m + n) (before ++ lines) t is_scenario all k v due_is in
     record {
-      made = all_map (IsMadeAt p k) (λ (c : Change). maker_of p.links c.0 ≡ k.node) (made_here p group k) (made_by t k v) local;
-      later = all_map (λ (c : Change). IfSome c.1 (λ _. IsDueSoon k.time c.0)) (λ (c : Change). IfSome c.1 (λ _. key_cmp k c.0 ≡ Less)) (soon_later p group k) (made_by t k v) (effects_are_soon p (m + n) (before ++ lines) t is_scenario all k v due_is);
+      made = all_map (IsMadeAt p k) (λ (c : EventChange). maker_of p.links c.0 ≡ k.node) (made_here p group k) (made_by t k v) local;
+      later = all_map (λ (c : EventChange). IfSome c.1 (λ _. IsDueSoon k.time c.0)) (λ (c : EventChange). IfSome c.1 (λ _. key_cmp k c.0 ≡ Less)) (soon_later p group k) (made_by t k v) (effects_are_soon p (m + n) (before ++ lines) t is_scenario all k v due_is);
       sent = crossing_sent group t k v;
-      far = all_map (IsMadeAt p k) (λ (c : Change). is_own group (group k.node) c.0 ≡ false → IsAhead (lookahead group p.links) k.time c.0.time) (far_off p group k) (made_by t k v) local;
+      far = all_map (IsMadeAt p k) (λ (c : EventChange). is_own group (group k.node) c.0 ≡ false → IsAhead (lookahead group p.links) k.time c.0.time) (far_off p group k) (made_by t k v) local;
     }

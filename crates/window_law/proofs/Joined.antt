@@ -2,9 +2,9 @@
 use Rattle.std.proofs.Common.{◌≡◌, ◌<◌, ◌+◌, ℕ, zero, suc, List, length, map, get_or, refl, sym, ap, ◌∙◌, arith, ext_get_or}
 use Rattle.std.proofs.Math.ListN.{get_or-map}
 use Rattle.std.specs.FinMap.{get}
-use Rattle.ranking.specs.Gathered.{gathered, map_at, AtHome}
-use Rattle.ranking.proofs.Maps.{same_at}
-use Rattle.ranking.proofs.Gathered.{get-gathered}
+use Rattle.tournament.specs.Gathered.{gathered, map_at, AtHome}
+use Rattle.tournament.proofs.Maps.{same_at}
+use Rattle.tournament.proofs.Gathered.{get-gathered}
 use Rattle.node_core.specs.Pending.{Events}
 use Rattle.table_run.specs.State.{no_part}
 use Rattle.window_law.specs.Groups.{GroupState, no_group, group_at}

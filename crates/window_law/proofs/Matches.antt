@@ -6,8 +6,8 @@ use Rattle.std.specs.Option.{option_or}
 use Rattle.std.specs.FinMap.{get}
 use Rattle.sim_time.specs.declared.key.Key.{Key}
 use Rattle.node_core.specs.declared.event.Event.{Event}
-use Rattle.ranking.specs.Keyed.{EachKey}
-use Rattle.ranking.proofs.Maps.{none_or, not_some}
+use Rattle.tournament.specs.Keyed.{EachKey}
+use Rattle.tournament.proofs.Maps.{none_or, not_some}
 use Rattle.table_run.specs.Sound.{EachEvent}
 use Rattle.table_run.specs.State.{State, no_part, part_at}
 use Rattle.node_core.specs.TraceLine.{TraceLine}

@@ -8,18 +8,18 @@ use Rattle.sim_time.specs.declared.key.Key.{Key}
 use Rattle.sim_time.specs.Keys.{key_cmp}
 use Rattle.sim_time.proofs.Order.{keys_total}
 use Rattle.node_core.specs.declared.event.Event.{Event}
-use Rattle.ranking.specs.Keyed.{apply, EachKey}
-use Rattle.ranking.proofs.Maps.{none_or, each_apply}
-use Rattle.node_core.specs.Pending.{Events, Change}
+use Rattle.tournament.specs.Keyed.{apply, EachKey}
+use Rattle.tournament.proofs.Maps.{none_or, each_apply}
+use Rattle.node_core.specs.Pending.{Events, EventChange}
 use Rattle.node_core.specs.Part.{PartState}
 use Rattle.node_core.specs.Row.{Effect, row}
 use Rattle.table_run.specs.Sound.{EachEvent}
 use Rattle.table_run.specs.State.{State, no_part, effect_of, stepped, line_of}
 use Rattle.node_core.specs.TraceLine.{TraceLine}
 use Rattle.table_run.specs.Laws.{made_by}
-use Rattle.table_run.proofs.Opening.{each_applied}
+use Rattle.table_run.proofs.Initial.{each_applied}
 use Rattle.table_run.proofs.Lists.{all_map}
-use Rattle.window_law.specs.Groups.{GroupState, no_group, group_at, is_own, own_of, others_of, fired, fire_on, fire_at}
+use Rattle.window_law.specs.Groups.{GroupState, no_group, group_at, is_own, own_of, others_of, group_fired, fire_on, fire_at}
 use Rattle.window_law.specs.Calls.{IsWithin}
 use Rattle.window_law.proofs.Premises.{IsAhead, IsFair}
 use Rattle.window_law.proofs.Changes.{same, same_is, over, get-apply, over-or, over-keep, over-absent, all_filter, all_passed, all_both, each_left}
@@ -34,25 +34,25 @@ module _ (group : ℕ → ℕ) (maker : Key → ℕ) (ahead : Option ℕ) (until
     abbrev eff : Effect
     eff = effect_of s (k, v)
 
-    abbrev made : List Change
+    abbrev made : List EventChange
     made = made_by s k v
 
     abbrev groups' : List GroupState
-    groups' = set groups g (fired group g (group_at groups g) (k, v) eff)
+    groups' = set groups g (group_fired group g (group_at groups g) (k, v) eff)
 
     pub fires_it : fire_at group until g groups ≡ groups'
     fires_it =
         ap (λ (o : Option (Key × Event)). set groups g (unwrap_or (option_map (fire_on group g until (group_at groups g)) o) (group_at groups g))) (is_due until (group_at groups g).pending k v (due_there group maker ahead until s lines groups m k v d))
-        ∙ ap (λ (p : PartState). set groups g (fired group g (group_at groups g) (k, v) (row p k v))) (sym (m.parts k.node))
+        ∙ ap (λ (p : PartState). set groups g (group_fired group g (group_at groups g) (k, v) (row p k v))) (sym (m.parts k.node))
 
-    here : (h : ℕ) → h ≡ g → group_at groups' h ≡ fired group g (group_at groups g) (k, v) eff
+    here : (h : ℕ) → h ≡ g → group_at groups' h ≡ group_fired group g (group_at groups g) (k, v) eff
     here h e = ap (group_at groups') e ∙ get_or-set_same groups g _ no_group (m.few k.node)
 
     elsewhere : (h : ℕ) → h ≢ g → group_at groups' h ≡ group_at groups h
     elsewhere h e = get_or-set_other groups g h _ no_group e
 
     new_few : (n : ℕ) → group n < length groups'
-    new_few n = omega (arith, m.few n, length-set groups g (fired group g (group_at groups g) (k, v) eff))
+    new_few n = omega (arith, m.few n, length-set groups g (group_fired group g (group_at groups g) (k, v) eff))
 
     new_sizes : (n : ℕ) → length (group_at groups' (group n)).parts ≡ length (set s.parts k.node eff.part)
     new_sizes n =
@@ -116,8 +116,8 @@ module _ (group : ℕ → ℕ) (maker : Key → ℕ) (ahead : Option ℕ) (until
         ∙ ap (λ h. over made q (get (group_at groups h).held q)) (sym e)
 
     -- what is made for others is put in
-    put_in : (q : Key) → is_own group g q ≡ false → AllByRecursion (λ (c : Change). same q c.0 ≡ true → c.1 ≢ None) made
-    put_in q off = all_map (λ (c : Change). is_own group g c.0 ≡ false → c.1 ≢ None) (λ (c : Change). same q c.0 ≡ true → c.1 ≢ None) (λ c h t. h (ap (is_own group g) (sym (same_is q c.0 t)) ∙ off)) made fair.sent
+    put_in : (q : Key) → is_own group g q ≡ false → AllByRecursion (λ (c : EventChange). same q c.0 ≡ true → c.1 ≢ None) made
+    put_in q off = all_map (λ (c : EventChange). is_own group g c.0 ≡ false → c.1 ≢ None) (λ (c : EventChange). same q c.0 ≡ true → c.1 ≢ None) (λ c h t. h (ap (is_own group g) (sym (same_is q c.0 t)) ∙ off)) made fair.sent
 
     new_held : (h : ℕ) → EachKey (IsHeld group maker until h) (group_at groups' h).held
     new_held h =
@@ -126,13 +126,13 @@ module _ (group : ℕ → ℕ) (maker : Key → ℕ) (ahead : Option ℕ) (until
         (λ (e : h ≢ g). subst (λ (x : GroupState). EachKey (IsHeld group maker until h) x.held) (sym (elsewhere h e)) (m.held h))
         (cases_eq h g)
       where
-        kept : (c : Change) → (((maker c.0 ≡ k.node) × (is_own group (group k.node) c.0 ≡ false → IsAhead ahead k.time c.0.time)) × (not (is_own group g c.0) ≡ true)) → IsHeld group maker until g c.0
+        kept : (c : EventChange) → (((maker c.0 ≡ k.node) × (is_own group (group k.node) c.0 ≡ false → IsAhead ahead k.time c.0.time)) × (not (is_own group g c.0) ≡ true)) → IsHeld group maker until g c.0
         kept c x = let off = not_true _ x.1 in record { by = ap group x.0.0; other = off; late = ahead_late ahead until k.time c.0.time (m.soon k v d.there) (x.0.1 off) }
 
         mine : EachKey (IsHeld group maker until g) (apply (others_of group g made) (group_at groups g).held)
         mine =
             each_apply (IsHeld group maker until g) (others_of group g made) (group_at groups g).held
-            (all_map _ _ kept _ (all_filter _ (λ (c : Change). not (is_own group g c.0)) made (all_both _ _ made fair.made fair.far))) (m.held g)
+            (all_map _ _ kept _ (all_filter _ (λ (c : EventChange). not (is_own group g c.0)) made (all_both _ _ made fair.made fair.far))) (m.held g)
 
     quiet' : (h : ℕ) (q : Key) → (IsHeld group maker until h q → ⊥) → get (group_at groups' h).held q ≡ None
     quiet' h q off = none_or (get (group_at groups' h).held q) (λ v e. off (new_held h q v e))
@@ -160,7 +160,7 @@ module _ (group : ℕ → ℕ) (maker : Key → ℕ) (ahead : Option ℕ) (until
         ∙ ap (over made q) (own_event (same q k) q _ refl)
         ∙ over-or made q _ _ (put_in q t)
         ∙ ap (option_or (over made q (get (group_at groups (group (maker q))).held q)))
-        (get_left q (λ y. over-absent (λ z. is_own group g z ≡ true) (own_of group g made) q y (all_passed (λ (c : Change). is_own group g c.0) made) (λ z. true≢false (sym z ∙ t))))
+        (get_left q (λ y. over-absent (λ z. is_own group g z ≡ true) (own_of group g made) q y (all_passed (λ (c : EventChange). is_own group g c.0) made) (λ z. true≢false (sym z ∙ t))))
         ∙ ap (λ o. option_or o (get (group_at groups' (group q.node)).pending q)) (sym (held_here q f t)))
         (cases_Bool (is_own group g q)))
         (λ (f : group (maker q) ≢ g).
@@ -168,7 +168,7 @@ module _ (group : ℕ → ℕ) (maker : Key → ℕ) (ahead : Option ℕ) (until
         ∙ not_made q _ f
         ∙ own_event (same q k) q _ refl
         ∙ ap (option_or (get (group_at groups (group (maker q))).held q))
-        (get_left q (λ y. over-absent (λ z. (maker z ≡ k.node) × (is_own group g z ≡ true)) (own_of group g made) q y (all_filter (λ (c : Change). maker c.0 ≡ k.node) (λ (c : Change). is_own group g c.0) made fair.made) (λ z. f (ap group z.0))))
+        (get_left q (λ y. over-absent (λ z. (maker z ≡ k.node) × (is_own group g z ≡ true)) (own_of group g made) q y (all_filter (λ (c : EventChange). maker c.0 ≡ k.node) (λ (c : EventChange). is_own group g c.0) made fair.made) (λ z. f (ap group z.0))))
         ∙ ap (λ (y : GroupState). option_or (get y.held q) (get (group_at groups' (group q.node)).pending q)) (sym (elsewhere _ f)))
         (cases_eq (group (maker q)) g)
 
@@ -186,7 +186,7 @@ module _ (group : ℕ → ℕ) (maker : Key → ℕ) (ahead : Option ℕ) (until
         kept_own : (p : Events) → EachEvent (λ q u. group q.node ≡ g) p → EachEvent (λ q u. group q.node ≡ g) (apply (own_of group g made) (remove p k))
         kept_own p own =
             each_applied (λ q u. group q.node ≡ g) (own_of group g made) (remove p k)
-            (all_map _ _ (λ c h. if_some c.0 c.1 (own_node group g c.0 h)) _ (all_passed (λ (c : Change). is_own group g c.0) made))
+            (all_map _ _ (λ c h. if_some c.0 c.1 (own_node group g c.0 h)) _ (all_passed (λ (c : EventChange). is_own group g c.0) made))
             (each_left (λ q u. group q.node ≡ g) (λ q u. group q.node ≡ g) p k (λ q u h _. h) own)
 
     new_soon : EachEvent (λ q u. IsWithin ahead until q.time) (apply made (remove s.pending k))

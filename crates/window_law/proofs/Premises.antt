@@ -6,7 +6,7 @@ use Rattle.std.specs.declared.cmp.Ordering.TheVariants.{Less}
 use Rattle.sim_time.specs.declared.key.Key.{Key}
 use Rattle.sim_time.specs.Keys.{key_cmp}
 use Rattle.node_core.specs.declared.event.Event.{Event}
-use Rattle.node_core.specs.Pending.{Change}
+use Rattle.node_core.specs.Pending.{EventChange}
 use Rattle.table_run.specs.State.{State, due}
 use Rattle.table_run.specs.Laws.{made_by}
 use Rattle.window_law.specs.Groups.{is_own}
@@ -17,11 +17,11 @@ IsAhead None now time = ⊥
 IsAhead (Some delay) now time = now + delay ≤ time
 
 -- the changes that the event of a key makes, where each key has one node that may change it
-pub record IsFair (group : ℕ → ℕ) (maker : Key → ℕ) (ahead : Option ℕ) (k : Key) (changes : List Change) : Type 0 where
-  pub made : AllByRecursion (λ (c : Change). maker c.0 ≡ k.node) changes
-  pub later : AllByRecursion (λ (c : Change). IfSome c.1 (λ _. key_cmp k c.0 ≡ Less)) changes
-  pub sent : AllByRecursion (λ (c : Change). is_own group (group k.node) c.0 ≡ false → c.1 ≢ None) changes
-  pub far : AllByRecursion (λ (c : Change). is_own group (group k.node) c.0 ≡ false → IsAhead ahead k.time c.0.time) changes
+pub record IsFair (group : ℕ → ℕ) (maker : Key → ℕ) (ahead : Option ℕ) (k : Key) (changes : List EventChange) : Type 0 where
+  pub made : AllByRecursion (λ (c : EventChange). maker c.0 ≡ k.node) changes
+  pub later : AllByRecursion (λ (c : EventChange). IfSome c.1 (λ _. key_cmp k c.0 ≡ Less)) changes
+  pub sent : AllByRecursion (λ (c : EventChange). is_own group (group k.node) c.0 ≡ false → c.1 ≢ None) changes
+  pub far : AllByRecursion (λ (c : EventChange). is_own group (group k.node) c.0 ≡ false → IsAhead ahead k.time c.0.time) changes
 
 abbrev pub FairStep : (ℕ → ℕ) → (Key → ℕ) → Option ℕ → State → Type 0
 FairStep group maker ahead s = (k : Key) (v : Event) → due s ≡ Some (k, v) → IsFair group maker ahead k (made_by s k v)

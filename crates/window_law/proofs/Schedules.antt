@@ -6,7 +6,7 @@ use Rattle.node_core.specs.declared.event.Event.{Event}
 use Rattle.table_run.specs.State.{State, due, run}
 use Rattle.node_core.specs.TraceLine.{TraceLine}
 use Rattle.window_law.specs.Groups.{GroupState, group_at, up_to, fire_on}
-use Rattle.window_law.specs.Windows.{Setting, WindowState, Move, Fire, Turn, Limit, Course, in_order, all_lines, delivered, all_done, none_fired, opened, moved, gone_on, went, course, begun}
+use Rattle.window_law.specs.Windows.{Setting, WindowState, Move, Fire, Turn, Limit, Course, in_order, all_lines, groups_delivered, all_done, none_fired, opened, moved, gone_on, went, course, course_begun}
 use Rattle.window_law.specs.Standing.{Stands}
 use Rattle.window_law.specs.Calls.{IsOpenFrom}
 use Rattle.window_law.specs.Schedules.{Between}
@@ -38,7 +38,7 @@ module _ (x : Setting) (maker : Key → ℕ) (s0 : State) (ends : s0.end ≡ x.e
 
   -- a turn that is taken
   abbrev turned : Course → Course
-  turned c = record { window = opened x (delivered x.group c.window.groups); given = c.given ++ in_order (all_lines c.window.groups) }
+  turned c = record { window = opened x (groups_delivered x.group c.window.groups); given = c.given ++ in_order (all_lines c.window.groups) }
 
   run_further : (given lines : List TraceLine) (edge t : State) → run s0 (length given) ≡ Some (given, edge) → run edge (length lines) ≡ Some (lines, t) → run s0 (length (given ++ lines)) ≡ Some (given ++ lines, t)
   run_further given lines edge t e f = ap (run s0) (length-append given lines) ∙ run_add s0 edge t (length given) (length lines) given lines e f
@@ -57,7 +57,7 @@ module _ (x : Setting) (maker : Key → ℕ) (s0 : State) (ends : s0.end ≡ x.e
   keeps : (c : Course) (move : Move) → Mid x s0 c → Mid x s0 (went x c move)
   keeps c (Fire h) m = fires_on c m h (due (up_to c.window.until (group_at c.window.groups h))) refl
   keeps c Turn m =
-      elim (all_done c.window.until c.window.groups) as (λ b. all_done c.window.until c.window.groups ≡ b → Mid x s0 (gone_on c (cond b (Some (opened x (delivered x.group c.window.groups), in_order (all_lines c.window.groups))) None))) [
+      elim (all_done c.window.until c.window.groups) as (λ b. all_done c.window.until c.window.groups ≡ b → Mid x s0 (gone_on c (cond b (Some (opened x (groups_delivered x.group c.window.groups), in_order (all_lines c.window.groups))) None))) [
         | true ↦ λ all. (turns c m all).1
         | false ↦ λ _. m
       ] refl
@@ -71,11 +71,11 @@ module _ (x : Setting) (maker : Key → ℕ) (s0 : State) (ends : s0.end ≡ x.e
   all_keep [] c m = m
   all_keep (move ∷ moves) c m = all_keep moves (went x c move) (keeps c move m)
 
-  pub mid_of : (groups : List GroupState) → Stands x.group s0 groups → (moves : List Move) → Mid x s0 (course x (begun x groups) moves)
-  mid_of groups st moves = all_keep moves (begun x groups) record { edge = s0; is_run = refl; is_open = opens x s0 groups st }
+  pub mid_of : (groups : List GroupState) → Stands x.group s0 groups → (moves : List Move) → Mid x s0 (course x (course_begun x groups) moves)
+  mid_of groups st moves = all_keep moves (course_begun x groups) record { edge = s0; is_run = refl; is_open = opens x s0 groups st }
 
   abbrev turn_if : Course → Bool → Option (WindowState × List TraceLine)
-  turn_if c b = cond b (Some (opened x (delivered x.group c.window.groups), in_order (all_lines c.window.groups))) None
+  turn_if c b = cond b (Some (opened x (groups_delivered x.group c.window.groups), in_order (all_lines c.window.groups))) None
 
   -- whenever a turn was taken
   turned_stands : (c : Course) → Mid x s0 c → moved x c.window Turn ≢ None → IsRunTo x.group s0 (went x c Turn)
@@ -85,11 +85,11 @@ module _ (x : Setting) (maker : Key → ℕ) (s0 : State) (ends : s0.end ≡ x.e
         | false ↦ λ _ none. absurd (none refl)
       ] refl possible
 
-  pub law : (groups : List GroupState) → Stands x.group s0 groups → (moves : List Move) → moved x (course x (begun x groups) moves).window Turn ≢ None → IsRunTo x.group s0 (went x (course x (begun x groups) moves) Turn)
-  law groups st moves possible = turned_stands (course x (begun x groups) moves) (mid_of groups st moves) possible
+  pub law : (groups : List GroupState) → Stands x.group s0 groups → (moves : List Move) → moved x (course x (course_begun x groups) moves).window Turn ≢ None → IsRunTo x.group s0 (went x (course x (course_begun x groups) moves) Turn)
+  law groups st moves possible = turned_stands (course x (course_begun x groups) moves) (mid_of groups st moves) possible
 
-  pub between : (groups : List GroupState) → Stands x.group s0 groups → (moves : List Move) → Between x.group s0 (course x (begun x groups) moves)
+  pub between : (groups : List GroupState) → Stands x.group s0 groups → (moves : List Move) → Between x.group s0 (course x (course_begun x groups) moves)
   between groups st moves =
-      let c = course x (begun x groups) moves in
+      let c = course x (course_begun x groups) moves in
       let m = mid_of groups st moves in
       record { edge = m.edge; is_run = m.is_run; inside = λ j lines t e h a. inside x m.edge c.window m.is_open maker (same_end c m) (fair_from c m) j lines t e a.0 h a.1 }

@@ -9,13 +9,13 @@ use Rattle.sim_time.specs.declared.key.Key.{Key}
 use Rattle.sim_time.specs.Keys.{key_cmp}
 use Rattle.sim_time.proofs.Order.{keys_total, exact_keys}
 use Rattle.node_core.specs.declared.event.Event.{Event}
-use Rattle.node_core.specs.Pending.{Change}
+use Rattle.node_core.specs.Pending.{EventChange}
 use Rattle.table_run.specs.Sound.{EachEvent}
 use Rattle.table_run.specs.State.{State, due, effect_of, stepped, line_of, step, run}
 use Rattle.node_core.specs.TraceLine.{TraceLine}
-use Rattle.ranking.proofs.Maps.{same_some, both, both_of}
+use Rattle.tournament.proofs.Maps.{same_some, both, both_of}
 use Rattle.table_run.specs.Laws.{made_by}
-use Rattle.table_run.proofs.Opening.{each_applied}
+use Rattle.table_run.proofs.Initial.{each_applied}
 use Rattle.table_run.proofs.Lists.{all_append, all_map}
 use Rattle.window_law.specs.Windows.{keyed}
 use Rattle.window_law.proofs.Premises.{FairStep}
@@ -51,7 +51,7 @@ module _ (group : ℕ → ℕ) (maker : Key → ℕ) (ahead : Option ℕ) where
       record {
         sorted = sorted_push lines line t.sorted here;
         before = each_applied (λ q u. AllByRecursion (λ (l : TraceLine). key_cmp l.key q ≡ Less) (lines ++ line ∷ [])) (made_by s k v) (remove s.pending k)
-            (all_map (λ (c : Change). IfSome c.1 (λ _. key_cmp k c.0 ≡ Less)) (λ (c : Change). IfSome c.1 (λ _. AllByRecursion (λ (l : TraceLine). key_cmp l.key c.0 ≡ Less) (lines ++ line ∷ []))) (λ c h. if_some here c.0 c.1 h) (made_by s k v) (fair k v e).later)
+            (all_map (λ (c : EventChange). IfSome c.1 (λ _. key_cmp k c.0 ≡ Less)) (λ (c : EventChange). IfSome c.1 (λ _. AllByRecursion (λ (l : TraceLine). key_cmp l.key c.0 ≡ Less) (lines ++ line ∷ []))) (λ c h. if_some here c.0 c.1 h) (made_by s k v) (fair k v e).later)
             (each_left (λ q u. key_cmp q k ≡ Less → ⊥) (λ q u. AllByRecursion (λ (l : TraceLine). key_cmp l.key q ≡ Less) (lines ++ line ∷ [])) s.pending k
             (λ q u h other. push here q (above k q (key_cmp q k) refl other h)) (λ q u there. d.least q (some_not _ u there)));
       }

@@ -11,17 +11,17 @@ use Rattle.sim_time.specs.declared.key.Key.{Key}
 use Rattle.sim_time.specs.Keys.{key_cmp}
 use Rattle.sim_time.proofs.Order.{keys_total, exact_keys}
 use Rattle.node_core.specs.declared.event.Event.{Event}
-use Rattle.ranking.specs.Keyed.{apply, entering, EachKey}
-use Rattle.ranking.specs.Gathered.{map_at, AtHome}
-use Rattle.ranking.proofs.Maps.{each_empty}
-use Rattle.ranking.proofs.Gathered.{get-gathered}
+use Rattle.tournament.specs.Keyed.{apply, entering, EachKey}
+use Rattle.tournament.specs.Gathered.{map_at, AtHome}
+use Rattle.tournament.proofs.Maps.{each_empty}
+use Rattle.tournament.proofs.Gathered.{get-gathered}
 use Rattle.node_core.specs.Pending.{Events}
 use Rattle.table_run.specs.Sound.{EachEvent}
 use Rattle.table_run.specs.State.{State, no_part}
 use Rattle.node_core.specs.TraceLine.{TraceLine}
 use Rattle.window_law.specs.Groups.{GroupState, no_group, group_at}
 use Rattle.window_law.specs.Lookahead.{lesser}
-use Rattle.window_law.specs.Windows.{Setting, keyed, in_order, delivered_to, all_held, all_lines, delivered, first_time, soonest, sum_of, at_most, window_end}
+use Rattle.window_law.specs.Windows.{Setting, keyed, in_order, delivered_to, all_held, all_lines, groups_delivered, first_time, soonest, sum_of, at_most, window_end}
 use Rattle.window_law.specs.Calls.{IsWithin}
 use Rattle.window_law.specs.Standing.{Stands}
 use Rattle.window_law.proofs.Changes.{same, get-entering}
@@ -90,7 +90,7 @@ length_numbered : {A : Type 0} (n : ℕ) (xs : List A) → length (enumerate_fro
 length_numbered n [] = refl
 length_numbered n (x ∷ xs) = ap suc (length_numbered (n + 1) xs)
 
-pub length_delivered : (group : ℕ → ℕ) (groups : List GroupState) → length (delivered group groups) ≡ length groups
+pub length_delivered : (group : ℕ → ℕ) (groups : List GroupState) → length (groups_delivered group groups) ≡ length groups
 length_delivered group groups = length-map (enumerate_from 0 groups) (delivered_to group (all_held groups)) ∙ length_numbered 0 groups
 
 delivered_from : (group : ℕ → ℕ) (held : Events) (m : ℕ) (groups : List GroupState) (h : ℕ) → h < length groups → group_at (map (delivered_to group held) (enumerate_from m groups)) h ≡ delivered_to group held (m + h, group_at groups h)
@@ -98,11 +98,11 @@ delivered_from group held m [] h l = absurd (omega (arith, l))
 delivered_from group held m (g ∷ groups) zero l = ap (λ n. delivered_to group held (n, g)) {x = m} {y = m + 0} (omega arith)
 delivered_from group held m (g ∷ groups) (suc h) l = delivered_from group held (m + 1) groups h (omega (arith, l)) ∙ ap (λ n. delivered_to group held (n, group_at groups h)) {x = m + 1 + h} {y = m + suc h} (omega arith)
 
-pub delivered_at : (group : ℕ → ℕ) (groups : List GroupState) (h : ℕ) → h < length groups → group_at (delivered group groups) h ≡ delivered_to group (all_held groups) (h, group_at groups h)
+pub delivered_at : (group : ℕ → ℕ) (groups : List GroupState) (h : ℕ) → h < length groups → group_at (groups_delivered group groups) h ≡ delivered_to group (all_held groups) (h, group_at groups h)
 delivered_at group groups h l = delivered_from group (all_held groups) 0 groups h l ∙ ap (λ n. delivered_to group (all_held groups) (n, group_at groups h)) {x = 0 + h} {y = h} (omega arith)
 
-past : (group : ℕ → ℕ) (groups : List GroupState) (h : ℕ) → length groups ≤ h → group_at (delivered group groups) h ≡ no_group
-past group groups h l = get_or_past (delivered group groups) h no_group (omega (arith, l, length_delivered group groups))
+past : (group : ℕ → ℕ) (groups : List GroupState) (h : ℕ) → length groups ≤ h → group_at (groups_delivered group groups) h ≡ no_group
+past group groups h l = get_or_past (groups_delivered group groups) h no_group (omega (arith, l, length_delivered group groups))
 
 not_there : {A : Type 0} (o : Option A) → ((v : A) → o ≡ Some v → ⊥) → o ≡ None
 not_there (Some x) h = absurd (h x refl)
@@ -134,7 +134,7 @@ module _ (group : ℕ → ℕ) (maker : Key → ℕ) (ahead : Option ℕ) (until
   held_for : (h : ℕ) (k : Key) → get (retain_keys (all_held groups) (λ q. group q.node == h)) k ≡ cond (group k.node == h) (get (group_at groups (group (maker k))).held k) None
   held_for h k = get-retain_keys (all_held groups) (λ q. group q.node == h) k (λ q e. ap (λ (y : Key). group y.node == h) (sym (exact_keys k q e))) ∙ ap (λ o. cond (group k.node == h) o None) (held_at k)
 
-  pub stands_after : Stands group s (delivered group groups)
+  pub stands_after : Stands group s (groups_delivered group groups)
   stands_after = record {
     few = λ n. omega (arith, m.few n, length_delivered group groups);
     sizes = λ n. ap (λ (g : GroupState). length g.parts) (delivered_at group groups (group n) (m.few n)) ∙ m.sizes n;
@@ -160,7 +160,7 @@ module _ (group : ℕ → ℕ) (maker : Key → ℕ) (ahead : Option ℕ) (until
           ∙ ap (λ b. cond b (get s.pending k) None) (sym (ne_eqb _ _ e)))
           (cases_eq (group k.node) h)
 
-      pending_at : (h : ℕ) (k : Key) → get (group_at (delivered group groups) h).pending k ≡ cond (group k.node == h) (get s.pending k) None
+      pending_at : (h : ℕ) (k : Key) → get (group_at (groups_delivered group groups) h).pending k ≡ cond (group k.node == h) (get s.pending k) None
       pending_at h k =
           ⊎_elim
           (λ (l : h < length groups). ap (λ (g : GroupState). get g.pending k) (delivered_at group groups h l) ∙ there h k)

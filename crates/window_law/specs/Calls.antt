@@ -11,7 +11,7 @@ use Rattle.table_run.specs.State.{State, no_part, part_at, due, run}
 use Rattle.table_run.specs.Sound.{EachEvent}
 use Rattle.table_run.specs.Laws.{ComesTo}
 use Rattle.window_law.specs.Groups.{GroupState, group_at, up_to, fire, fires, fire_times}
-use Rattle.window_law.specs.Windows.{Setting, WindowState, AreBelow, all_done, none_fired, in_order, all_lines, delivered, opened, setting_of}
+use Rattle.window_law.specs.Windows.{Setting, WindowState, AreBelow, all_done, none_fired, in_order, all_lines, groups_delivered, opened, setting_of}
 use Rattle.window_law.specs.Standing.{Stands}
 
 -- a moment is at most the lookahead after another, where there is a lookahead
@@ -65,7 +65,7 @@ pub record IsInRun (p : ScenarioParts) (group : ℕ → ℕ) (m : ℕ) (before :
 
 abbrev pub TurnGivesTheRun : Type 0
 TurnGivesTheRun = (p : ScenarioParts) (group : ℕ → ℕ) (m : ℕ) (before : List TraceLine) (edge : State) (w : WindowState) → IsInRun p group m before edge w
-    → all_done w.until w.groups ≡ true → IsTurned (setting_of group p) edge w.until (in_order (all_lines w.groups)) (opened (setting_of group p) (delivered group w.groups))
+    → all_done w.until w.groups ≡ true → IsTurned (setting_of group p) edge w.until (in_order (all_lines w.groups)) (opened (setting_of group p) (groups_delivered group w.groups))
 
 -- something is under each key of a map under which something is in another
 abbrev pub AreUnder : Events → Events → Type 0

@@ -3,9 +3,9 @@ use Rattle.std.specs.Prelude.{ℕ, zero, suc, Bool, not, ◌==◌, List, [], ◌
 use Rattle.std.specs.Option.{option_map}
 use Rattle.std.specs.FinMap as map
 use Rattle.sim_time.specs.declared.key.Key.{Key}
-use Rattle.ranking.specs.Keyed.{apply, nothing_due}
+use Rattle.tournament.specs.Keyed.{apply, nothing_due}
 use Rattle.node_core.specs.declared.event.Event.{Event}
-use Rattle.node_core.specs.Pending.{Events, Change}
+use Rattle.node_core.specs.Pending.{Events, EventChange}
 use Rattle.node_core.specs.Part.{PartState}
 use Rattle.node_core.specs.Row.{Effect, changes_of}
 use Rattle.node_core.specs.TraceLine.{TraceLine}
@@ -34,16 +34,16 @@ unfoldable pub is_own : (ℕ → ℕ) → ℕ → Key → Bool
 is_own group number key = group key.node == number
 
 -- of what is made, that at a group's own nodes
-abbrev pub own_of : (ℕ → ℕ) → ℕ → List Change → List Change
-own_of group number changes = filter (λ (c : Change). is_own group number c.0) changes
+abbrev pub own_of : (ℕ → ℕ) → ℕ → List EventChange → List EventChange
+own_of group number changes = filter (λ (c : EventChange). is_own group number c.0) changes
 
 -- and that at others
-abbrev pub others_of : (ℕ → ℕ) → ℕ → List Change → List Change
-others_of group number changes = filter (λ (c : Change). not (is_own group number c.0)) changes
+abbrev pub others_of : (ℕ → ℕ) → ℕ → List EventChange → List EventChange
+others_of group number changes = filter (λ (c : EventChange). not (is_own group number c.0)) changes
 
 -- the event leaves and its node changes; what it makes for the group joins, what it makes for others is held back
-abbrev pub fired : (ℕ → ℕ) → ℕ → GroupState → Key × Event → Effect → GroupState
-fired group number g entry effect = record {
+abbrev pub group_fired : (ℕ → ℕ) → ℕ → GroupState → Key × Event → Effect → GroupState
+group_fired group number g entry effect = record {
   parts = slice_set g.parts entry.0.node effect.part;
   pending = apply (own_of group number (changes_of entry.0.node effect)) (map.remove g.pending entry.0);
   held = apply (others_of group number (changes_of entry.0.node effect)) g.held;
@@ -52,7 +52,7 @@ fired group number g entry effect = record {
 
 -- the row of an event at its node
 abbrev pub fire_on : (ℕ → ℕ) → ℕ → ℕ → GroupState → Key × Event → GroupState
-fire_on group number moment g entry = fired group number g entry (effect_of (up_to moment g) entry)
+fire_on group number moment g entry = group_fired group number g entry (effect_of (up_to moment g) entry)
 
 -- the group after its least event, where that is below the moment
 abbrev pub fire : (ℕ → ℕ) → ℕ → ℕ → GroupState → Option GroupState

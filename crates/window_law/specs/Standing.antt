@@ -2,8 +2,8 @@
 use Rattle.std.specs.Prelude.{ℕ, zero, suc, ◌≡◌, ◌<◌, ◌+◌, ◌==◌, if◌then◌else◌, List, [], ◌∷◌, length, map as each, slice_index_or, None}
 use Rattle.std.specs.FinMap as map
 use Rattle.sim_time.specs.declared.key.Key.{Key}
-use Rattle.ranking.specs.Keyed.{nothing_due}
-use Rattle.ranking.specs.Gathered.{gathered}
+use Rattle.tournament.specs.Keyed.{nothing_due}
+use Rattle.tournament.specs.Gathered.{gathered}
 use Rattle.node_core.specs.declared.event.Event.{Event}
 use Rattle.node_core.specs.Part.{PartState}
 use Rattle.table_run.specs.State.{State, no_part, part_at}

@@ -5,8 +5,8 @@ use Rattle.std.specs.List.{enumerate_from, AllByRecursion}
 use Rattle.std.specs.FinMap as map
 use Rattle.sim_time.specs.declared.key.Key.{Key}
 use Rattle.sim_time.specs.Keys.{key_cmp}
-use Rattle.ranking.specs.Keyed.{apply, entering, next_key, nothing_due}
-use Rattle.ranking.specs.Gathered.{gathered}
+use Rattle.tournament.specs.Keyed.{apply, entering, next_key, nothing_due}
+use Rattle.tournament.specs.Gathered.{gathered}
 use Rattle.scenario_image.specs.declared.parts.ScenarioParts.{ScenarioParts}
 use Rattle.node_core.specs.declared.event.Event.{Event}
 use Rattle.node_core.specs.Pending.{Events}
@@ -73,8 +73,8 @@ all_held groups = gathered (each (λ (g : GroupState). g.held) groups)
 abbrev pub all_lines : List GroupState → List TraceLine
 all_lines groups = flat_map (λ (g : GroupState). g.lines) groups
 
-abbrev pub delivered : (ℕ → ℕ) → List GroupState → List GroupState
-delivered group groups = each (delivered_to group (all_held groups)) (enumerate_from 0 groups)
+abbrev pub groups_delivered : (ℕ → ℕ) → List GroupState → List GroupState
+groups_delivered group groups = each (delivered_to group (all_held groups)) (enumerate_from 0 groups)
 
 -- when a group's least event is
 abbrev pub first_time : GroupState → Option ℕ
@@ -105,7 +105,7 @@ opened x groups = record { groups = groups; until = window_end x groups }
 -- what a move leaves and which lines it gives, where it is possible: a group can fire where it has an event below the window's end; a turn can be taken where no group has one; a bound can be named where no group has fired
 abbrev pub moved : Setting → WindowState → Move → Option (WindowState × List TraceLine)
 moved x w (Fire number) = option_map (λ (g : GroupState). (record { groups = slice_set w.groups number g; until = w.until }, [])) (fire x.group number w.until (group_at w.groups number))
-moved x w Turn = if all_done w.until w.groups then Some (opened x (delivered x.group w.groups), in_order (all_lines w.groups)) else None
+moved x w Turn = if all_done w.until w.groups then Some (opened x (groups_delivered x.group w.groups), in_order (all_lines w.groups)) else None
 moved x w (Limit moment) = if none_fired w.groups then Some (record { groups = w.groups; until = min w.until moment }, []) else None
 
 -- the windows of a scenario's run
@@ -129,9 +129,9 @@ abbrev pub course : Setting → Course → List Move → Course
 course x c [] = c
 course x c (move ∷ moves) = course x (went x c move) moves
 
-abbrev pub begun : Setting → List GroupState → Course
-begun x groups = record { window = opened x groups; given = [] }
+abbrev pub course_begun : Setting → List GroupState → Course
+course_begun x groups = record { window = opened x groups; given = [] }
 
 -- where the windows of a scenario's run are after these moves, from groups that begin there
 abbrev pub course_of : (ℕ → ℕ) → ScenarioParts → List GroupState → List Move → Course
-course_of group p groups moves = course (setting_of group p) (begun (setting_of group p) groups) moves
+course_of group p groups moves = course (setting_of group p) (course_begun (setting_of group p) groups) moves

@@ -4,11 +4,11 @@ use Rattle.std.specs.Result.{result_err}
 use Rattle.window_core.specs.GroupFaults.{IsFaultAt}
 use Rattle.window_core.specs.Group.{GroupValue}
 use Rattle.node_group.specs.declared.group.GroupFault.{GroupFault}
-use Rattle.work_board.specs.Pieces.{PieceState, IsTold}
+use Rattle.work_board.specs.Pieces.{PieceState, IsReported}
 
 abbrev ran : ℕ → GroupValue → GroupValue → Option GroupFault → PieceState
 ran end began g fault = record { end = end; began = began; group = g; fault = fault }
 
-pub told : {T : Type 0} (r : Result T GroupFault) (end : ℕ) (began g : GroupValue) (fault : Option GroupFault) → fault ≡ result_err r → IfErr r (IsFaultAt end g) → IsTold (ran end began g fault)
-told (Ok x) end began g fault is at = subst (λ (f : Option GroupFault). IsTold (ran end began g f)) (sym is) tt
-told (Err f) end began g fault is at = subst (λ (f : Option GroupFault). IsTold (ran end began g f)) (sym is) at
+pub reported : {T : Type 0} (r : Result T GroupFault) (end : ℕ) (began g : GroupValue) (fault : Option GroupFault) → fault ≡ result_err r → IfErr r (IsFaultAt end g) → IsReported (ran end began g fault)
+reported (Ok x) end began g fault is at = subst (λ (f : Option GroupFault). IsReported (ran end began g f)) (sym is) tt
+reported (Err f) end began g fault is at = subst (λ (f : Option GroupFault). IsReported (ran end began g f)) (sym is) at

@@ -29,8 +29,8 @@ stands p done = record {
   words = refl;
   homes = refl;
   fits = λ j v at. let F : View → Type 0 = λ u. Fits (p ∷ []) (3 ∷ []) u in ⊎_elim
-      (λ e. subst F e record { told = refl; held = λ _ h. absurd h; seen = λ _ h. absurd h; done = λ _ h. absurd h })
-      (λ e. subst F e record { told = refl; held = λ _ h. absurd h; seen = λ _ h. absurd h; done = λ i h. ⊎_elim (λ z. subst (λ (x : ℕ). get_or (overtaken p).words x 0 ≡ three) z refl) (λ x. absurd x) h })
+      (λ e. subst F e record { reported = refl; held = λ _ h. absurd h; seen = λ _ h. absurd h; done = λ _ h. absurd h })
+      (λ e. subst F e record { reported = refl; held = λ _ h. absurd h; seen = λ _ h. absurd h; done = λ i h. ⊎_elim (λ z. subst (λ (x : ℕ). get_or (overtaken p).words x 0 ≡ three) z refl) (λ x. absurd x) h })
       (at_end p j v at);
   once = λ i j k v w at to h g. absurd (no_holds p j i v at h);
   places = λ i below. at_place i below;

@@ -34,7 +34,7 @@ at_word P ws i j n inside here there = dite (ℕ_discrete j i)
 fits_still : (laid : List PieceState) (ws : List ℕ) (i n : ℕ) (u : View) → i < length ws → Fits laid ws u → ¬ Has u.holds i
     → ((get_or ws i 0 ≡ 0) × (n ≡ 1)) ⊎ ((get_or ws i 0 ≡ 1) × (n ≡ 3)) → Fits laid (set ws i n) u
 fits_still laid ws i n u inside f free go = record {
-  told = f.told;
+  reported = f.reported;
   held = λ j h. at_word (λ x. x ≡ 1) ws i j n inside (λ e. absurd (free (subst (λ (x : ℕ). Has u.holds x) e h))) (λ _. f.held j h);
   seen = λ j h. at_word (λ x. (x ≡ 1) ⊎ (x ≡ 3)) ws i j n inside
       (λ e. ⊎_elim (λ g. inl g.1) (λ g. inr g.1) go)
@@ -80,7 +80,7 @@ saw laid s o i id v me found = let f = o.fits id v me in record {
   words = o.words;
   homes = o.homes;
   fits = λ j u at. ⊎_elim (λ t. subst (λ (x : View). Fits laid s.words x) t.1 record {
-    told = f.told;
+    reported = f.reported;
     held = f.held;
     seen = λ p h. ⊎_elim (λ e. subst (λ (x : ℕ). (get_or s.words x 0 ≡ 1) ⊎ (get_or s.words x 0 ≡ 3)) e found) (λ g. f.seen p g) h;
     done = f.done;
@@ -125,7 +125,7 @@ first laid slots id i k m said s o me inside idle none_yet p is there =
       subst (λ (x : ℕ). IsBoard laid (state (set s.words i x) (set s.homes i opt.none) (set s.views id w))) (sym one)
           (transit laid s o i 1 id m.0 w (set s.homes i opt.none) inside me
           record {
-            told = f.told;
+            reported = f.reported;
             held = λ j h. at_word (λ x. x ≡ 1) s.words i j 1 near (λ _. refl) (λ ne. ⊎_elim (λ e. absurd (ne (sym e))) (λ x. absurd x) h);
             seen = λ j h. at_word (λ x. (x ≡ 1) ⊎ (x ≡ 3)) s.words i j 1 near (λ _. inl refl) (λ _. f.seen j h);
             done = λ j h. at_word (λ x. x ≡ 3) s.words i j 1 near (λ e. let was = f.done i (subst (λ (x : ℕ). Has m.0.finished x) e h) in absurd (omega arith)) (λ _. f.done j h);
@@ -136,7 +136,7 @@ first laid slots id i k m said s o me inside idle none_yet p is there =
           (length-set s.homes i opt.none)
           (λ j ne. set_else s.homes i j opt.none ne)
           (out refl (set_here s.homes i opt.none close))),
-      ((λ _. (p, ap (λ (l : List PieceState). slice_get l i) f.told ∙ is, refl)), λ ne. absurd (ne none_yet)),
+      ((λ _. (p, ap (λ (l : List PieceState). slice_get l i) f.reported ∙ is, refl)), λ ne. absurd (ne none_yet)),
     )
 
 pub claims : (laid : List PieceState) (slots id i k : ℕ) (m : Sat) (said : opt.Option PieceState) → i < length laid → m.0.holds ≡ []
@@ -164,7 +164,7 @@ finishes laid slots id i k v p q said inside mine is began settled s o wide me _
       subst (λ (x : ℕ). IsBoard laid (state (set s.words i x) (set s.homes i (opt.some q)) (set s.views id w))) (sym three)
           (transit laid s o i 3 id v w (set s.homes i (opt.some q)) inside me
           record {
-            told = f.told;
+            reported = f.reported;
             held = λ j h. absurd h;
             seen = λ j h. at_word (λ x. (x ≡ 1) ⊎ (x ≡ 3)) s.words i j 3 near (λ _. inr refl) (λ _. f.seen j h);
             done = λ j h. at_word (λ x. x ≡ 3) s.words i j 3 near (λ _. refl) (λ ne. ⊎_elim (λ e. absurd (ne (sym e))) (λ x. f.done j x) h);
@@ -174,7 +174,7 @@ finishes laid slots id i k v p q said inside mine is began settled s o wide me _
           (λ j h. absurd h)
           (length-set s.homes i (opt.some q))
           (λ j ne. set_else s.homes i j (opt.some q) ne)
-          (at_end refl p q (ap (λ (l : List PieceState). slice_get l i) (sym f.told) ∙ is) (set_here s.homes i (opt.some q) close) settled began)),
+          (at_end refl p q (ap (λ (l : List PieceState). slice_get l i) (sym f.reported) ∙ is) (set_here s.homes i (opt.some q) close) settled began)),
       refl,
     )
 
@@ -187,7 +187,7 @@ splits laid id v s o me =
       words = o.words;
       homes = o.homes;
       fits = λ j u at. ⊎_elim (λ t. o.fits j u t) (λ t. subst (λ (x : View). Fits laid s.words x) t record {
-        told = (o.fits id v me).told;
+        reported = (o.fits id v me).reported;
         held = λ _ h. absurd h;
         seen = λ _ h. absurd h;
         done = λ _ h. absurd h;
@@ -230,7 +230,7 @@ starts laid ws n count quiet =
       words = ap (λ (l : List ℕ). length l) quiet ∙ (length-replicate n 0 ∙ count);
       homes = length-map laid opt.some;
       fits = λ j u at. subst (λ (x : View). Fits laid ws x) (only (fresh laid) u j at).1 record {
-        told = refl;
+        reported = refl;
         held = λ _ h. absurd h;
         seen = λ _ h. absurd h;
         done = λ _ h. absurd h;

@@ -30,5 +30,5 @@ abbrev pub IsSettled : PieceState → Type 0
 IsSettled p = IsDone p ⊎ IsRefused p
 
 -- a fault is told where an event is still due: that the count is full where it is, and want of memory elsewhere
-abbrev pub IsTold : PieceState → Type 0
-IsTold p = IfSome p.fault (IsFaultAt p.end p.group)
+abbrev pub IsReported : PieceState → Type 0
+IsReported p = IfSome p.fault (IsFaultAt p.end p.group)

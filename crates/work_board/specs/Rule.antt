@@ -15,7 +15,7 @@ pub data Place (laid : Option PieceState) (home : opt.Option (opt.Option PieceSt
 
 -- what a view says of the words
 pub record Fits (laid : List PieceState) (words : List ℕ) (v : View) : Type 0 where
-  pub told : v.laid ≡ laid
+  pub reported : v.laid ≡ laid
   pub held : (i : ℕ) → Has v.holds i → slice_index words i ≡ 1
   pub seen : (i : ℕ) → Has v.claimed i → (slice_index words i ≡ 1) ⊎ (slice_index words i ≡ 3)
   pub done : (i : ℕ) → Has v.finished i → slice_index words i ≡ 3

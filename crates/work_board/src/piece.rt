@@ -1,7 +1,7 @@
 //! A group's work in one window.
 ghost use Rattle.std.specs.Prelude.{◌≡◌, ◌≤◌, ◌↔◌, IsTrue, None};
 ghost use Rattle.window_core.specs.Group.{AfterFirings};
-ghost use Rattle.work_board.specs.Pieces.{IsDone, IsSettled, IsTold};
+ghost use Rattle.work_board.specs.Pieces.{IsDone, IsSettled, IsReported};
 
 use sim_time::Time;
 use std::marker::Model;
@@ -30,7 +30,7 @@ pub struct Piece {
 impl Model for Piece {
     ghost use Rattle.std.specs.Prelude.{◌≤◌};
     ghost use Rattle.window_core.specs.Group.{AfterFirings};
-    ghost use Rattle.work_board.specs.Pieces.{PieceState, IsTold};
+    ghost use Rattle.work_board.specs.Pieces.{PieceState, IsReported};
 
     ghost Value = { PieceState };
 
@@ -40,7 +40,7 @@ impl Model for Piece {
 
     ghost view = { λ p. record { end = p.end; began = p.began.value; group = p.group; fault = p.fault } };
 
-    ghost invariant = { λ p. (p.end ≤ p.began.value.until) × AfterFirings p.end p.began.value p.group × IsTold (record { end = p.end; began = p.began.value; group = p.group; fault = p.fault }) };
+    ghost invariant = { λ p. (p.end ≤ p.began.value.until) × AfterFirings p.end p.began.value p.group × IsReported (record { end = p.end; began = p.began.value; group = p.group; fault = p.fault }) };
 }
 
 impl Piece {
@@ -65,7 +65,7 @@ impl Piece {
         ensures began { self.new.began ≡ self.old.began }
         ensures after { AfterFirings self.old.end self.old.group self.new.group }
         ensures settled { IsSettled self.new }
-        ensures told { IsTold self.new }
+        ensures reported { IsReported self.new }
     {
         self.fault = run_group(&mut self.group, self.end).err();
     }
@@ -83,7 +83,7 @@ impl Piece {
     /// Why it stopped before the end, if it did.
     pub fn fault(&self) -> Option<GroupFault>
         ensures fault { result ≡ self.now.fault }
-        ensures told { IsTold self.now }
+        ensures reported { IsReported self.now }
         ensures after { AfterFirings self.now.end self.now.began self.now.group }
     {
         self.fault

@@ -4,7 +4,7 @@ ghost use Rattle.sim_time.specs.Moment.{IsMoment};
 ghost use Rattle.aqm.specs.Codel.{IsCodel};
 ghost use Rattle.aqm.specs.Judgement.{judgement};
 ghost use Rattle.aqm.specs.OneDrop.{after_drop};
-ghost use Rattle.aqm.specs.Taken.{codel_taken, first_count, begun};
+ghost use Rattle.aqm.specs.Taken.{codel_taken, first_count, drop_state_begun};
 
 use crate::codel::Codel;
 use crate::codel::judge::Head;
@@ -92,7 +92,7 @@ impl Codel {
     // Begins drop state after the first drop.
     fn begin_drops(&mut self, now: Time)
         requires { IsMoment now }
-        ensures { self.new ≡ begun self.old now }
+        ensures { self.new ≡ drop_state_begun self.old now }
     {
         let count = self.first_count(now);
         self.drop_next = now + gap(self.interval, count);

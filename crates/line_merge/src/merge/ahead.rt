@@ -4,13 +4,13 @@ ghost use Rattle.std.specs.Prelude.{◌≡◌, ◌≢◌, ◌+◌, ◌<◌, ◌^
 ghost use Rattle.std.specs.List.{slice_get};
 ghost use Rattle.std.specs.Option.{option_map};
 ghost use Rattle.node_core.specs.TraceLine.{TraceLine};
-ghost use Rattle.line_merge.specs.Ahead.{HasNext, IsAhead, moment_in};
+ghost use Rattle.line_merge.specs.Ahead.{HasNext, IsAhead, next_moment_in};
 ghost use Rattle.line_merge.specs.Merged.{AreApart, all_of, lines_of, line_in, rests};
 ghost use Rattle.window_law.specs.Windows.{in_order};
 
 use super::rank_nexts;
 use crate::sheaf::lines::Lines;
-use ranking::{Ranking, moment_of};
+use tournament::{KeyTournament, moment_of};
 
 /// So many lists are few.
 const FEW: usize = 8;
@@ -19,7 +19,7 @@ const FEW: usize = 8;
 #[inline(always)]
 fn moment_at(lines: &Lines, index: usize, list: usize) -> u64
     requires { list < 2 ^ 31 }
-    ensures { result ≡ moment_in list (option_map (λ (line : TraceLine). line.key) (slice_get lines.now index)) }
+    ensures { result ≡ next_moment_in list (option_map (λ (line : TraceLine). line.key) (slice_get lines.now index)) }
 {
     match lines.key(index) {
         Some(key) => moment_of(key.time, key.node, list as u32, true),
@@ -72,15 +72,15 @@ fn least_of(moments: &[u64]) -> (usize, bool)
 /// The list whose next line has the least key, by whole keys.
 #[cold]
 #[inline(never)]
-fn list_of_least_key(lists: &[Lines], nexts: &[usize], ranking: &mut Ranking) -> usize
+fn list_of_least_key(lists: &[Lines], nexts: &[usize], tournament: &mut KeyTournament) -> usize
     requires nexts { length nexts.now ≡ length lists.now }
-    requires ranking { length ranking.old ≡ length lists.now }
+    requires tournament { length tournament.old ≡ length lists.now }
     requires some { 0 < length (all_of (rests lists.now nexts.now)) }
     ensures next { HasNext (rests lists.now nexts.now) result }
-    ensures ranking { length ranking.new ≡ length lists.now }
+    ensures tournament { length tournament.new ≡ length lists.now }
 {
-    rank_nexts(lists, nexts, ranking);
-    ranking.leader().0
+    rank_nexts(lists, nexts, tournament);
+    tournament.leader().0
 }
 
 /// The list whose next line has the least key, where some list has a line left.
@@ -89,19 +89,19 @@ pub(crate) fn next_list(
     lists: &[Lines],
     nexts: &[usize],
     moments: &[u64],
-    ranking: &mut Ranking,
+    tournament: &mut KeyTournament,
 ) -> usize
-    requires ahead { IsAhead lists.now nexts.now moments.now ranking.old }
+    requires ahead { IsAhead lists.now nexts.now moments.now tournament.old }
     requires some { 0 < length (all_of (rests lists.now nexts.now)) }
     ensures next { HasNext (rests lists.now nexts.now) result }
-    ensures ahead { IsAhead lists.now nexts.now moments.now ranking.new }
+    ensures ahead { IsAhead lists.now nexts.now moments.now tournament.new }
 {
     if lists.len() > FEW {
-        return ranking.leader().0;
+        return tournament.leader().0;
     }
     let (list, tied) = least_of(moments);
     if tied {
-        return list_of_least_key(lists, nexts, ranking);
+        return list_of_least_key(lists, nexts, tournament);
     }
     list
 }
@@ -112,23 +112,23 @@ pub(crate) fn pass(
     lists: &[Lines],
     nexts: &mut [usize],
     moments: &mut [u64],
-    ranking: &mut Ranking,
+    tournament: &mut KeyTournament,
     list: usize,
 )
-    requires ahead { IsAhead lists.now nexts.old moments.old ranking.old }
+    requires ahead { IsAhead lists.now nexts.old moments.old tournament.old }
     requires apart { AreApart lists.now }
     requires few { length lists.now < 2 ^ 31 }
     requires next { HasNext (rests lists.now nexts.old) list }
     ensures order { in_order (all_of (rests lists.now nexts.old)) ≡ line_in (lines_of lists.now list) (slice_index nexts.old list) ∷ in_order (all_of (rests lists.now nexts.new)) }
     ensures fewer { length (all_of (rests lists.now nexts.old)) ≡ length (all_of (rests lists.now nexts.new)) + 1 }
-    ensures ahead { IsAhead lists.now nexts.new moments.new ranking.new }
+    ensures ahead { IsAhead lists.now nexts.new moments.new tournament.new }
 {
     let index = nexts[list];
     let lines = &lists[list];
     let next = lines.after(index);
     nexts[list] = next;
     if lists.len() > FEW {
-        ranking.set(list, lines.key(next));
+        tournament.set(list, lines.key(next));
     } else {
         moments[list] = moment_at(lines, next, list);
     }
@@ -139,7 +139,7 @@ fn date_nexts(lists: &[Lines], nexts: &[usize], moments: &mut [u64])
     requires few { length lists.now < 2 ^ 31 }
     requires nexts { length nexts.now ≡ length lists.now }
     requires moments { length moments.old ≡ length lists.now }
-    ensures { (i : ℕ) → i < length lists.now → slice_index moments.new i ≡ moment_in i (option_map (λ (line : TraceLine). line.key) (slice_get (lines_of lists.now i) (slice_index nexts.now i))) }
+    ensures { (i : ℕ) → i < length lists.now → slice_index moments.new i ≡ next_moment_in i (option_map (λ (line : TraceLine). line.key) (slice_get (lines_of lists.now i) (slice_index nexts.now i))) }
 {
     for (list, lines) in lists.iter().enumerate() {
         moments[list] = moment_at(lines, nexts[list], list);
@@ -151,16 +151,16 @@ pub(crate) fn look_ahead(
     lists: &[Lines],
     nexts: &[usize],
     moments: &mut [u64],
-    ranking: &mut Ranking,
+    tournament: &mut KeyTournament,
 )
     requires few { length lists.now < 2 ^ 31 }
     requires nexts { length nexts.now ≡ length lists.now }
     requires moments { length moments.old ≡ length lists.now }
-    requires ranking { length ranking.old ≡ length lists.now }
-    ensures { IsAhead lists.now nexts.now moments.new ranking.new }
+    requires tournament { length tournament.old ≡ length lists.now }
+    ensures { IsAhead lists.now nexts.now moments.new tournament.new }
 {
     if lists.len() > FEW {
-        rank_nexts(lists, nexts, ranking);
+        rank_nexts(lists, nexts, tournament);
     } else {
         date_nexts(lists, nexts, moments);
     }

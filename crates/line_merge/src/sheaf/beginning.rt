@@ -45,7 +45,7 @@ impl Sheaf {
             &self.lists,
             &cursor.nexts,
             &mut cursor.moments,
-            &mut cursor.ranking,
+            &mut cursor.tournament,
         );
         Ok(())
     }

@@ -1,9 +1,9 @@
 //! Where a merge of a sheaf's lines stands.
 ghost use Rattle.std.specs.Prelude.{◌≡◌, ◌≤◌, ◌^◌, [], length, IfOk, OnOk, OnErr};
 
-use ranking::Ranking;
 use std::alloc::{AllocError, Global};
 use std::marker::Model;
+use tournament::KeyTournament;
 
 /// Where a merge stands in a sheaf. Its memory is used again.
 #[derive(Drop)]
@@ -15,7 +15,7 @@ pub struct Cursor {
     /// The moments of those lines, where groups are few.
     pub(super) moments: Vec<u64>,
     /// Their keys, where groups are many.
-    pub(super) ranking: Ranking,
+    pub(super) tournament: KeyTournament,
 }
 
 impl Model for Cursor {
@@ -26,7 +26,7 @@ impl Model for Cursor {
 
     ghost coded = { cursor_code };
 
-    ghost view = { λ c. record { at = c.at; nexts = c.nexts.items; moments = c.moments.items; ranks = c.ranking } };
+    ghost view = { λ c. record { at = c.at; nexts = c.nexts.items; moments = c.moments.items; ranks = c.tournament } };
 }
 
 impl Cursor {
@@ -38,7 +38,7 @@ impl Cursor {
             at: 0,
             nexts: Vec::new(alloc),
             moments: Vec::new(alloc),
-            ranking: Ranking::new(alloc, 0)?,
+            tournament: KeyTournament::new(alloc, 0)?,
         })
     }
 
@@ -52,13 +52,13 @@ impl Cursor {
     {
         if self.nexts.len() == places
             && self.moments.len() == places
-            && self.ranking.places() == places
+            && self.tournament.places() == places
         {
             return Ok(());
         }
         let nexts = vec![in alloc; 0usize; places]?;
         let moments = vec![in alloc; 0u64; places]?;
-        self.ranking = Ranking::new(alloc, places)?;
+        self.tournament = KeyTournament::new(alloc, places)?;
         self.nexts = nexts;
         self.moments = moments;
         Ok(())

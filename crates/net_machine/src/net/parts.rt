@@ -7,10 +7,10 @@ use super::{MOST_LINKS, Net};
 use crate::nodes::Nodes;
 use crate::places::LinkEnds;
 use node_core::{Node, Outbox};
-use ranking::Timetable;
 use sim_time::Time;
 use std::alloc::{AllocError, Global};
 use std::marker::Model;
+use tournament::Timetable;
 
 /// What a net needs beside its nodes and links, for so many nodes: room for their times, and a chain
 /// for each outgoing link that a node can have, empty between steps.

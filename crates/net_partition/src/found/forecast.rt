@@ -3,7 +3,7 @@ ghost use Rattle.std.specs.Prelude.{◌<◌, ◌≤◌, IfSome};
 ghost use Rattle.scenario_image.specs.Limits.{IsInLimits};
 
 use scenario_image::limits::{MOST_LINKS, MOST_NODES};
-use scenario_image::{FlowPart, LinkPart, ScenarioParts, Way, route_link};
+use scenario_image::{FlowPart, LinkPart, Path, ScenarioParts, route_link};
 use sim_time::{Rate, Time, serial_ns};
 
 /// Bytes of a packet's headers, and of an acknowledgement.
@@ -23,7 +23,7 @@ pub(crate) struct Forecast {
     flows: [u16; 1024],
 }
 
-// A link that a way takes.
+// A link that a path takes.
 #[derive(Clone, Copy)]
 struct Hop<'a> {
     /// Its number.
@@ -32,7 +32,7 @@ struct Hop<'a> {
     link: &'a LinkPart,
 }
 
-// How a way carries packets.
+// How a path carries packets.
 #[derive(Clone, Copy)]
 struct Carriage {
     /// How long a packet is under way on all links together, in nanoseconds.
@@ -45,7 +45,7 @@ struct Carriage {
 
 // What is expected of a flow.
 #[derive(Clone, Copy)]
-struct Course {
+struct FlowLoad {
     /// How many segments are sent.
     packets: u64,
     /// When the last is acknowledged, in nanoseconds.
@@ -57,28 +57,28 @@ struct Course {
     share: u64,
 }
 
-// The link that a way takes from a node, if it goes on.
-fn next_hop(parts: &ScenarioParts, way: Way, node: u16) -> Option<Hop<'_>>
+// The link that a path takes from a node, if it goes on.
+fn next_hop(parts: &ScenarioParts, path: Path, node: u16) -> Option<Hop<'_>>
     requires { IsInLimits parts.now }
     ensures { IfSome result (λ hop. (hop.number < 1024) × (hop.link.now.from < 256) × (hop.link.now.to < 256)) }
 {
     let links = parts.links.as_slice();
-    let number = if node == way.start {
+    let number = if node == path.start {
         links.iter().position(|link| link.from == node)?
     } else {
-        usize::from(route_link(parts, node, way.end)?)
+        usize::from(route_link(parts, node, path.end)?)
     };
     let link = links.get(number)?;
     Some(Hop { number, link })
 }
 
-// Counts a flow at each link of a way.
-fn count_on(parts: &ScenarioParts, way: Way, flows: &mut [u16; 1024])
+// Counts a flow at each link of a path.
+fn count_on(parts: &ScenarioParts, path: Path, flows: &mut [u16; 1024])
     requires { IsInLimits parts.now }
 {
-    let mut node = way.start;
+    let mut node = path.start;
     for _hop in 0..parts.nodes.len() {
-        let Some(hop) = next_hop(parts, way, node) else {
+        let Some(hop) = next_hop(parts, path, node) else {
             return;
         };
         flows[hop.number] = flows[hop.number].saturating_add(1);
@@ -92,7 +92,7 @@ fn flows_on_links(parts: &ScenarioParts) -> [u16; 1024]
 {
     let mut flows = [0; MOST_LINKS];
     for flow in parts.flows.as_slice() {
-        count_on(parts, Way::of_data(*flow), &mut flows);
+        count_on(parts, Path::of_data(*flow), &mut flows);
     }
     flows
 }
@@ -107,16 +107,16 @@ fn gap_on(link: &LinkPart, bytes: u64, flows: u16) -> Time
     }
 }
 
-// How a way carries packets of so many bytes.
-fn carriage_of(parts: &ScenarioParts, way: Way, bytes: u64, flows: &[u16; 1024]) -> Carriage
+// How a path carries packets of so many bytes.
+fn carriage_of(parts: &ScenarioParts, path: Path, bytes: u64, flows: &[u16; 1024]) -> Carriage
     requires limits { IsInLimits parts.now }
     requires bytes { (1 ≤ bytes) × (bytes ≤ 9040) }
 {
-    let mut node = way.start;
+    let mut node = path.start;
     let mut delay: Time = 0;
     let (mut gap, mut alone): (Time, Time) = (0, 0);
     for _hop in 0..parts.nodes.len() {
-        let Some(hop) = next_hop(parts, way, node) else {
+        let Some(hop) = next_hop(parts, path, node) else {
             break;
         };
         delay = delay.saturating_add(hop.link.delay);
@@ -138,13 +138,13 @@ fn share_of(alone: Time, by_links: Time, gap: Time) -> u64 {
 
 // What is expected of a flow: at most a window is sent in a round trip, and at most what the slowest
 // link takes, there and back.
-fn course_of(parts: &ScenarioParts, flow: FlowPart, flows: &[u16; 1024]) -> Course
+fn course_of(parts: &ScenarioParts, flow: FlowPart, flows: &[u16; 1024]) -> FlowLoad
     requires limits { IsInLimits parts.now }
     requires mss { flow.mss ≤ 9000 }
 {
     let mss = u64::from(flow.mss);
-    let there = carriage_of(parts, Way::of_data(flow), mss + HEADERS, flows);
-    let back = carriage_of(parts, Way::of_acks(flow), HEADERS, flows);
+    let there = carriage_of(parts, Path::of_data(flow), mss + HEADERS, flows);
+    let back = carriage_of(parts, Path::of_acks(flow), HEADERS, flows);
     let round_trip = there.delay.saturating_add(back.delay);
     let by_window = round_trip.saturating_mul(mss) / u64::from(flow.rwnd.max(1));
     let by_links = there.gap.max(back.gap);
@@ -153,7 +153,7 @@ fn course_of(parts: &ScenarioParts, flow: FlowPart, flows: &[u16; 1024]) -> Cour
     let span = parts.end.saturating_sub(flow.start);
     let packets = u64::from(flow.segments).min(span / gap);
     let sending = packets.saturating_mul(gap).saturating_add(round_trip);
-    Course {
+    FlowLoad {
         packets,
         end: flow.start.saturating_add(sending),
         round_trip,
@@ -161,13 +161,13 @@ fn course_of(parts: &ScenarioParts, flow: FlowPart, flows: &[u16; 1024]) -> Cour
     }
 }
 
-// Adds what so many packets are on a way to what each node has: they leave a node and arrive at the next.
-fn add_events(parts: &ScenarioParts, way: Way, packets: u64, events: &mut [u64; 256])
+// Adds what so many packets are on a path to what each node has: they leave a node and arrive at the next.
+fn add_events(parts: &ScenarioParts, path: Path, packets: u64, events: &mut [u64; 256])
     requires { IsInLimits parts.now }
 {
-    let mut node = way.start;
+    let mut node = path.start;
     for _hop in 0..parts.nodes.len() {
-        let Some(hop) = next_hop(parts, way, node) else {
+        let Some(hop) = next_hop(parts, path, node) else {
             return;
         };
         for end in [hop.link.from, hop.link.to] {
@@ -187,8 +187,8 @@ pub(crate) fn forecast_of(parts: &ScenarioParts) -> Forecast
     let mut end: Time = 0;
     for flow in parts.flows.as_slice() {
         let course = course_of(parts, *flow, &flows);
-        add_events(parts, Way::of_data(*flow), course.packets, &mut events);
-        add_events(parts, Way::of_acks(*flow), course.packets, &mut events);
+        add_events(parts, Path::of_data(*flow), course.packets, &mut events);
+        add_events(parts, Path::of_acks(*flow), course.packets, &mut events);
         end = end.max(course.end);
     }
     Forecast {
@@ -212,8 +212,8 @@ pub(crate) fn busy_nodes(parts: &ScenarioParts, forecast: &Forecast, ahead: Time
         } else {
             course.share
         };
-        add_events(parts, Way::of_data(*flow), share, &mut busy);
-        add_events(parts, Way::of_acks(*flow), share, &mut busy);
+        add_events(parts, Path::of_data(*flow), share, &mut busy);
+        add_events(parts, Path::of_acks(*flow), share, &mut busy);
     }
     busy
 }

@@ -7,7 +7,7 @@ ghost use Rattle.scenario_asm.specs.Statements.{has_flow_length, flow_at};
 ghost use Rattle.scenario_asm.specs.Table.{known_in};
 
 use super::variant::{iw, newreno};
-use super::{Refusal, Statement};
+use super::{Statement, StatementFault};
 use crate::fault::Fault;
 use crate::lexer::Word;
 use crate::name::Name;
@@ -27,12 +27,15 @@ fn has_flow_length(words: &[Word<'_>]) -> bool
 }
 
 /// The name and the ends of a `flow`, by its second to fourth word.
-fn name_and_ends<'a>(table: &Table<'a>, words: &[Word<'a>]) -> Result<(Name<'a>, u16, u16), Refusal>
+fn name_and_ends<'a>(
+    table: &Table<'a>,
+    words: &[Word<'a>],
+) -> Result<(Name<'a>, u16, u16), StatementFault>
     requires { 9 ≤ length words.now }
     ensures { IsReadFrom 1 (flow_end_verdicts (known_in table.now) words.now) (flow_ends_said (known_in table.now) words.now) result }
 {
     let [_flow, name, sender, receiver, ..] = words else {
-        return Err(Refusal::Line(Fault::E3));
+        return Err(StatementFault::Line(Fault::E3));
     };
     let name = judge!(1, table.new_name(name));
     let sender = judge!(2, table.sender(sender));
@@ -56,12 +59,12 @@ struct FlowNumbers {
 }
 
 /// The numbers of a `flow`, by its fifth to ninth word.
-fn numbers(words: &[Word<'_>]) -> Result<FlowNumbers, Refusal>
+fn numbers(words: &[Word<'_>]) -> Result<FlowNumbers, StatementFault>
     requires { 9 ≤ length words.now }
     ensures { IsReadFrom 4 (flow_number_verdicts words.now) (flow_numbers_said words.now) result }
 {
     let [_, _, _, _, mss, segments, start, rwnd, delack, ..] = words else {
-        return Err(Refusal::Line(Fault::E3));
+        return Err(StatementFault::Line(Fault::E3));
     };
     let mss = judge!(4, number_in(mss, 1, u64::from(GREATEST_MSS))) as u16;
     let segments = judge!(5, number_in(segments, 1, u64::from(MOST_SEGMENTS))) as u32;
@@ -78,7 +81,7 @@ fn numbers(words: &[Word<'_>]) -> Result<FlowNumbers, Refusal>
 }
 
 /// Which sender a `flow` has, by its tenth and eleventh word.
-fn variant(words: &[Word<'_>]) -> Result<Variant, Refusal>
+fn variant(words: &[Word<'_>]) -> Result<Variant, StatementFault>
     ensures { IsReadFrom 9 (variant_verdicts words.now) (variant_said words.now) result }
 {
     let newreno = judge!(9, newreno(words));
@@ -88,18 +91,21 @@ fn variant(words: &[Word<'_>]) -> Result<Variant, Refusal>
 
 /// `flow NAME SENDER RECEIVER MSS SEGMENTS START RWND DELACK`, and perhaps `reno` or `newreno` and
 /// `iw3` or `iw10`
-pub(super) fn read<'a>(table: &Table<'a>, words: &[Word<'a>]) -> Result<Statement<'a>, Refusal>
+pub(super) fn read<'a>(
+    table: &Table<'a>,
+    words: &[Word<'a>],
+) -> Result<Statement<'a>, StatementFault>
     ensures said { as_fault result ≡ flow_at (known_in table.now) words.now }
     ensures word { IfErr result (λ refusal. word_in refusal ≡ flow_word (known_in table.now) words.now) }
 {
     if !has_flow_length(words) {
-        return Err(Refusal::Line(Fault::E3));
+        return Err(StatementFault::Line(Fault::E3));
     }
     let (name, sender, receiver) = name_and_ends(table, words)?;
     let numbers = numbers(words)?;
     let variant = variant(words)?;
     if table.flows.len() >= MOST_FLOWS {
-        return Err(Refusal::Line(Fault::E9));
+        return Err(StatementFault::Line(Fault::E9));
     }
     let part = FlowPart {
         sender,

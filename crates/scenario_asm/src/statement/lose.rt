@@ -6,7 +6,7 @@ ghost use Rattle.scenario_asm.specs.Refusals.{word_in, as_fault};
 ghost use Rattle.scenario_asm.specs.Statements.{lose_at};
 ghost use Rattle.scenario_asm.specs.Table.{known_in};
 
-use super::{LoseLine, Refusal, Statement};
+use super::{LoseLine, Statement, StatementFault};
 use crate::fault::Fault;
 use crate::lexer::Word;
 use crate::number::number_in;
@@ -24,12 +24,15 @@ fn least_number(lost: &[u32]) -> u64
 }
 
 /// `lose LINK NUMBER`
-pub(super) fn read<'a>(table: &Table<'a>, words: &[Word<'a>]) -> Result<Statement<'a>, Refusal>
+pub(super) fn read<'a>(
+    table: &Table<'a>,
+    words: &[Word<'a>],
+) -> Result<Statement<'a>, StatementFault>
     ensures said { as_fault result ≡ lose_at (known_in table.now) words.now }
     ensures word { IfErr result (λ refusal. word_in refusal ≡ lose_word (known_in table.now) words.now) }
 {
     let [_lose, link, number] = words else {
-        return Err(Refusal::Line(Fault::E3));
+        return Err(StatementFault::Line(Fault::E3));
     };
     let link = judge!(1, table.link(link));
     let lost = table.lost(link);
@@ -38,7 +41,7 @@ pub(super) fn read<'a>(table: &Table<'a>, words: &[Word<'a>]) -> Result<Statemen
         number_in(number, least_number(lost), u64::from(MOST_SEGMENTS))
     ) as u32;
     if lost.len() >= MOST_LOSE {
-        return Err(Refusal::Line(Fault::E9));
+        return Err(StatementFault::Line(Fault::E9));
     }
     Ok(Statement::Lose(LoseLine { link, number }))
 }

@@ -2,10 +2,10 @@
 ghost use Rattle.std.specs.Prelude.{◌≡◌, IfErr};
 ghost use Rattle.scenario_asm.specs.Places.{node_word};
 ghost use Rattle.scenario_asm.specs.Refusals.{word_in, as_fault};
-ghost use Rattle.scenario_asm.specs.Statements.{kind_named, node_at};
+ghost use Rattle.scenario_asm.specs.Statements.{kind_named, node_statement};
 ghost use Rattle.scenario_asm.specs.Table.{known_in};
 
-use super::{Refusal, Statement};
+use super::{Statement, StatementFault};
 use crate::fault::Fault;
 use crate::lexer::Word;
 use crate::table::Table;
@@ -28,19 +28,22 @@ fn kind(word: &Word<'_>) -> Option<NodeKind>
 }
 
 /// `node NAME KIND`
-pub(super) fn read<'a>(table: &Table<'a>, words: &[Word<'a>]) -> Result<Statement<'a>, Refusal>
-    ensures said { as_fault result ≡ node_at (known_in table.now) words.now }
+pub(super) fn read<'a>(
+    table: &Table<'a>,
+    words: &[Word<'a>],
+) -> Result<Statement<'a>, StatementFault>
+    ensures said { as_fault result ≡ node_statement (known_in table.now) words.now }
     ensures word { IfErr result (λ refusal. word_in refusal ≡ node_word (known_in table.now) words.now) }
 {
     let [_node, name, does] = words else {
-        return Err(Refusal::Line(Fault::E3));
+        return Err(StatementFault::Line(Fault::E3));
     };
     let name = judge!(1, table.new_name(name));
     let Some(kind) = kind(does) else {
-        return Err(Refusal::Word(2, Fault::E4));
+        return Err(StatementFault::Word(2, Fault::E4));
     };
     if table.kinds.len() >= MOST_NODES {
-        return Err(Refusal::Line(Fault::E9));
+        return Err(StatementFault::Line(Fault::E9));
     }
     Ok(Statement::Node(name, kind))
 }

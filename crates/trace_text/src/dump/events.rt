@@ -3,7 +3,7 @@ ghost use Rattle.std.specs.Prelude.{◌≡◌, ◌++◌, IfOk, OnOk};
 ghost use Rattle.std.specs.List.{flat_map};
 ghost use Rattle.std.specs.FinMap as map;
 ghost use Rattle.net_machine.specs.Nodes.{pendings, net_pending, IsPlaced};
-ghost use Rattle.ranking.specs.Gathered.{all_entries};
+ghost use Rattle.tournament.specs.Gathered.{all_entries};
 ghost use Rattle.trace_text.specs.Chosen.{chosen_event};
 ghost use Rattle.trace_text.specs.Dump.{event_line};
 ghost use Rattle.trace_text.specs.DumpParts.{is_event_of};
@@ -49,7 +49,7 @@ fn append_chosen(
     }
 }
 
-/// Whether an event is an alarm of a flow, or brings a packet of it.
+/// Whether an event is a timer of a flow, or brings a packet of it.
 fn is_event_of(flow: u16, event: &Event) -> bool
     ensures { result ≡ is_event_of flow event.now }
 {

@@ -5,7 +5,7 @@ ghost use Rattle.packet_chain.specs.Stamped.{Stamped};
 ghost use Rattle.aqm.specs.Queue.{waiting_in};
 ghost use Rattle.net_machine.specs.Nodes.{parts_of};
 ghost use Rattle.node_core.specs.Part.{LinkState};
-ghost use Rattle.trace_text.specs.Words.{spaced};
+ghost use Rattle.trace_text.specs.Words.{spaced_words};
 ghost use Rattle.trace_text.specs.Chosen.{chosen_link};
 ghost use Rattle.trace_text.specs.Dump.{in_commas, waiting_text, codel_words, control_words, link_line, links_numbered, numbers_below, links_in_order};
 ghost use Rattle.trace_text.specs.DumpParts.{has_waiting};
@@ -201,7 +201,7 @@ fn append_entry<const N: usize>(
 
 /// Appends what a queue keeps beside the packets.
 fn append_control(queue: &Queue, out: &mut Vec<u8>) -> Result<(), AllocError>
-    ensures { OnOk result (out.new.items ≡ out.old.items ++ spaced (control_words queue.now)) }
+    ensures { OnOk result (out.new.items ≡ out.old.items ++ spaced_words (control_words queue.now)) }
 {
     match queue {
         Queue::Codel(codel) => append_codel(codel, out),
@@ -211,7 +211,7 @@ fn append_control(queue: &Queue, out: &mut Vec<u8>) -> Result<(), AllocError>
 
 /// Appends what CoDel keeps beside the packets.
 fn append_codel(codel: &Codel, out: &mut Vec<u8>) -> Result<(), AllocError>
-    ensures { OnOk result (out.new.items ≡ out.old.items ++ spaced (codel_words codel.now)) }
+    ensures { OnOk result (out.new.items ≡ out.old.items ++ spaced_words (codel_words codel.now)) }
 {
     let mut bytes = [0; 128];
     let at = put_flag(&mut bytes, 128, b" drop=", codel.dropping());

@@ -3,7 +3,7 @@ ghost use Rattle.std.specs.Prelude.{◌≡◌, ◌+◌, ◌≤◌, ◌++◌, [],
 ghost use Rattle.std.specs.List.{flat_map, enumerate_from, slice_get};
 ghost use Rattle.reno_receiver.specs.Received.{next_of, held_of};
 ghost use Rattle.net_machine.specs.Nodes.{parts_of};
-ghost use Rattle.trace_text.specs.Words.{line_of, spaced};
+ghost use Rattle.trace_text.specs.Words.{line_of_words, spaced_words};
 ghost use Rattle.trace_text.specs.Chosen.{chosen_node};
 ghost use Rattle.trace_text.specs.Dump.{in_commas, timing_text, window_words, loss_words, timer_words, role_words, node_line};
 ghost use Rattle.trace_text.specs.DumpParts.{found_node, is_end_of};
@@ -97,7 +97,7 @@ fn append_sender(
     out: &mut Vec<u8>,
 ) -> Result<(), AllocError>
     ensures { OnOk result (out.new.items ≡ out.old.items
-        ++ line_of (codes "node" ∷ decimal number ∷ codes "sender" ∷ decimal flow
+        ++ line_of_words (codes "node" ∷ decimal number ∷ codes "sender" ∷ decimal flow
         ∷ window_words fields.now ++ loss_words fields.now ++ timer_words fields.now)) }
 {
     let mut bytes = [0; ROOM];
@@ -116,7 +116,7 @@ fn append_sender(
 fn put_windows(bytes: &mut [u8], end: usize, fields: &SenderFields) -> usize
     requires within { end ≤ length bytes.old }
     requires room { 132 ≤ end }
-    ensures written { drop result bytes.new ≡ spaced (window_words fields.now) ++ drop end bytes.old }
+    ensures written { drop result bytes.new ≡ spaced_words (window_words fields.now) ++ drop end bytes.old }
     ensures below { result ≤ end }
     ensures short { end ≤ result + 132 }
 {
@@ -131,7 +131,7 @@ fn put_windows(bytes: &mut [u8], end: usize, fields: &SenderFields) -> usize
 fn put_losses(bytes: &mut [u8], end: usize, fields: &SenderFields) -> usize
     requires within { end ≤ length bytes.old }
     requires room { 55 ≤ end }
-    ensures written { drop result bytes.new ≡ spaced (loss_words fields.now) ++ drop end bytes.old }
+    ensures written { drop result bytes.new ≡ spaced_words (loss_words fields.now) ++ drop end bytes.old }
     ensures below { result ≤ end }
     ensures short { end ≤ result + 55 }
 {
@@ -144,7 +144,7 @@ fn put_losses(bytes: &mut [u8], end: usize, fields: &SenderFields) -> usize
 fn put_timer(bytes: &mut [u8], end: usize, fields: &SenderFields) -> usize
     requires within { end ≤ length bytes.old }
     requires room { 137 ≤ end }
-    ensures written { drop result bytes.new ≡ spaced (timer_words fields.now) ++ drop end bytes.old }
+    ensures written { drop result bytes.new ≡ spaced_words (timer_words fields.now) ++ drop end bytes.old }
     ensures below { result ≤ end }
     ensures short { end ≤ result + 137 }
 {
@@ -181,7 +181,7 @@ fn append_receiver(
     out: &mut Vec<u8>,
 ) -> Result<(), AllocError>
     ensures { OnOk result (out.new.items ≡ out.old.items
-        ++ line_of (codes "node" ∷ decimal number ∷ codes "receiver" ∷ decimal flow
+        ++ line_of_words (codes "node" ∷ decimal number ∷ codes "receiver" ∷ decimal flow
         ∷ (codes "next=" ++ decimal (next_of receiver.now))
         ∷ (codes "held=" ++ in_commas decimal (held_of receiver.now)) ∷ [])) }
 {
@@ -225,7 +225,7 @@ fn append_further(numbers: &[u64], out: &mut Vec<u8>) -> Result<(), AllocError>
 /// Appends the line of a router.
 fn append_router(number: u64, out: &mut Vec<u8>) -> Result<(), AllocError>
     ensures { OnOk result (out.new.items ≡ out.old.items
-        ++ line_of (codes "node" ∷ decimal number ∷ codes "router" ∷ [])) }
+        ++ line_of_words (codes "node" ∷ decimal number ∷ codes "router" ∷ [])) }
 {
     let mut bytes = [0; 33];
     let at = put_text(&mut bytes, 33, b" router\n");

@@ -1,7 +1,7 @@
 //! What groups held back for each other is handed over.
 ghost use Rattle.std.specs.Prelude.{◌≡◌, [], None, IfSome};
-ghost use Rattle.node_group.specs.Held.{HoldsNothing};
-ghost use Rattle.window_core.specs.Rosters.{nexts_of};
+ghost use Rattle.node_group.specs.Held.{WiresAreEmpty};
+ghost use Rattle.window_core.specs.GroupTables.{nexts_of};
 ghost use Rattle.window_core.specs.Turning.{AreReady, CanHandEach, HasHanded, HasHandedOne};
 ghost use Rattle.window_core.specs.Window.{states_of, value_at};
 
@@ -28,7 +28,7 @@ fn hand_one(
     requires nexts { nexts.old ≡ nexts_of (states_of shares.old) }
     requires empty { chain.old ≡ [] }
     ensures some { IfSome result (λ link. HasHandedOne partition.now links.now shares.old shares.new from link) }
-    ensures none { result ≡ None → HoldsNothing (value_at shares.old from).held × (shares.new ≡ shares.old) }
+    ensures none { result ≡ None → WiresAreEmpty (value_at shares.old from).held × (shares.new ≡ shares.old) }
     ensures nexts { nexts.new ≡ nexts_of (states_of shares.new) }
     ensures empty { chain.new ≡ [] }
 {
@@ -55,7 +55,7 @@ fn hand_next(
     requires nexts { nexts.old ≡ nexts_of (states_of shares.old) }
     requires empty { chain.old ≡ [] }
     ensures some { IfSome result (λ link. HasHandedOne partition.now links.now shares.old shares.new from link) }
-    ensures none { result ≡ None → HoldsNothing (value_at shares.old from).held × (shares.new ≡ shares.old) }
+    ensures none { result ≡ None → WiresAreEmpty (value_at shares.old from).held × (shares.new ≡ shares.old) }
     ensures nexts { nexts.new ≡ nexts_of (states_of shares.new) }
     ensures empty { chain.new ≡ [] }
 {

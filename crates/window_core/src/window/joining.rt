@@ -55,8 +55,8 @@ impl Window {
         ensures { (edge : State) → IsFrom edge self.now → IfOk result (λ net. net ≡ record { state = edge; position = self.now.position }) }
     {
         let _ = self.partition.groups();
-        let _ = self.roster.told();
-        let nodes = copies_of(self.alloc, self.roster.shares(), &self.partition)?;
+        let _ = self.group_table.reported();
+        let nodes = copies_of(self.alloc, self.group_table.shares(), &self.partition)?;
         let links = copied(&self.links)?;
         let spare = Spare::new(self.alloc, nodes.len())?;
         Ok(Net::of_parts(NetParts {

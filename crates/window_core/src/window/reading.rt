@@ -3,7 +3,7 @@ ghost use Rattle.std.specs.Prelude.{◌≡◌, ◌≤◌, All, length};
 ghost use Rattle.node_group.specs.Group.{IsGroup, state_of};
 ghost use Rattle.window_law.specs.Lookahead.{lesser};
 ghost use Rattle.window_core.specs.Window.{states_of};
-ghost use Rattle.window_core.specs.Rosters.{next_of};
+ghost use Rattle.window_core.specs.GroupTables.{next_of_group};
 ghost use Rattle.window_law.specs.Windows.{all_lines, soonest};
 
 use node_group::Share;
@@ -12,7 +12,7 @@ use sim_time::Time;
 /// When the least event of a group is, in nanoseconds; the last moment that there is where it has
 /// none.
 pub fn next_of(share: &Share) -> Time
-    ensures { result ≡ next_of (state_of share.now) }
+    ensures { result ≡ next_of_group (state_of share.now) }
 {
     match share.next() {
         Some(time) => time,
@@ -43,17 +43,17 @@ pub fn soonest(shares: &[Share]) -> Option<Time>
 }
 
 /// How many lines a group has told.
-pub fn told_by(share: &Share) -> usize
+pub fn reported_by(share: &Share) -> usize
     ensures count { result ≡ length share.now.lines }
     ensures few { result ≤ 1000000000000000 }
     ensures is_group { IsGroup share.now }
 {
     let _ = share.number();
-    share.told()
+    share.reported()
 }
 
 /// How many lines all groups have told.
-pub fn told(shares: &[Share]) -> usize
+pub fn reported(shares: &[Share]) -> usize
     requires { length shares.now ≤ 64 }
     ensures count { result ≡ length (all_lines (states_of shares.now)) }
     ensures few { result ≤ 64000000000000000 }
@@ -61,7 +61,7 @@ pub fn told(shares: &[Share]) -> usize
 {
     let mut count = 0;
     for share in shares {
-        count += told_by(share);
+        count += reported_by(share);
     }
     count
 }

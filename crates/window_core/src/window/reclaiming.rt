@@ -13,6 +13,6 @@ impl Window {
         ensures same { self.new ≡ self.old }
         ensures empty { (merged sheaf.new).lines ≡ [] }
     {
-        self.roster.reclaim(sheaf);
+        self.group_table.reclaim(sheaf);
     }
 }

@@ -33,13 +33,13 @@ impl Window {
     fn ready(&self) -> Result<usize, TurnFault>
         requires { self.now.out ≡ false }
         ensures ok { IfOk result (λ count. CanTurn self.now count) }
-        ensures told { IsTurnAnswer self.now result }
+        ensures reported { IsTurnAnswer self.now result }
     {
-        if !self.roster.all_done(self.until) {
+        if !self.group_table.all_done(self.until) {
             return Err(TurnFault::NotDone);
         }
         let _ = self.partition.groups();
-        let count = self.roster.told();
+        let count = self.group_table.reported();
         if self.position + count as u64 > MOST_EVENTS {
             return Err(TurnFault::CountFull);
         }
@@ -54,20 +54,20 @@ impl Window {
         ensures run { OnOk result ((edge : State) → IsFrom edge self.old → HasGoneOn edge (merged sheaf.new).lines self.new) }
         ensures below { OnOk result (AreBelow self.old.until (merged sheaf.new).lines) }
         ensures lists { OnOk result (sheaf.new.lists ≡ each (λ (g : GroupValue). g.lines) self.old.groups) }
-        ensures told { IsTurnAnswer self.old result }
+        ensures reported { IsTurnAnswer self.old result }
         ensures err { OnErr result (self.new ≡ self.old) }
     {
         let _ = self.partition.groups();
-        let gathered = self.roster.gather(sheaf, self.position, count);
+        let gathered = self.group_table.gather(sheaf, self.position, count);
         if gathered.is_err() {
             return Err(TurnFault::NoMemory);
         }
         self.position += count as u64;
-        self.roster
+        self.group_table
             .hand_all(&self.partition, &self.links, self.alloc);
-        self.roster.read_least();
-        self.until = window_end(self.roster.soonest(), self.ahead, self.end);
-        self.roster.set_until(self.until);
+        self.group_table.read_least();
+        self.until = window_end(self.group_table.soonest(), self.ahead, self.end);
+        self.group_table.set_until(self.until);
         Ok(())
     }
 
@@ -80,7 +80,7 @@ impl Window {
         ensures run { OnOk result ((edge : State) → IsFrom edge self.old → HasGoneOn edge (merged sheaf.new).lines self.new) }
         ensures below { OnOk result (AreBelow self.old.until (merged sheaf.new).lines) }
         ensures lists { OnOk result (sheaf.new.lists ≡ each (λ (g : GroupValue). g.lines) self.old.groups) }
-        ensures told { IsTurnAnswer self.old result }
+        ensures reported { IsTurnAnswer self.old result }
         ensures err { OnErr result (self.new ≡ self.old) }
     {
         let count = self.ready()?;
@@ -96,7 +96,7 @@ impl Window {
         ensures ok { OnOk result (HasTurned self.old batch.new self.new) }
         ensures run { OnOk result ((edge : State) → IsFrom edge self.old → HasGoneOn edge batch.new.lines self.new) }
         ensures below { OnOk result (AreBelow self.old.until batch.new.lines) }
-        ensures told { IsTurnAnswer self.old result }
+        ensures reported { IsTurnAnswer self.old result }
         ensures err { OnErr result (self.new ≡ self.old) }
     {
         let count = self.ready()?;
@@ -104,7 +104,7 @@ impl Window {
             return Err(TurnFault::NoMemory);
         };
         self.turn_with(&mut sheaf, count)?;
-        *batch = Batch::of(sheaf, &mut self.nexts, &mut self.ranking, order);
+        *batch = Batch::of(sheaf, &mut self.nexts, &mut self.tournament, order);
         Ok(())
     }
 
@@ -114,7 +114,7 @@ impl Window {
         ensures ok { OnOk result (HasTurned self.old self.new.taken (record self.new { taken = self.old.taken })) }
         ensures run { OnOk result ((edge : State) → IsFrom edge self.old → HasGoneOn edge self.new.taken.lines self.new) }
         ensures inside { self.new.out ≡ false }
-        ensures told { IsTurnAnswer self.old result }
+        ensures reported { IsTurnAnswer self.old result }
         ensures err { OnErr result (self.new ≡ self.old) }
     {
         let mut batch = replace(&mut self.spare, Batch::new(self.alloc, 0));
@@ -136,7 +136,7 @@ impl Window {
         ensures taken { IfOk result (λ batch. self.new.taken ≡ nothing_after self.new.position) }
         ensures inside { self.new.out ≡ false }
         ensures unfired { IfOk result (λ batch. none_fired (states_of self.new.groups) ≡ true) }
-        ensures told { IsTurnAnswer self.old result }
+        ensures reported { IsTurnAnswer self.old result }
         ensures err { OnErr result (self.new ≡ self.old) }
     {
         self.turn_over()?;

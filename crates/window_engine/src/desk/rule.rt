@@ -1,7 +1,7 @@
 //! The rule of the desk, and its kinds of step.
-ghost use Rattle.window_engine.specs.Desks.{IsDesk, taken};
+ghost use Rattle.window_engine.specs.Desks.{IsDesk, place_taken};
 
-use crate::scribe::Scribe;
+use crate::formatter::TextFormatter;
 use atomic_table::{Play, Split, TableRule};
 use std::snapshot::Snapshot;
 use window_core::Sheaf;
@@ -10,16 +10,16 @@ use window_core::Sheaf;
 #[derive(Clone, Copy)]
 pub struct DeskRule;
 
-impl TableRule<Option<Scribe>, (), Snapshot<Sheaf>> for DeskRule {
+impl TableRule<Option<TextFormatter>, (), Snapshot<Sheaf>> for DeskRule {
     ghost holds = { λ about. IsDesk about.value };
 
     ghost first = { λ _. tt };
 }
 
 /// A pass is split in two.
-pub struct Cut;
+pub struct DeskCut;
 
-impl Split<()> for Cut {
+impl Split<()> for DeskCut {
     ghost left = { λ v. v };
 
     ghost right = { λ v. v };
@@ -28,14 +28,14 @@ impl Split<()> for Cut {
 /// A place is taken, where nobody has taken it.
 pub struct Take;
 
-impl Play<Option<Scribe>, ()> for Take {
-    ghost then = { taken };
+impl Play<Option<TextFormatter>, ()> for Take {
+    ghost then = { place_taken };
 }
 
 /// What lies at a place is there for others, and stays. Nothing is told of it.
 pub struct Lay;
 
-impl Play<Option<Scribe>, ()> for Lay {
+impl Play<Option<TextFormatter>, ()> for Lay {
     ghost use Rattle.std.specs.Prelude.{⊤};
 
     ghost then = { λ _ _ _ _. ⊤ };

@@ -29,7 +29,7 @@ mistakes = record {
   many_workers = one_mistake (codes "tcpsim" ∷ codes "debug" ∷ codes "--workers" ∷ codes "65" ∷ []) ValueValidation refl refl;
   asm_is_not_shared = one_mistake (codes "tcpsim" ∷ codes "asm" ∷ codes "--groups" ∷ codes "one" ∷ []) UnknownArgument refl refl;
   figures_are_not_shared = one_mistake (codes "tcpsim" ∷ codes "figures" ∷ codes "--workers" ∷ codes "2" ∷ []) UnknownArgument refl refl;
-  debug_is_not_told = one_mistake (codes "tcpsim" ∷ codes "debug" ∷ codes "--progress" ∷ []) UnknownArgument refl refl;
+  debug_is_not_reported = one_mistake (codes "tcpsim" ∷ codes "debug" ∷ codes "--progress" ∷ []) UnknownArgument refl refl;
   two_codes = one_mistake (codes "tcpsim" ∷ codes "explain" ∷ codes "E1" ∷ codes "E2" ∷ []) UnknownArgument refl refl;
 }
 

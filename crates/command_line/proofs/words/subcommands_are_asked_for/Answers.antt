@@ -19,9 +19,9 @@ subcommand_words = record {
   dis_file = record { faultless = refl; named = refl; given = (tt, tt, refl, refl) };
   run_file = record { faultless = refl; named = refl; given = (record { workers = refl; groups = refl }, tt, refl, refl) };
   run_dashes = record { faultless = refl; named = refl; given = (record { workers = refl; groups = refl }, tt, refl, refl) };
-  run_told = record { faultless = refl; named = refl; given = (record { workers = refl; groups = refl }, tt, refl, refl) };
+  run_reported = record { faultless = refl; named = refl; given = (record { workers = refl; groups = refl }, tt, refl, refl) };
   figures = record { faultless = refl; named = refl; given = (tt, record { from = refl; every = refl; series = refl; names = refl }, refl, refl) };
-  figures_told = record { faultless = refl; named = refl; given = (tt, record { from = refl; every = refl; series = refl; names = refl }, refl, refl) };
+  figures_reported = record { faultless = refl; named = refl; given = (tt, record { from = refl; every = refl; series = refl; names = refl }, refl, refl) };
   figures_from = record { faultless = refl; named = refl; given = (tt, record { from = refl; every = refl; series = refl; names = refl }, refl, refl) };
   figures_by_time = record { faultless = refl; named = refl; given = (tt, record { from = refl; every = refl; series = refl; names = refl }, refl, refl) };
   asm_shown = record { faultless = refl; named = refl; given = (tt, tt, refl, refl) };

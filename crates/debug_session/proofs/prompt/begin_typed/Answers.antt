@@ -6,7 +6,7 @@ use Rattle.debug_session.proofs.prompt.begin_typed.Goals as goal
 pub returns-then-is_long-clause-answers : goal.returns-then-is_long-clause-answers
 returns-then-is_long-clause-answers c goes_on =
     let old = at_prompt c.args.dialogue.now in
-    long_refused c.args.limits c.args.dialogue.now.debugger.start c.args.line.now old old c.say_refused.new.self (sym c.is_long.ensures ∙ c.if-is_long.true) (record { same = refl; told = c.say_refused.ensures })
+    long_refused c.args.limits c.args.dialogue.now.debugger.start c.args.line.now old old c.say_refused.new.self (sym c.is_long.ensures ∙ c.if-is_long.true) (record { same = refl; reported = c.say_refused.ensures })
 
 pub returns-then-is_long-clause-start : goal.returns-then-is_long-clause-start
 returns-then-is_long-clause-start c = refl

@@ -12,7 +12,7 @@ returns-in-Ok-clause-ok c =
     let next = next_text d.start d.shown in
     let known = known_line c.args.known in
     on_ok {P = all ≡ made ++ known} {Q = all ≡ out ++ (next ++ known)} c.append_known.result
-    (λ told. told ∙ ap (λ l. l ++ known) c.in-Ok.ensures.ok ∙ append_assoc out next known)
+    (λ reported. reported ∙ ap (λ l. l ++ known) c.in-Ok.ensures.ok ∙ append_assoc out next known)
     c.append_known.ensures
 
 pub returns-in-Ok-clause-same : goal.returns-in-Ok-clause-same

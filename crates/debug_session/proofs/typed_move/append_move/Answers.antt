@@ -2,8 +2,8 @@ use Rattle.std.proofs.Common.{◌∙◌, OnOk, subst}
 use Rattle.debugger.specs.Debugging.{Debugging}
 use Rattle.debugger.proofs.Between.{on_ok}
 use Rattle.debug_session.specs.Answers.{standing}
-use Rattle.debug_session.specs.Told.{AddsPlace, AddsMove}
-use Rattle.debug_session.proofs.TypedMoving.{move_told}
+use Rattle.debug_session.specs.Reported.{AddsPlace, AddsMove}
+use Rattle.debug_session.proofs.TypedMoving.{move_reported}
 use Rattle.debug_session.proofs.typed_move.append_move.Goals as goal
 
 pub append_lines-requires : goal.append_lines-requires
@@ -16,7 +16,7 @@ returns-in-Ok-clause-ok c =
     let made = c.append_lines.new.out.items in
     let all = c.append_where.new.out.items in
     on_ok {P = AddsPlace d.start c.args.report.bound (standing d) made all} {Q = AddsMove d.start c.args.from c.args.report (standing d) out all} c.append_where.result
-    (λ place. move_told d.start c.args.from c.args.report (standing d) out made all c.in-Ok.ensures.ok place)
+    (λ place. move_reported d.start c.args.from c.args.report (standing d) out made all c.in-Ok.ensures.ok place)
     (subst (λ (e : Debugging). OnOk c.append_where.result (AddsPlace e.start c.args.report.bound (standing e) made all)) c.append_lines.ensures.same c.append_where.ensures.ok)
 
 pub returns-in-Ok-clause-same : goal.returns-in-Ok-clause-same

@@ -15,7 +15,7 @@ returns-then-is_at_end-clause-ok c =
     let out = c.args.out.now.items in
     let all = c.append_text.new.out.items in
     on_ok {P = all ≡ out ++ codes "next: none\n"} {Q = all ≡ out ++ next_text d.start d.shown} c.append_text.result
-    (λ told. told ∙ ap (λ l. out ++ l) (sym (next_none d.start d.shown (sym c.if-is_at_end.ensures))))
+    (λ reported. reported ∙ ap (λ l. out ++ l) (sym (next_none d.start d.shown (sym c.if-is_at_end.ensures))))
     c.append_text.ensures
 
 pub returns-then-is_at_end-clause-same : goal.returns-then-is_at_end-clause-same
@@ -29,8 +29,8 @@ returns-in-Ok-clause-ok c =
     let all = c.append_due.new.out.items in
     let line = concat (texts_between d.start d.shown.position (d.shown.position + 1)) in
     on_ok {P = all ≡ made ++ line} {Q = all ≡ out ++ next_text d.start d.shown} c.append_due.result
-    (λ told.
-    told ∙ ap (λ l. l ++ line) c.in-Ok.ensures ∙ append_assoc out (codes "next: ") line
+    (λ reported.
+    reported ∙ ap (λ l. l ++ line) c.in-Ok.ensures ∙ append_assoc out (codes "next: ") line
     ∙ ap (λ l. out ++ l) (sym (next_due d.start d.shown (sym c.if-is_at_end.ensures))))
     c.append_due.ensures.ok
 

@@ -2,9 +2,9 @@ use Rattle.std.proofs.Common.{◌≡◌, ◌++◌, ◌∙◌, OnOk, subst}
 use Rattle.debugger.specs.Debugging.{Debugging}
 use Rattle.debugger.proofs.Between.{on_ok}
 use Rattle.debug_session.specs.Answers.{standing}
-use Rattle.debug_session.specs.Told.{AddsPlace}
+use Rattle.debug_session.specs.Reported.{AddsPlace}
 use Rattle.debug_session.specs.TypedMoves.{next_text, known_line, where_text}
-use Rattle.debug_session.proofs.TypedMoving.{where_told}
+use Rattle.debug_session.proofs.TypedMoving.{where_reported}
 use Rattle.debug_session.proofs.typed_move.append_whereabouts.Goals as goal
 
 pub returns-in-Ok-clause-ok : goal.returns-in-Ok-clause-ok
@@ -15,7 +15,7 @@ returns-in-Ok-clause-ok c =
     let all = c.append_ahead.new.out.items in
     let place : AddsPlace d.start d.shown.position (standing d) out made = subst (λ n. AddsPlace d.start n (standing d) out made) c.position-here.ensures.count c.in-Ok.ensures.ok in
     on_ok {P = all ≡ made ++ (next_text d.start d.shown ++ known_line c.args.known)} {Q = all ≡ out ++ where_text d.start d.shown c.args.known} c.append_ahead.result
-    (λ more. where_told d.start (standing d) c.args.known out made all place more)
+    (λ more. where_reported d.start (standing d) c.args.known out made all place more)
     (subst (λ (e : Debugging). OnOk c.append_ahead.result (all ≡ made ++ (next_text e.start e.shown ++ known_line c.args.known))) c.append_where.ensures.same c.append_ahead.ensures.ok)
 
 pub returns-in-Ok-clause-same : goal.returns-in-Ok-clause-same

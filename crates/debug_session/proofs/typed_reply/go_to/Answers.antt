@@ -8,9 +8,9 @@ show_passed-requires c = has_from c.args.debugger.now c.move_to-moved.new.debugg
 pub returns-clause-obeyed : goal.returns-clause-obeyed
 returns-clause-obeyed c =
     let d = c.args.debugger.now in
-    (gone_on (StepGoesTo d.start 0 c.args.target) d c.move_to-moved.new.debugger c.show_passed.new.debugger c.position-from.result c.move_to-moved.result c.show_passed.new.said c.position-from.ensures.count c.move_to-moved.ensures.moved c.move_to-moved.ensures.goes c.move_to-moved.ensures.err c.show_passed.ensures.told c.show_passed.ensures.refused).went
+    (gone_on (StepGoesTo d.start 0 c.args.target) d c.move_to-moved.new.debugger c.show_passed.new.debugger c.position-from.result c.move_to-moved.result c.show_passed.new.said c.position-from.ensures.count c.move_to-moved.ensures.moved c.move_to-moved.ensures.goes c.move_to-moved.ensures.err c.show_passed.ensures.reported c.show_passed.ensures.refused).went
 
 pub returns-clause-start : goal.returns-clause-start
 returns-clause-start c =
     let d = c.args.debugger.now in
-    (gone_on (StepGoesTo d.start 0 c.args.target) d c.move_to-moved.new.debugger c.show_passed.new.debugger c.position-from.result c.move_to-moved.result c.show_passed.new.said c.position-from.ensures.count c.move_to-moved.ensures.moved c.move_to-moved.ensures.goes c.move_to-moved.ensures.err c.show_passed.ensures.told c.show_passed.ensures.refused).start
+    (gone_on (StepGoesTo d.start 0 c.args.target) d c.move_to-moved.new.debugger c.show_passed.new.debugger c.position-from.result c.move_to-moved.result c.show_passed.new.said c.position-from.ensures.count c.move_to-moved.ensures.moved c.move_to-moved.ensures.goes c.move_to-moved.ensures.err c.show_passed.ensures.reported c.show_passed.ensures.refused).start

@@ -16,11 +16,11 @@ show_passed-requires c = has_from c.args.debugger.now c.step-moved.new.self c.st
 pub returns-in-Step-clause-obeyed : goal.returns-in-Step-clause-obeyed
 returns-in-Step-clause-obeyed c =
     subst (λ (k : Command). ObeysTyped c.args.debugger.now.start (Plain k) (standing c.args.debugger.now) (standing c.show_passed.new.debugger) c.show_passed.new.said) (sym c.in-Step.is)
-    (gone_on (StepGoesTo c.args.debugger.now.start c.args.debugger.now.shown.position c.in-Step.count) c.args.debugger.now c.step-moved.new.self c.show_passed.new.debugger c.position-from.result c.step-moved.result c.show_passed.new.said c.position-from.ensures.count c.step-moved.ensures.moved c.step-moved.ensures.goes c.step-moved.ensures.err c.show_passed.ensures.told c.show_passed.ensures.refused).went
+    (gone_on (StepGoesTo c.args.debugger.now.start c.args.debugger.now.shown.position c.in-Step.count) c.args.debugger.now c.step-moved.new.self c.show_passed.new.debugger c.position-from.result c.step-moved.result c.show_passed.new.said c.position-from.ensures.count c.step-moved.ensures.moved c.step-moved.ensures.goes c.step-moved.ensures.err c.show_passed.ensures.reported c.show_passed.ensures.refused).went
 
 pub returns-in-Step-clause-start : goal.returns-in-Step-clause-start
 returns-in-Step-clause-start c =
-    (gone_on (StepGoesTo c.args.debugger.now.start c.args.debugger.now.shown.position c.in-Step.count) c.args.debugger.now c.step-moved.new.self c.show_passed.new.debugger c.position-from.result c.step-moved.result c.show_passed.new.said c.position-from.ensures.count c.step-moved.ensures.moved c.step-moved.ensures.goes c.step-moved.ensures.err c.show_passed.ensures.told c.show_passed.ensures.refused).start
+    (gone_on (StepGoesTo c.args.debugger.now.start c.args.debugger.now.shown.position c.in-Step.count) c.args.debugger.now c.step-moved.new.self c.show_passed.new.debugger c.position-from.result c.step-moved.result c.show_passed.new.said c.position-from.ensures.count c.step-moved.ensures.moved c.step-moved.ensures.goes c.step-moved.ensures.err c.show_passed.ensures.reported c.show_passed.ensures.refused).start
 
 pub show_passed-requires-in-Back : goal.show_passed-requires-in-Back
 show_passed-requires-in-Back c = has_from c.args.debugger.now c.back-moved.new.self c.back-moved.result c.position-from.result c.position-from.ensures.count c.position-from.ensures.on_run c.back-moved.ensures.moved c.back-moved.ensures.err
@@ -28,11 +28,11 @@ show_passed-requires-in-Back c = has_from c.args.debugger.now c.back-moved.new.s
 pub returns-in-Back-clause-obeyed : goal.returns-in-Back-clause-obeyed
 returns-in-Back-clause-obeyed c =
     subst (λ (k : Command). ObeysTyped c.args.debugger.now.start (Plain k) (standing c.args.debugger.now) (standing c.show_passed-in-Back.new.debugger) c.show_passed-in-Back.new.said) (sym c.in-Back.is)
-    (gone_on (λ p. p ≡ c.args.debugger.now.shown.position - c.in-Back.count) c.args.debugger.now c.back-moved.new.self c.show_passed-in-Back.new.debugger c.position-from.result c.back-moved.result c.show_passed-in-Back.new.said c.position-from.ensures.count c.back-moved.ensures.moved c.back-moved.ensures.goes c.back-moved.ensures.err c.show_passed-in-Back.ensures.told c.show_passed-in-Back.ensures.refused).went
+    (gone_on (λ p. p ≡ c.args.debugger.now.shown.position - c.in-Back.count) c.args.debugger.now c.back-moved.new.self c.show_passed-in-Back.new.debugger c.position-from.result c.back-moved.result c.show_passed-in-Back.new.said c.position-from.ensures.count c.back-moved.ensures.moved c.back-moved.ensures.goes c.back-moved.ensures.err c.show_passed-in-Back.ensures.reported c.show_passed-in-Back.ensures.refused).went
 
 pub returns-in-Back-clause-start : goal.returns-in-Back-clause-start
 returns-in-Back-clause-start c =
-    (gone_on (λ p. p ≡ c.args.debugger.now.shown.position - c.in-Back.count) c.args.debugger.now c.back-moved.new.self c.show_passed-in-Back.new.debugger c.position-from.result c.back-moved.result c.show_passed-in-Back.new.said c.position-from.ensures.count c.back-moved.ensures.moved c.back-moved.ensures.goes c.back-moved.ensures.err c.show_passed-in-Back.ensures.told c.show_passed-in-Back.ensures.refused).start
+    (gone_on (λ p. p ≡ c.args.debugger.now.shown.position - c.in-Back.count) c.args.debugger.now c.back-moved.new.self c.show_passed-in-Back.new.debugger c.position-from.result c.back-moved.result c.show_passed-in-Back.new.said c.position-from.ensures.count c.back-moved.ensures.moved c.back-moved.ensures.goes c.back-moved.ensures.err c.show_passed-in-Back.ensures.reported c.show_passed-in-Back.ensures.refused).start
 
 -- moves by windows are left
 pub returns-in-Until-clause-obeyed : goal.returns-in-Until-clause-obeyed

@@ -3,7 +3,7 @@ use Rattle.debug_session.specs.declared.command.Typed.{Typed}
 use Rattle.debug_session.specs.declared.command.Typed.TheVariants.{Plain}
 use Rattle.debug_session.specs.Answers.{standing}
 use Rattle.debug_session.specs.TypedAnswers.{ObeysTyped}
-use Rattle.debug_session.proofs.Deleting.{part_told, why_told, help_told, help_on_told}
+use Rattle.debug_session.proofs.Deleting.{part_reported, why_reported, help_reported, help_on_reported}
 use Rattle.debug_session.proofs.Left.{typed_plain}
 use Rattle.debug_session.proofs.typed_reply.obey_typed.Goals as goal
 
@@ -29,7 +29,7 @@ returns-in-Reverse-clause-start c = c.reverse.ensures.start
 pub returns-in-Part-clause-obeyed : goal.returns-in-Part-clause-obeyed
 returns-in-Part-clause-obeyed c =
     subst (λ (k : Typed). ObeysTyped c.args.debugger.now.start k (standing c.args.debugger.now) (standing c.args.debugger.now) c.tell_part.new.said) (sym c.in-Part.is)
-    (part_told c.args.debugger.now c.in-Part.part c.tell_part.new.said c.tell_part.ensures)
+    (part_reported c.args.debugger.now c.in-Part.part c.tell_part.new.said c.tell_part.ensures)
 
 pub returns-in-Part-clause-start : goal.returns-in-Part-clause-start
 returns-in-Part-clause-start c = refl
@@ -37,7 +37,7 @@ returns-in-Part-clause-start c = refl
 pub returns-in-Why-clause-obeyed : goal.returns-in-Why-clause-obeyed
 returns-in-Why-clause-obeyed c =
     subst (λ (k : Typed). ObeysTyped c.args.debugger.now.start k (standing c.args.debugger.now) (standing c.args.debugger.now) c.tell_why.new.said) (sym c.in-Why.is)
-    (why_told c.args.debugger.now c.in-Why.flow c.tell_why.new.said c.tell_why.ensures)
+    (why_reported c.args.debugger.now c.in-Why.flow c.tell_why.new.said c.tell_why.ensures)
 
 pub returns-in-Why-clause-start : goal.returns-in-Why-clause-start
 returns-in-Why-clause-start c = refl
@@ -65,7 +65,7 @@ returns-in-Lines-clause-start c = c.tell_lines.ensures.start
 
 pub returns-in-Help-clause-obeyed : goal.returns-in-Help-clause-obeyed
 returns-in-Help-clause-obeyed c =
-    subst (λ (k : Typed). ObeysTyped c.args.debugger.now.start k (standing c.args.debugger.now) (standing c.args.debugger.now) c.tell_help.new.said) (sym c.in-Help.is) (help_told c.args.debugger.now c.tell_help.new.said c.tell_help.ensures)
+    subst (λ (k : Typed). ObeysTyped c.args.debugger.now.start k (standing c.args.debugger.now) (standing c.args.debugger.now) c.tell_help.new.said) (sym c.in-Help.is) (help_reported c.args.debugger.now c.tell_help.new.said c.tell_help.ensures)
 
 pub returns-in-Help-clause-start : goal.returns-in-Help-clause-start
 returns-in-Help-clause-start c = refl
@@ -73,7 +73,7 @@ returns-in-Help-clause-start c = refl
 pub returns-in-HelpOn-clause-obeyed : goal.returns-in-HelpOn-clause-obeyed
 returns-in-HelpOn-clause-obeyed c =
     subst (λ (k : Typed). ObeysTyped c.args.debugger.now.start k (standing c.args.debugger.now) (standing c.args.debugger.now) c.tell_help_on.new.said) (sym c.in-HelpOn.is)
-    (help_on_told c.args.debugger.now c.in-HelpOn.topic c.tell_help_on.new.said c.tell_help_on.ensures)
+    (help_on_reported c.args.debugger.now c.in-HelpOn.topic c.tell_help_on.new.said c.tell_help_on.ensures)
 
 pub returns-in-HelpOn-clause-start : goal.returns-in-HelpOn-clause-start
 returns-in-HelpOn-clause-start c = refl

@@ -9,9 +9,9 @@ show_past-requires c = has_from c.args.debugger.now c.reverse-moved.new.self c.r
 pub returns-clause-obeyed : goal.returns-clause-obeyed
 returns-clause-obeyed c =
     let d = c.args.debugger.now in
-    (gone_past back_to_break (ReverseGoesTo d.start d.breaks d.shown.position) d c.reverse-moved.new.self c.show_past.new.debugger c.position-from.result c.onwards-report.result c.reverse-moved.result c.show_past.new.said c.position-from.ensures.count c.onwards-report.ensures c.reverse-moved.ensures.moved c.reverse-moved.ensures.goes c.reverse-moved.ensures.err c.show_past.ensures.told c.show_past.ensures.refused).went
+    (gone_past back_to_break (ReverseGoesTo d.start d.breaks d.shown.position) d c.reverse-moved.new.self c.show_past.new.debugger c.position-from.result c.onwards-report.result c.reverse-moved.result c.show_past.new.said c.position-from.ensures.count c.onwards-report.ensures c.reverse-moved.ensures.moved c.reverse-moved.ensures.goes c.reverse-moved.ensures.err c.show_past.ensures.reported c.show_past.ensures.refused).went
 
 pub returns-clause-start : goal.returns-clause-start
 returns-clause-start c =
     let d = c.args.debugger.now in
-    (gone_past back_to_break (ReverseGoesTo d.start d.breaks d.shown.position) d c.reverse-moved.new.self c.show_past.new.debugger c.position-from.result c.onwards-report.result c.reverse-moved.result c.show_past.new.said c.position-from.ensures.count c.onwards-report.ensures c.reverse-moved.ensures.moved c.reverse-moved.ensures.goes c.reverse-moved.ensures.err c.show_past.ensures.told c.show_past.ensures.refused).start
+    (gone_past back_to_break (ReverseGoesTo d.start d.breaks d.shown.position) d c.reverse-moved.new.self c.show_past.new.debugger c.position-from.result c.onwards-report.result c.reverse-moved.result c.show_past.new.said c.position-from.ensures.count c.onwards-report.ensures c.reverse-moved.ensures.moved c.reverse-moved.ensures.goes c.reverse-moved.ensures.err c.show_past.ensures.reported c.show_past.ensures.refused).start

@@ -12,7 +12,7 @@ returns-in-Ok-clause-no_worker c = memory_alone
 
 pub returns-in-Ok-2-clause-ok : goal.returns-in-Ok-2-clause-ok
 returns-in-Ok-2-clause-ok c =
-    let start = c.args.saved.now in
+    let start = c.args.checkpoints.now in
     let new = c.reach_watched.new in
     let sought = c.in-Ok-2.ensures.watched.holds.2 start c.requires.on_run refl in
     last_found start c.args.breaks.now c.args.net.now.position new.net.position c.args.upto false new.watch.found false new.watch.refused (goes_on (Ok c.in-Ok-2.field-0)) sought refl c.if-stops.false c.in-Ok-2.ensures.reached

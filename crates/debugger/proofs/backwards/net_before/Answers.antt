@@ -15,7 +15,7 @@ stop_upto-requires-clause-on_run c = c.requires
 pub stop_upto-requires-clause-position : goal.stop_upto-requires-clause-position
 stop_upto-requires-clause-position c =
     let upto : c.saturating_sub-before.result ≤ c.args.present.now.position = omega (arith, c.saturating_sub-before.ensures, c.position.ensures.count) in
-    has_earlier c.args.saved.now c.args.present.now c.saturating_sub-before.result c.requires upto
+    has_earlier c.args.checkpoints.now c.args.present.now c.saturating_sub-before.result c.requires upto
 
 pub net_at-requires-clause-on_run : goal.net_at-requires-clause-on_run
 net_at-requires-clause-on_run c = subst (λ (s : State). Passes s c.args.present.now) (sym c.stop_upto.ensures.same) c.requires
@@ -24,9 +24,9 @@ pub net_at-requires-clause-position : goal.net_at-requires-clause-position
 net_at-requires-clause-position c =
     let m = c.args.present.now.position in
     let before : c.saturating_sub-before.result ≡ m - 1 = c.saturating_sub-before.ensures ∙ ap (λ p. p - 1) c.position.ensures.count in
-    let goes = goes_before c.args.saved.now c.args.breaks.now m c.saturating_sub-before.result c.in-Ok.target before c.in-Ok.ensures.goes in
+    let goes = goes_before c.args.checkpoints.now c.args.breaks.now m c.saturating_sub-before.result c.in-Ok.target before c.in-Ok.ensures.goes in
     subst (λ (s : State). HasPosition s c.in-Ok.target) (sym c.stop_upto.ensures.same)
-    (has_earlier c.args.saved.now c.args.present.now c.in-Ok.target c.requires (not_past c.args.saved.now c.args.breaks.now m c.in-Ok.target goes))
+    (has_earlier c.args.checkpoints.now c.args.present.now c.in-Ok.target c.requires (not_past c.args.checkpoints.now c.args.breaks.now m c.in-Ok.target goes))
 
 pub returns-in-Ok-clause-on_run : goal.returns-in-Ok-clause-on_run
 returns-in-Ok-clause-on_run c = subst (λ (s : State). IfOk c.net_at.result (Passes s)) c.stop_upto.ensures.same c.net_at.ensures.on_run
@@ -35,8 +35,8 @@ pub returns-in-Ok-clause-goes : goal.returns-in-Ok-clause-goes
 returns-in-Ok-clause-goes c =
     let m = c.args.present.now.position in
     let before : c.saturating_sub-before.result ≡ m - 1 = c.saturating_sub-before.ensures ∙ ap (λ p. p - 1) c.position.ensures.count in
-    let goes = goes_before c.args.saved.now c.args.breaks.now m c.saturating_sub-before.result c.in-Ok.target before c.in-Ok.ensures.goes in
-    IfOk-weaker c.net_at.result (λ (net : Reached). net.position ≡ c.in-Ok.target) (λ (net : Reached). ReverseGoesTo c.args.saved.now c.args.breaks.now m net.position) (λ net e. subst (ReverseGoesTo c.args.saved.now c.args.breaks.now m) (sym e) goes) c.net_at.ensures.goes
+    let goes = goes_before c.args.checkpoints.now c.args.breaks.now m c.saturating_sub-before.result c.in-Ok.target before c.in-Ok.ensures.goes in
+    IfOk-weaker c.net_at.result (λ (net : Reached). net.position ≡ c.in-Ok.target) (λ (net : Reached). ReverseGoesTo c.args.checkpoints.now c.args.breaks.now m net.position) (λ net e. subst (ReverseGoesTo c.args.checkpoints.now c.args.breaks.now m) (sym e) goes) c.net_at.ensures.goes
 
 pub returns-in-Ok-clause-full : goal.returns-in-Ok-clause-full
 returns-in-Ok-clause-full c = subst (λ (s : State). IfErr c.net_at.result (λ (fault : MoveFault). fault ≡ CountFull → IsTooLong s)) c.stop_upto.ensures.same c.net_at.ensures.full

@@ -21,7 +21,7 @@ last_stop-requires-clause-position c = c.requires.position
 pub returns-in-Ok-last_stop-clause-ok : goal.returns-in-Ok-last_stop-clause-ok
 returns-in-Ok-last_stop-clause-ok c = record {
   before = omega (arith, c.position-from.ensures.count, c.in-Ok.ensures.below, c.requires.some);
-  last = subst (λ p. FindsLast c.args.saved.now c.args.breaks.now p c.args.upto c.in-Ok-last_stop.found) (sym c.position-from.ensures.count) c.in-Ok-last_stop.ensures.ok;
+  last = subst (λ p. FindsLast c.args.checkpoints.now c.args.breaks.now p c.args.upto c.in-Ok-last_stop.found) (sym c.position-from.ensures.count) c.in-Ok-last_stop.ensures.ok;
 }
 
 pub returns-in-Ok-last_stop-clause-same : goal.returns-in-Ok-last_stop-clause-same

@@ -5,9 +5,9 @@ use Rattle.debugger.proofs.backwards.stop_upto.Given as goal
 -- what was searched has no stop
 abbrev pub invariant-loop-last : goal.invariant-loop-last
 invariant-loop-last l = record {
-  same : l.saved ≡ l.fn.saved;
+  same : l.checkpoints ≡ l.fn.checkpoints;
   within : l.last ≤ l.upto;
-  none : NoneStops l.fn.saved l.breaks l.last l.upto;
+  none : NoneStops l.fn.checkpoints l.breaks l.last l.upto;
 }
 
 -- each stretch has a line

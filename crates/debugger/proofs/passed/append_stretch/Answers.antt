@@ -12,7 +12,7 @@ net_at-requires-clause-on_run c = c.requires.on_run
 pub net_at-requires-clause-position : goal.net_at-requires-clause-position
 net_at-requires-clause-position c =
     let far = c.requires.upto in
-    has_earlier c.args.saved.now (record { state = far.0; position = c.args.stretch.now.from + c.args.stretch.now.count }) c.args.stretch.now.from far.1 (omega arith)
+    has_earlier c.args.checkpoints.now (record { state = far.0; position = c.args.stretch.now.from + c.args.stretch.now.count }) c.args.stretch.now.from far.1 (omega arith)
 
 pub run_stretch-requires-clause-on_run : goal.run_stretch-requires-clause-on_run
 run_stretch-requires-clause-on_run c = subst (λ (s : State). Passes s c.in-Ok.net) (sym c.net_at.ensures.same) c.in-Ok.ensures.on_run

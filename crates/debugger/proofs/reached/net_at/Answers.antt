@@ -9,7 +9,7 @@ pub returns-in_err-net-clause-goes : goal.returns-in_err-net-clause-goes
 returns-in_err-net-clause-goes c = not_ok c.from_residual.result _ _ c.from_residual.ensures
 
 pub returns-in_err-net-clause-full : goal.returns-in_err-net-clause-full
-returns-in_err-net-clause-full c = full_of_memory c.from_residual.result (IsTooLong c.args.saved.now) c.from_residual.ensures
+returns-in_err-net-clause-full c = full_of_memory c.from_residual.result (IsTooLong c.args.checkpoints.now) c.from_residual.ensures
 
 pub returns-in_err-net-clause-no_worker : goal.returns-in_err-net-clause-no_worker
 returns-in_err-net-clause-no_worker c = alone_of_memory c.from_residual.result c.from_residual.ensures

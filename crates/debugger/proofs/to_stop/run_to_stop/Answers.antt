@@ -14,11 +14,11 @@ returns-in-Ok-2-clause-goes c =
     let new = c.run_by_two.new in
     let both = c.in-Ok-2.ensures.watched in
     let here = subst (λ (s : State). Passes s new.net) both.first_has.holds.1 c.in-Ok-2.ensures.first in
-    let stops = second_alone _ _ _ both (λ b saved. saved.holds.0) in
-    stop_found c.args.saved.now c.args.breaks.now c.args.net.now new.net true new.second.found false new.second.refused c.in-Ok-2.field-0 here c.in-Ok-2.ensures.end (stops.holds.2 c.args.saved.now c.requires refl) refl c.if-stops.false
+    let stops = second_alone _ _ _ both (λ b checkpoints. checkpoints.holds.0) in
+    stop_found c.args.checkpoints.now c.args.breaks.now c.args.net.now new.net true new.second.found false new.second.refused c.in-Ok-2.field-0 here c.in-Ok-2.ensures.end (stops.holds.2 c.args.checkpoints.now c.requires refl) refl c.if-stops.false
 
 pub returns-clause-full : goal.returns-clause-full
 returns-clause-full c =
     let both = c.in-Err.ensures.watched in
     let here = subst (λ (s : State). Passes s c.run_by_two.new.net) both.first_has.holds.1 c.in-Err.ensures.first in
-    full_from_step c.into.result c.in-Err.fault c.into.ensures (too_long_there c.args.saved.now c.run_by_two.new.net c.in-Err.fault here c.in-Err.ensures.end)
+    full_from_step c.into.result c.in-Err.fault c.into.ensures (too_long_there c.args.checkpoints.now c.run_by_two.new.net c.in-Err.fault here c.in-Err.ensures.end)

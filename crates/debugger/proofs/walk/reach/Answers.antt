@@ -15,8 +15,8 @@ returns-in-Ok-clause-on_run c = c.in-Ok.ensures.on_run
 pub returns-in-Ok-clause-reached : goal.returns-in-Ok-clause-reached
 returns-in-Ok-clause-reached c =
     let m = c.args.net.now.position in
-    let goes = subst (λ k. StepGoesTo c.args.saved.now m k c.forward.new.net.position) (ap (λ k. c.args.target - k) c.position.ensures.count) c.in-Ok.ensures.goes in
-    comes_there c.args.saved.now m c.args.target c.forward.new.net.position goes c.requires.below c.requires.position
+    let goes = subst (λ k. StepGoesTo c.args.checkpoints.now m k c.forward.new.net.position) (ap (λ k. c.args.target - k) c.position.ensures.count) c.in-Ok.ensures.goes in
+    comes_there c.args.checkpoints.now m c.args.target c.forward.new.net.position goes c.requires.below c.requires.position
 
 pub returns-in-Ok-clause-same : goal.returns-in-Ok-clause-same
 returns-in-Ok-clause-same c = c.forward.ensures.same

@@ -1,7 +1,7 @@
 use Rattle.std.proofs.Common.{◌≡◌, ◌++◌, ◌∙◌, ℕ, List, OnOk, codes, ap, subst}
 use Rattle.reno_sender.specs.declared.fields.SenderFields.{SenderFields}
 use Rattle.reno_sender.specs.Fields.{total}
-use Rattle.flow_waits.specs.Standing.{numbered, between}
+use Rattle.flow_waits.specs.FlowStatus.{numbered, between}
 use Rattle.flow_waits.proofs.Appended.{two_texts}
 use Rattle.flow_waits.proofs.sentence.append_sent.Goals as goal
 

@@ -5,7 +5,7 @@ use Rattle.std.specs.List.{All}
 use Rattle.node_core.specs.TraceLine.{TraceLine}
 use Rattle.line_merge.specs.declared.merge.spot.Spot.{Spot}
 use Rattle.window_law.specs.Windows.{in_order}
-use Rattle.line_merge.specs.Merged.{all_of, line_at, lines_at, first_key, rests, IsSpot}
+use Rattle.line_merge.specs.Merged.{all_of, line_at, lines_at_spots, first_key, rests, IsSpot}
 use Rattle.line_merge.proofs.Rests.{rests_none, length_rests, nothing_in_order}
 use Rattle.line_merge.proofs.merge.merge.Goals as goal
 
@@ -41,10 +41,10 @@ loop-spot-preserved c =
     let fewer = c.next_spot.ensures.fewer in
     record {
       merged =
-          ap (λ (spots : List Spot). lines_at lists spots ++ left) more
+          ap (λ (spots : List Spot). lines_at_spots lists spots ++ left) more
           ∙ ap (λ (ls : List TraceLine). ls ++ left) (map-append (line_at lists) (take i order) (spot ∷ []))
-          ∙ append_assoc (lines_at lists (take i order)) (line_at lists spot ∷ []) left
-          ∙ ap (λ (ls : List TraceLine). lines_at lists (take i order) ++ ls) (sym c.next_spot.ensures.order)
+          ∙ append_assoc (lines_at_spots lists (take i order)) (line_at lists spot ∷ []) left
+          ∙ ap (λ (ls : List TraceLine). lines_at_spots lists (take i order) ++ ls) (sym c.next_spot.ensures.order)
           ∙ c.loop-spot.invariant.merged;
       spots = subst (All (IsSpot lists)) (sym more) (All-push (IsSpot lists) (take i order) spot c.loop-spot.invariant.spots c.next_spot.ensures.spot);
       next = c.next_spot.ensures.next;
@@ -63,9 +63,9 @@ returns-clause-merged c =
     let count = c.loop-spot.invariant.count in
     let whole : take c.loop-spot.spot-index order ≡ order = take_all c.loop-spot.spot-index order past in
     let left : length (all_of (rests lists c.loop-spot.nexts)) ≡ 0 = omega (arith, past, count) in
-    sym (append-nil (lines_at lists order))
-    ∙ ap (λ (ls : List TraceLine). lines_at lists order ++ ls) (sym (nothing_behind _ left))
-    ∙ ap (λ (spots : List Spot). lines_at lists spots ++ in_order (all_of (rests lists c.loop-spot.nexts))) (sym whole)
+    sym (append-nil (lines_at_spots lists order))
+    ∙ ap (λ (ls : List TraceLine). lines_at_spots lists order ++ ls) (sym (nothing_behind _ left))
+    ∙ ap (λ (spots : List Spot). lines_at_spots lists spots ++ in_order (all_of (rests lists c.loop-spot.nexts))) (sym whole)
     ∙ c.loop-spot.invariant.merged
 
 pub returns-clause-spots : goal.returns-clause-spots
@@ -84,9 +84,9 @@ returns-clause-count c =
     let count = c.loop-spot.invariant.count in
     let whole : take c.loop-spot.spot-index order ≡ order = take_all c.loop-spot.spot-index order past in
     let left : length (all_of (rests lists c.loop-spot.nexts)) ≡ 0 = omega (arith, past, count) in
-    let merged : lines_at lists order ≡ in_order (all_of lists) =
-    sym (append-nil (lines_at lists order))
-    ∙ ap (λ (ls : List TraceLine). lines_at lists order ++ ls) (sym (nothing_behind _ left))
-    ∙ ap (λ (spots : List Spot). lines_at lists spots ++ in_order (all_of (rests lists c.loop-spot.nexts))) (sym whole)
+    let merged : lines_at_spots lists order ≡ in_order (all_of lists) =
+    sym (append-nil (lines_at_spots lists order))
+    ∙ ap (λ (ls : List TraceLine). lines_at_spots lists order ++ ls) (sym (nothing_behind _ left))
+    ∙ ap (λ (spots : List Spot). lines_at_spots lists spots ++ in_order (all_of (rests lists c.loop-spot.nexts))) (sym whole)
     ∙ c.loop-spot.invariant.merged in
     sym (ap length merged) ∙ length-map order (line_at lists) ∙ c.loop-spot.auto.order ∙ c.requires.order

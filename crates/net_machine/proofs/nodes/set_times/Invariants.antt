@@ -1,6 +1,6 @@
 use Rattle.std.proofs.Common.{◌≡◌, ℕ, ◌<◌, length}
-use Rattle.ranking.specs.Timed.{time_at, time_of}
-use Rattle.ranking.specs.Keyed.{next_key}
+use Rattle.tournament.specs.Timed.{time_at, time_of}
+use Rattle.tournament.specs.Keyed.{next_key}
 use Rattle.net_machine.specs.Nodes.{node_at}
 use Rattle.net_machine.proofs.nodes.set_times.Given as goal
 

@@ -1,5 +1,5 @@
 use Rattle.std.proofs.Common.{false, refl, sym, subst}
-use Rattle.reno_receiver.specs.Received.{alarm_came}
+use Rattle.reno_receiver.specs.Received.{timer_came}
 use Rattle.node_core.specs.declared.event.Event.TheVariants.{DelAck}
 use Rattle.node_core.specs.declared.role.Role.{Role}
 use Rattle.node_core.specs.declared.role.Role.TheVariants.{Receives}
@@ -18,4 +18,4 @@ returns-in-Receives-clause-decided c =
     let has : HasItsLink (Receives own state) links = subst (λ (r : Role). HasItsLink r links) c.in-Receives.is linked in
     both_ok c.answer_delayed.result c.answer_delayed.ensures.sends c.answer_delayed.ensures.receiver (λ d sends new_is.
     subst (λ (r : Role). IsDecided r (Receives own new) links key (DelAck flow) room d) (sym c.in-Receives.is)
-    (receiver_decides own state new (alarm_came state) false links key (DelAck flow) room d sends new_is has refl (λ e. absurd (cc)) refl))
+    (receiver_decides own state new (timer_came state) false links key (DelAck flow) room d sends new_is has refl (λ e. absurd (cc)) refl))

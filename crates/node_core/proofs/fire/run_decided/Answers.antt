@@ -2,7 +2,7 @@ use Rattle.std.proofs.Common.{List, subst, sym, ◌∙◌}
 use Rattle.sim_time.specs.declared.key.Key.{Key}
 use Rattle.packet_chain.specs.Stamped.{Stamped}
 use Rattle.node_core.specs.declared.event.Event.{Event}
-use Rattle.node_core.specs.CarriedOut.{IsNext, IsCarriedOut}
+use Rattle.node_core.specs.CarriedOut.{IsNextEvent, IsCarriedOut}
 use Rattle.node_core.specs.Decided.{CanDo}
 use Rattle.node_core.proofs.Carried.{ran}
 use Rattle.node_core.proofs.Due.{of_link, set_by}
@@ -11,8 +11,8 @@ use Rattle.node_core.proofs.fire.run_decided.Goals as goal
 pub decide-requires-clause-can : goal.decide-requires-clause-can
 decide-requires-clause-can c = record {
   moment = c.requires.can.next.moment;
-  set = set_by c.args.role.now c.args.links.now.items c.args.agenda.now c.args.line.now.key c.args.line.now.event c.requires.can.in_step c.requires.can.next.due;
-  own = of_link c.args.role.now c.args.links.now.items c.args.agenda.now c.args.line.now.key c.args.line.now.event c.requires.can.in_step c.requires.can.next.due;
+  set = set_by c.args.role.now c.args.links.now.items c.args.event_queue.now c.args.line.now.key c.args.line.now.event c.requires.can.in_step c.requires.can.next.due;
+  own = of_link c.args.role.now c.args.links.now.items c.args.event_queue.now c.args.line.now.key c.args.line.now.event c.requires.can.in_step c.requires.can.next.due;
   takes = c.requires.can.runs;
   linked = c.requires.can.in_step.linked;
   few = c.requires.can.in_step.few;
@@ -20,9 +20,9 @@ decide-requires-clause-can c = record {
 
 pub carry_out-requires-clause-next : goal.carry_out-requires-clause-next
 carry_out-requires-clause-next c =
-    subst (λ (k : Key). IsNext k c.decide.new.line.event c.args.links.now.items c.args.agenda.now c.out.inside.chains.items) (sym c.decide.ensures.same_event.key_is)
-    (subst (λ (e : Event). IsNext c.args.line.now.key e c.args.links.now.items c.args.agenda.now c.out.inside.chains.items) (sym c.decide.ensures.same_event.event_is)
-    (subst (IsNext c.args.line.now.key c.args.line.now.event c.args.links.now.items c.args.agenda.now) (sym c.out.view_is) c.requires.can.next))
+    subst (λ (k : Key). IsNextEvent k c.decide.new.line.event c.args.links.now.items c.args.event_queue.now c.out.inside.chains.items) (sym c.decide.ensures.same_event.key_is)
+    (subst (λ (e : Event). IsNextEvent c.args.line.now.key e c.args.links.now.items c.args.event_queue.now c.out.inside.chains.items) (sym c.decide.ensures.same_event.event_is)
+    (subst (IsNextEvent c.args.line.now.key c.args.line.now.event c.args.links.now.items c.args.event_queue.now) (sym c.out.view_is) c.requires.can.next))
 
 pub carry_out-requires-clause-can : goal.carry_out-requires-clause-can
 carry_out-requires-clause-can c =
@@ -31,8 +31,8 @@ carry_out-requires-clause-can c =
 
 pub returns-clause-ran : goal.returns-clause-ran
 returns-clause-ran c =
-    let done = subst (λ (chains : List (List Stamped)). IsCarriedOut c.decide.new.line.key c.decide.new.line.event c.in_ok-decision.decision c.args.links.now.items c.carry_out.new.links.items c.args.agenda.now c.carry_out.new.agenda chains c.carry_out.new.out c.decide.new.line.acts.acts c.carry_out.new.line.acts.acts c.carry_out.result) c.out.view_is c.carry_out.ensures.done in
-    let r = ran c.args.role.now c.decide.new.role c.args.links.now.items c.carry_out.new.links.items c.args.agenda.now c.carry_out.new.agenda c.args.out.now c.carry_out.new.out c.args.line.now.acts.acts c.carry_out.new.line.acts.acts c.carry_out.result
+    let done = subst (λ (chains : List (List Stamped)). IsCarriedOut c.decide.new.line.key c.decide.new.line.event c.in_ok-decision.decision c.args.links.now.items c.carry_out.new.links.items c.args.event_queue.now c.carry_out.new.event_queue chains c.carry_out.new.out c.decide.new.line.acts.acts c.carry_out.new.line.acts.acts c.carry_out.result) c.out.view_is c.carry_out.ensures.done in
+    let r = ran c.args.role.now c.decide.new.role c.args.links.now.items c.carry_out.new.links.items c.args.event_queue.now c.carry_out.new.event_queue c.args.out.now c.carry_out.new.out c.args.line.now.acts.acts c.carry_out.new.line.acts.acts c.carry_out.result
     c.args.line.now.key c.args.line.now.event c.decide.new.line.acts.room c.requires.can.in_step c.requires.can.next (c.in_ok-decision.decision) (c.in_ok-decision.ensures.decided)
     c.decide.new.line.key c.decide.new.line.event c.decide.new.line.acts.acts c.decide.ensures.same_event.key_is c.decide.ensures.same_event.event_is c.decide.ensures.acts done in
     let same = c.carry_out.ensures.same_event in

@@ -11,7 +11,7 @@ returns-clause-sends c =
     let f = data_packet c.args.origin.flow plan.fields.mss in
     record {
       sent = c.in_ok-cells.ensures;
-      alarm_is = refl;
+      timer_is = refl;
       time_is = ap (λ (s : SenderFields). s.deadline) c.as_fields.ensures.value;
       room_for = omega (arith, few_sent f plan, c.in_ok-reserve.ensures.ok, c.count.ensures.value);
       few = omega (arith, few_in_cells c.in_ok-cells.cells c.in_ok-cells.last (map f (sent_of plan)) c.in_ok-cells.ensures, few_sent f plan, c.count.ensures.well_made.few);

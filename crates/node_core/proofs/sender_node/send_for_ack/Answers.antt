@@ -4,7 +4,7 @@ use Rattle.reno_sender.specs.declared.fields.SenderFields.{SenderFields}
 use Rattle.reno_sender.specs.Sending.{Planned, spaced}
 use Rattle.reno_sender.specs.Table.{acknowledged}
 use Rattle.reno_sender.proofs.AckRuns.{run_mss, run_sent, run_ends, run_few}
-use Rattle.node_core.specs.declared.alarm.Alarm.TheVariants.{Retransmission}
+use Rattle.node_core.specs.declared.timer.Timer.TheVariants.{Retransmission}
 use Rattle.node_core.specs.Decided.{IsSent, OnSend}
 use Rattle.node_core.specs.Links.{packets_of}
 use Rattle.node_core.specs.Row.{data_packet}
@@ -36,7 +36,7 @@ returns-clause-sends c =
     let few = run_few f c.args.number c.args.now run sound c.requires.moment c.requires.ack c.in-Some.ensures in
     record {
       sent = sent;
-      alarm_is = refl;
+      timer_is = refl;
       time_is = c.deadline.ensures.value ∙ ap (λ (s : SenderFields). s.deadline) c.take_run.ensures;
       room_for = omega (arith, many, c.in_ok-reserve.ensures.ok);
       few = omega (arith, few_in_cells c.in_ok-cells.cells c.in_ok-cells.last packets sent, many, few);

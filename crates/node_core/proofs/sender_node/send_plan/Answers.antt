@@ -15,7 +15,7 @@ returns-clause-sends c =
     ∙ read_run c.args.origin.flow plan c.as_fields.result.now c.resent.result c.first.result c.count-2.result (λ n. n) c.as_fields.ensures.value c.resent.ensures.value c.first.ensures.value c.count-2.ensures.value in
     record {
       sent = sent;
-      alarm_is = refl;
+      timer_is = refl;
       time_is = ap (λ (s : SenderFields). s.deadline) c.as_fields-2.ensures.value;
       room_for = omega (arith, few_sent f plan, c.in_ok-reserve.ensures.ok, c.count.ensures.value);
       few = omega (arith, few_in_cells cells None (map f (sent_of plan)) sent, few_sent f plan, c.count.ensures.well_made.few);

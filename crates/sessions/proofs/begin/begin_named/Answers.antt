@@ -2,9 +2,9 @@ use Rattle.std.proofs.Common.{◌≡◌, List, ℕ, Option, Result, Err, refl, s
 use Rattle.debug_session.specs.Prompt.{Typing}
 use Rattle.sessions.specs.declared.fault.SessionFault.{SessionFault}
 use Rattle.sessions.specs.declared.rest.Rest.{Rest}
-use Rattle.sessions.specs.Ended.{Ended}
-use Rattle.sessions.specs.Named.{IsInputFault, IsOver, known_of}
-use Rattle.sessions.specs.Rest.{Begins, IsTaskWith}
+use Rattle.sessions.specs.Ended.{SessionEnded}
+use Rattle.sessions.specs.Named.{IsInputFault, IsTaskOver, known_of}
+use Rattle.sessions.specs.Rest.{BeginsSession, IsTaskWith}
 use Rattle.sessions.specs.Streams.{IsInputOf, Streams, streams_of}
 use Rattle.sessions.proofs.Rests.{begins_as}
 use Rattle.sessions.proofs.Overs.{of_err, of_ok, over_read, over_unread, read_counts, unread_counts}
@@ -23,8 +23,8 @@ returns-in_err-input g c =
     let counts = unread_counts file c.read_named-read.result fault before.read_failures now.read_failures c.read_named-read.ensures.failures c.in_err-input.was in
     let faults =
     of_err (λ fault. (input : List ℕ) × IsInputOf (known_of file known bytes_of) input × IsInputFault file input fault) c.read_named-read.result fault c.in_err-input.was c.read_named-read.ensures.faults in
-    let P : Ended → Streams → Type 0 = λ ended after. IsOver c.args.task file known bytes_of ended before after in
-    subst (λ (r : Result Rest SessionFault). Begins P r now) (sym is) (over_unread c.args.task file known bytes_of fault before now faults c.read_named-read.ensures.typed refl refl counts)
+    let P : SessionEnded → Streams → Type 0 = λ ended after. IsTaskOver c.args.task file known bytes_of ended before after in
+    subst (λ (r : Result Rest SessionFault). BeginsSession P r now) (sym is) (over_unread c.args.task file known bytes_of fault before now faults c.read_named-read.ensures.typed refl refl counts)
 
 pub returns : goal.returns
 returns g c =
@@ -39,6 +39,6 @@ returns g c =
     let counts = read_counts file c.read_named-read.result c.in_ok-input.input before.read_failures between.read_failures c.read_named-read.ensures.failures c.in_ok-input.was in
     let same : between ≡ before = ap₂ (λ (n : ℕ) (t : Option Typing). record { read_failures = n; typed = t; write_failures = before.write_failures; written = before.written }) counts c.read_named-read.ensures.typed in
     let given = of_ok _ c.read_named-read.result c.in_ok-input.input c.in_ok-input.was c.read_named-read.ensures.input in
-    begins_as (IsTaskWith c.args.task file input between) (λ ended after. IsOver c.args.task file known bytes_of ended before after) c.begin_task.result now
+    begins_as (IsTaskWith c.args.task file input between) (λ ended after. IsTaskOver c.args.task file known bytes_of ended before after) c.begin_task.result now
     (λ ended after done.
     over_read c.args.task file known bytes_of input ended before after given (subst (λ (s : Streams). IsTaskWith c.args.task file input s ended after) same done)) (c.begin_task.ensures between)

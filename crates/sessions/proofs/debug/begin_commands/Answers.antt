@@ -3,7 +3,7 @@ use Rattle.debug_session.specs.Input.{text_lines, command_lines}
 use Rattle.sessions.specs.declared.fault.SessionFault.{SessionFault}
 use Rattle.sessions.specs.declared.rest.Rest.{Rest}
 use Rattle.sessions.specs.Debug.{IsDebugSession}
-use Rattle.sessions.specs.Rest.{Begins, IsDone, written_by}
+use Rattle.sessions.specs.Rest.{BeginsSession, SessionIsDone, written_by}
 use Rattle.sessions.proofs.DebugEnds.{groups_no_failure, no_failure, not_grouped, text_refused}
 use Rattle.sessions.proofs.Rests.{commands_end, nothing_begins}
 use Rattle.sessions.proofs.debug.begin_commands.Goals as goal
@@ -17,10 +17,10 @@ returns-in_err-scenario g c now =
     let text = c.split.result.0.now in
     let is : c.from_residual.result ≡ Err fault = search rules in
     let same : c.as_slice.result.now ≡ input = search rules in
-    let free = no_failure text fault c.told_text.result c.in_err-scenario.was c.told_text.ensures in
-    subst (λ (r : Result Rest SessionFault). Begins (IsDone (IsDebugSession groups input) before) r before) (sym is)
+    let free = no_failure text fault c.reported_text.result c.in_err-scenario.was c.reported_text.ensures in
+    subst (λ (r : Result Rest SessionFault). BeginsSession (SessionIsDone (IsDebugSession groups input) before) r before) (sym is)
     (record {
-      session = text_refused groups input text fault c.told_text.result before.written (c.split.ensures.text ∙ ap text_lines same) c.requires c.in_err-scenario.was c.told_text.ensures;
+      session = text_refused groups input text fault c.reported_text.result before.written (c.split.ensures.text ∙ ap text_lines same) c.requires c.in_err-scenario.was c.reported_text.ensures;
       no_read = free.1;
       reads = refl;
       writes = free.0 before.write_failures;
@@ -36,10 +36,10 @@ returns-in_err-partition g c now =
     let is : c.from_residual-in_err-partition.result ≡ Err fault = search rules in
     let same : c.as_slice.result.now ≡ input = search rules in
     let free = groups_no_failure groups p fault c.in_err-partition.ensures.faults in
-    subst (λ (r : Result Rest SessionFault). Begins (IsDone (IsDebugSession groups input) before) r before) (sym is)
+    subst (λ (r : Result Rest SessionFault). BeginsSession (SessionIsDone (IsDebugSession groups input) before) r before) (sym is)
     (record {
-      session = not_grouped groups input c.split.result.0.now c.split.result.1.now p c.told_text.result before.written before.written (c.split.ensures.text ∙ ap text_lines same) (c.split.ensures.commands ∙ ap command_lines same) c.requires
-          c.in_ok-scenario.was c.told_text.ensures c.in_ok-scenario.ensures.scenario fault c.in_err-partition.ensures.faults;
+      session = not_grouped groups input c.split.result.0.now c.split.result.1.now p c.reported_text.result before.written before.written (c.split.ensures.text ∙ ap text_lines same) (c.split.ensures.commands ∙ ap command_lines same) c.requires
+          c.in_ok-scenario.was c.reported_text.ensures c.in_ok-scenario.ensures.scenario fault c.in_err-partition.ensures.faults;
       no_read = free.1;
       reads = refl;
       writes = free.0 before.write_failures;
@@ -58,9 +58,9 @@ returns-then-is_alone g c now =
     let p = c.in_ok-scenario.scenario in
     let same : c.as_slice.result.now ≡ input = search rules in
     let done =
-    commands_end groups input c.split.result.0.now c.split.result.1.now p c.told_text.result before after (c.split.ensures.text ∙ ap text_lines same) (c.split.ensures.commands ∙ ap command_lines same) c.requires c.in_ok-scenario.was
-    c.told_text.ensures c.in_ok-scenario.ensures.scenario c.in_ok-partition.ensures.named c.answer_commands-ended.result (record { output = c.answer_commands-ended.ensures.output; reads = refl; writes = c.answer_commands-ended.ensures.failures }) in
-    nothing_begins (IsDone (IsDebugSession groups input) before) c.answer_commands-ended.result c.nothing_left.result after c.nothing_left.ensures done
+    commands_end groups input c.split.result.0.now c.split.result.1.now p c.reported_text.result before after (c.split.ensures.text ∙ ap text_lines same) (c.split.ensures.commands ∙ ap command_lines same) c.requires c.in_ok-scenario.was
+    c.reported_text.ensures c.in_ok-scenario.ensures.scenario c.in_ok-partition.ensures.named c.answer_commands-ended.result (record { output = c.answer_commands-ended.ensures.output; reads = refl; writes = c.answer_commands-ended.ensures.failures }) in
+    nothing_begins (SessionIsDone (IsDebugSession groups input) before) c.answer_commands-ended.result c.nothing_left.result after c.nothing_left.ensures done
 
 pub returns : goal.returns
 returns g c now =
@@ -74,6 +74,6 @@ returns g c now =
         several = omega (arith, c.workers-workers.ensures.few.0, c.is_alone.ensures c.if-is_alone.false);
       },
       λ ended after left.
-          commands_end groups input c.split.result.0.now c.split.result.1.now p c.told_text.result before after (c.split.ensures.text ∙ ap text_lines same) (c.split.ensures.commands ∙ ap command_lines same) c.requires c.in_ok-scenario.was
-          c.told_text.ensures c.in_ok-scenario.ensures.scenario c.in_ok-partition.ensures.named ended left,
+          commands_end groups input c.split.result.0.now c.split.result.1.now p c.reported_text.result before after (c.split.ensures.text ∙ ap text_lines same) (c.split.ensures.commands ∙ ap command_lines same) c.requires c.in_ok-scenario.was
+          c.reported_text.ensures c.in_ok-scenario.ensures.scenario c.in_ok-partition.ensures.named ended left,
     )

@@ -4,7 +4,7 @@ use Rattle.std.specs.Option.{IsSome}
 use Rattle.table_run.specs.State.{State}
 use Rattle.debug_session.specs.Prompt.{at_prompt}
 use Rattle.sessions.specs.declared.prompt.Turn.{Turn}
-use Rattle.sessions.specs.Ended.{Ended, reads_after, writes_after}
+use Rattle.sessions.specs.Ended.{SessionEnded, reads_after, writes_after}
 use Rattle.sessions.specs.Prompt.{IsTypedSession}
 use Rattle.sessions.specs.Streams.{streams_of}
 use Rattle.sessions.specs.Turns.{IsTurn, IsAnswered}
@@ -40,7 +40,7 @@ returns-in_err-take_turn-clause-session g c =
     let now = at_prompt c.take_turn.new.dialogue in
     let is : c.from_residual.result ≡ Err fault = search rules in
     let turn = subst (λ (s : State). IsTurn limits s was now (Err fault) before after) c.loop.invariant.start c.in_err-take_turn.ensures.turn in
-    subst (λ (e : Ended). IsTypedSession limits c.args.dialogue.now.debugger.start old e first after) (sym is)
+    subst (λ (e : SessionEnded). IsTypedSession limits c.args.dialogue.now.debugger.start old e first after) (sym is)
     (is_failed limits c.args.dialogue.now.debugger.start old was first before c.loop.invariant.so_far fault now after turn)
 
 pub returns-in_err-take_turn-clause-reads : goal.returns-in_err-take_turn-clause-reads
@@ -48,14 +48,14 @@ returns-in_err-take_turn-clause-reads g c =
     let fault = c.in_err-take_turn.field-0.0 in
     let is : c.from_residual.result ≡ Err fault = search rules in
     let n = g.R.Source.failures c.args.reader.now in
-    c.in_err-take_turn.ensures.reads ∙ ap (reads_after {T = Turn} (Err fault)) c.loop.invariant.reads ∙ same_reads fault n ∙ ap (λ (e : Ended). reads_after e n) (sym is)
+    c.in_err-take_turn.ensures.reads ∙ ap (reads_after {T = Turn} (Err fault)) c.loop.invariant.reads ∙ same_reads fault n ∙ ap (λ (e : SessionEnded). reads_after e n) (sym is)
 
 pub returns-in_err-take_turn-clause-writes : goal.returns-in_err-take_turn-clause-writes
 returns-in_err-take_turn-clause-writes g c =
     let fault = c.in_err-take_turn.field-0.0 in
     let is : c.from_residual.result ≡ Err fault = search rules in
     let n = g.W.Sink.failures c.args.writer.now in
-    c.in_err-take_turn.ensures.writes ∙ ap (writes_after {T = Turn} (Err fault)) c.loop.invariant.writes ∙ same_writes fault n ∙ ap (λ (e : Ended). writes_after e n) (sym is)
+    c.in_err-take_turn.ensures.writes ∙ ap (writes_after {T = Turn} (Err fault)) c.loop.invariant.writes ∙ same_writes fault n ∙ ap (λ (e : SessionEnded). writes_after e n) (sym is)
 
 pub loop-preserved : goal.loop-preserved
 loop-preserved g c =

@@ -3,7 +3,7 @@ use Rattle.table_run.specs.State.{State}
 use Rattle.sessions.specs.declared.fault.SessionFault.{SessionFault}
 use Rattle.sessions.specs.declared.fault.SessionFault.TheVariants.{NoMemory}
 use Rattle.sessions.specs.declared.rest.Rest.{Rest}
-use Rattle.sessions.specs.Ended.{Ended, IsRunOutput}
+use Rattle.sessions.specs.Ended.{SessionEnded, IsRunOutput}
 use Rattle.sessions.specs.Output.{IsSharedOutput}
 use Rattle.sessions.specs.Rest.{BeginsRun}
 use Rattle.sessions.specs.Written.{Writes}
@@ -16,7 +16,7 @@ returns-in_err-partition-clause-output g c =
     let fault = c.in_err-partition.field-0.0 in
     let known = g.W.Sink.contents c.args.writer.now in
     let is : c.from_residual.result ≡ Err fault = search rules in
-    let P : Ended → Option (List ℕ) → Type 0 = λ ended after. Writes (IsSharedOutput c.args.sharing.groups c.args.scenario.now ended) known after in
+    let P : SessionEnded → Option (List ℕ) → Type 0 = λ ended after. Writes (IsSharedOutput c.args.sharing.groups c.args.scenario.now ended) known after in
     subst (λ (b : Result Rest SessionFault). BeginsRun P b known) (sym is) (not_shared c.args.sharing.groups c.args.scenario.now fault known c.in_err-partition.ensures.faults)
 
 pub returns-then-is_alone-clause-output : goal.returns-then-is_alone-clause-output
@@ -34,7 +34,7 @@ pub returns-in_err-run-clause-output : goal.returns-in_err-run-clause-output
 returns-in_err-run-clause-output g c =
     let known = g.W.Sink.contents c.args.writer.now in
     let is : c.from_residual-in_err-run.result ≡ Err NoMemory = search rules in
-    let P : Ended → Option (List ℕ) → Type 0 = λ ended after. Writes (IsSharedOutput c.args.sharing.groups c.args.scenario.now ended) known after in
+    let P : SessionEnded → Option (List ℕ) → Type 0 = λ ended after. Writes (IsSharedOutput c.args.sharing.groups c.args.scenario.now ended) known after in
     subst (λ (b : Result Rest SessionFault). BeginsRun P b known) (sym is) (not_shared c.args.sharing.groups c.args.scenario.now NoMemory known tt)
 
 pub returns-clause-output : goal.returns-clause-output

@@ -1,5 +1,5 @@
 use Rattle.std.proofs.Common.{◌≡◌, Err, sym, subst, rules}
-use Rattle.sessions.specs.Ended.{Ended}
+use Rattle.sessions.specs.Ended.{SessionEnded}
 use Rattle.sessions.specs.FiguresOutput.{IsRowsOutput}
 use Rattle.sessions.specs.Written.{Writes}
 use Rattle.sessions.proofs.Stepped.{never_begun}
@@ -11,5 +11,5 @@ returns-in_err-begin_at-clause-output g c =
     let fault = c.in_err-begin_at.field-0.0 in
     let known = g.W.Sink.contents c.args.writer.now in
     let is : c.from_residual.result ≡ Err fault = search rules in
-    subst (λ (e : Ended). Writes (IsRowsOutput c.args.column.now p c.args.pace.from c.args.pace.every e) known known) (sym is)
-    (never_begun c.args.column.now p c.args.pace.from c.args.pace.every c.begin_at.new.self.net fault known (c.begin_at.ensures.come p c.requires.opened) c.in_err-begin_at.ensures.faults)
+    subst (λ (e : SessionEnded). Writes (IsRowsOutput c.args.column.now p c.args.row_steps.from c.args.row_steps.every e) known known) (sym is)
+    (never_begun c.args.column.now p c.args.row_steps.from c.args.row_steps.every c.begin_at.new.self.net fault known (c.begin_at.ensures.come p c.requires.opened) c.in_err-begin_at.ensures.faults)

@@ -15,7 +15,7 @@ loop-slot-preserved-in-Finished c =
       next.3,
       omega (arith, ap length c.in-Some.ensures.steps.0, was.4, c.push_reserved.ensures.len, c.push_reserved.ensures.capacity),
       among_rest all rest more c.in-Some.slot c.in-Some.ensures.steps.0 was.5,
-      rw (c.or-refusal.ensures, c.fault.ensures.fault) (full_more all rest more c.in-Some.slot s.refusal c.in-Finished.piece c.in-Some.ensures.steps.0 c.in-Finished.is was.5 was.6 c.fault.ensures.told c.fault.ensures.after),
+      rw (c.or-refusal.ensures, c.fault.ensures.fault) (full_more all rest more c.in-Some.slot s.refusal c.in-Finished.piece c.in-Some.ensures.steps.0 c.in-Finished.is was.5 was.6 c.fault.ensures.reported c.fault.ensures.after),
       next.4,
     )
 

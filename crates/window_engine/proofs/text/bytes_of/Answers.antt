@@ -6,10 +6,10 @@ use Rattle.window_engine.proofs.text.bytes_of.Goals as goal
 pub slice_bounds-result-end : goal.slice_bounds-result-end
 slice_bounds-result-end c =
     let end = c.requires.part.end in
-    let text = text_at-is c.args.scribes.now c.args.place.scribe c.index-scribes-place.result c.requires.scribe in
+    let text = text_at-is c.args.scribes.now c.args.place.formatter c.index-scribes-place.result c.requires.formatter in
     omega (arith, end, ap length (c.as_slice-text.ensures ∙ sym text))
 
 pub returns : goal.returns
 returns c =
-    let text = text_at-is c.args.scribes.now c.args.place.scribe c.index-scribes-place.result c.requires.scribe in
+    let text = text_at-is c.args.scribes.now c.args.place.formatter c.index-scribes-place.result c.requires.formatter in
     ap (λ (l : List ℕ). bytes_in l c.args.place.part) (c.as_slice-text.ensures ∙ sym text)

@@ -3,5 +3,5 @@ use Rattle.std.proofs.Common.{take}
 use Rattle.window_engine.specs.Parts.{AreRight}
 use Rattle.window_engine.proofs.text.clear_all.Given as goal
 
-abbrev pub invariant-loop-scribe : goal.invariant-loop-scribe
-invariant-loop-scribe l = AreRight l.sheaf (take l.scribe-index l.scribes)
+abbrev pub invariant-loop-formatter : goal.invariant-loop-formatter
+invariant-loop-formatter l = AreRight l.sheaf (take l.formatter-index l.scribes)

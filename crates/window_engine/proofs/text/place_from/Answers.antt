@@ -1,5 +1,5 @@
 use Rattle.std.proofs.Common.{subst}
-use Rattle.window_engine.specs.declared.scribe.Scribe.{Scribe}
+use Rattle.window_engine.specs.declared.formatter.TextFormatter.{TextFormatter}
 use Rattle.window_engine.specs.Parts.{HasText}
 use Rattle.window_engine.proofs.Parted.{is_place}
 use Rattle.window_engine.proofs.text.place_from.Goals as goal
@@ -7,7 +7,7 @@ use Rattle.window_engine.proofs.text.place_from.Goals as goal
 pub returns-in-Some : goal.returns-in-Some
 returns-in-Some c =
     let s = c.args.sheaf.now in
-    let scribe = c.index-scribes-scribe.result in
+    let formatter = c.index-scribes-formatter.result in
     let is = c.in-Some.ensures in
-    is_place s c.args.scribes.now c.args.at c.loop-scribe.scribe scribe c.in-Some.part c.loop-scribe-test.true
-    (subst (λ (x : Scribe). HasText s x.text c.in-Some.part) c.index-scribes-scribe.is is.text) is.from is.some
+    is_place s c.args.scribes.now c.args.at c.loop-formatter.formatter formatter c.in-Some.part c.loop-formatter-test.true
+    (subst (λ (x : TextFormatter). HasText s x.text c.in-Some.part) c.index-scribes-formatter.is is.text) is.from is.some

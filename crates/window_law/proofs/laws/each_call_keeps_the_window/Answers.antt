@@ -1,7 +1,7 @@
 use Rattle.std.proofs.Common.{◌≡◌, refl, set, subst, Option, Some, None}
 use Rattle.std.specs.Option.{option_map}
 use Rattle.sim_time.specs.declared.key.Key.{Key}
-use Rattle.ranking.proofs.Maps.{not_some, same_some}
+use Rattle.tournament.proofs.Maps.{not_some, same_some}
 use Rattle.node_core.specs.declared.event.Event.{Event}
 use Rattle.table_run.specs.State.{due}
 use Rattle.window_law.specs.Groups.{GroupState, group_at, up_to, fire_on}

@@ -11,7 +11,7 @@ use Rattle.debugger.proofs.moves.Debugger.append_lines.Goals as goal
 pub append_stretch-requires-clause-on_run : goal.append_stretch-requires-clause-on_run
 append_stretch-requires-clause-on_run c =
     ⊎_elim
-    (λ (e : c.nearer-near.result.now ≡ c.self.inside.net). subst (Passes c.self.inside.saved) (sym e) c.self.invariant.moves.shown)
+    (λ (e : c.nearer-near.result.now ≡ c.self.inside.net). subst (Passes c.self.inside.checkpoints) (sym e) c.self.invariant.moves.shown)
     (λ (e : c.self.inside.left ≡ Some c.nearer-near.result.now). c.self.invariant.moves.left c.nearer-near.result.now e)
     c.nearer-near.ensures
 
@@ -23,7 +23,7 @@ invariant_of-self c =
     let same = c.append_stretch.ensures.same in
     record {
       moves = subst (λ (s : State). IsDebugger (record { start = s; shown = c.self.inside.net; left = c.self.inside.left; breaks = c.self.inside.breaks })) (sym same) c.self.invariant.moves;
-      nodes = subst (λ (s : State). length c.self.inside.crew.partition ≡ length s.parts) (sym same) c.self.invariant.nodes;
+      nodes = subst (λ (s : State). length c.self.inside.window_settings.partition ≡ length s.parts) (sym same) c.self.invariant.nodes;
     }
 
 pub returns-clause-ok : goal.returns-clause-ok

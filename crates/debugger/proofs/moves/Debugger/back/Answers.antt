@@ -15,14 +15,14 @@ net_at-found-requires-clause-on_run c = c.self.invariant.moves.shown
 pub net_at-found-requires-clause-position : goal.net_at-found-requires-clause-position
 net_at-found-requires-clause-position c =
     let upto : c.saturating_sub-target.result ≤ c.self.inside.net.position = omega (arith, c.saturating_sub-target.ensures, c.position.ensures.count) in
-    has_earlier c.self.inside.saved c.self.inside.net c.saturating_sub-target.result c.self.invariant.moves.shown upto
+    has_earlier c.self.inside.checkpoints c.self.inside.net c.saturating_sub-target.result c.self.invariant.moves.shown upto
 
 pub invariant_of-self : goal.invariant_of-self
 invariant_of-self c =
     let same = c.net_at-found.ensures.same in
     record {
       moves = subst (λ (s : State). IsDebugger (record { start = s; shown = c.self.inside.net; left = c.self.inside.left; breaks = c.self.inside.breaks })) (sym same) c.self.invariant.moves;
-      nodes = subst (λ (s : State). length c.self.inside.crew.partition ≡ length s.parts) (sym same) c.self.invariant.nodes;
+      nodes = subst (λ (s : State). length c.self.inside.window_settings.partition ≡ length s.parts) (sym same) c.self.invariant.nodes;
     }
 
 pub show-requires : goal.show-requires
@@ -31,7 +31,7 @@ show-requires c = subst (λ (s : State). IfOk c.net_at-found.result (Passes s)) 
 pub returns-clause-moved : goal.returns-clause-moved
 returns-clause-moved c =
     let same = c.net_at-found.ensures.same in
-    let kept : ◌≡◌ {A = Debugging} (record { start = c.net_at-found.new.saved; shown = c.self.inside.net; left = c.self.inside.left; breaks = c.self.inside.breaks }) c.args.self.now = (λ i. record { start = same i; shown = c.self.inside.net; left = c.self.inside.left; breaks = c.self.inside.breaks }) ∙ c.self.view_is in
+    let kept : ◌≡◌ {A = Debugging} (record { start = c.net_at-found.new.checkpoints; shown = c.self.inside.net; left = c.self.inside.left; breaks = c.self.inside.breaks }) c.args.self.now = (λ i. record { start = same i; shown = c.self.inside.net; left = c.self.inside.left; breaks = c.self.inside.breaks }) ∙ c.self.view_is in
     subst (λ (d : Debugging). IfOk c.show.result (HasMoved d c.show.new.self)) kept c.show.ensures.moved
 
 pub returns-clause-goes : goal.returns-clause-goes
@@ -42,7 +42,7 @@ returns-clause-goes c =
 
 pub returns-clause-full : goal.returns-clause-full
 returns-clause-full c =
-    let here = err_shown (λ (fault : MoveFault). fault ≡ CountFull → IsTooLong c.self.inside.saved) c.net_at-found.result c.show.result c.show.ensures.answer c.net_at-found.ensures.full in
+    let here = err_shown (λ (fault : MoveFault). fault ≡ CountFull → IsTooLong c.self.inside.checkpoints) c.net_at-found.result c.show.result c.show.ensures.answer c.net_at-found.ensures.full in
     subst (λ (d : Debugging). IfErr c.show.result (λ (fault : MoveFault). fault ≡ CountFull → IsTooLong d.start)) c.self.view_is here
 
 pub returns-clause-no_worker : goal.returns-clause-no_worker
@@ -51,5 +51,5 @@ returns-clause-no_worker c = err_shown (λ (fault : MoveFault). fault ≢ NoWork
 pub returns-clause-err : goal.returns-clause-err
 returns-clause-err c =
     let same = c.net_at-found.ensures.same in
-    let kept : ◌≡◌ {A = Debugging} (record { start = c.net_at-found.new.saved; shown = c.self.inside.net; left = c.self.inside.left; breaks = c.self.inside.breaks }) c.args.self.now = (λ i. record { start = same i; shown = c.self.inside.net; left = c.self.inside.left; breaks = c.self.inside.breaks }) ∙ c.self.view_is in
+    let kept : ◌≡◌ {A = Debugging} (record { start = c.net_at-found.new.checkpoints; shown = c.self.inside.net; left = c.self.inside.left; breaks = c.self.inside.breaks }) c.args.self.now = (λ i. record { start = same i; shown = c.self.inside.net; left = c.self.inside.left; breaks = c.self.inside.breaks }) ∙ c.self.view_is in
     subst (λ (d : Debugging). OnErr c.show.result (c.show.new.self ≡ d)) kept c.show.ensures.err

@@ -16,7 +16,7 @@ invariant_of-self c =
     let same = c.net_at_stop-found.ensures.same in
     record {
       moves = subst (λ (s : State). IsDebugger (record { start = s; shown = c.self.inside.net; left = c.self.inside.left; breaks = c.self.inside.breaks })) (sym same) c.self.invariant.moves;
-      nodes = subst (λ (s : State). length c.self.inside.crew.partition ≡ length s.parts) (sym same) c.self.invariant.nodes;
+      nodes = subst (λ (s : State). length c.self.inside.window_settings.partition ≡ length s.parts) (sym same) c.self.invariant.nodes;
     }
 
 pub show-requires : goal.show-requires
@@ -25,21 +25,21 @@ show-requires c = subst (λ (s : State). IfOk c.net_at_stop-found.result (Passes
 pub returns-clause-moved : goal.returns-clause-moved
 returns-clause-moved c =
     let same = c.net_at_stop-found.ensures.same in
-    let kept : ◌≡◌ {A = Debugging} (record { start = c.net_at_stop-found.new.saved; shown = c.self.inside.net; left = c.self.inside.left; breaks = c.self.inside.breaks }) c.args.self.now = (λ i. record { start = same i; shown = c.self.inside.net; left = c.self.inside.left; breaks = c.self.inside.breaks }) ∙ c.self.view_is in
+    let kept : ◌≡◌ {A = Debugging} (record { start = c.net_at_stop-found.new.checkpoints; shown = c.self.inside.net; left = c.self.inside.left; breaks = c.self.inside.breaks }) c.args.self.now = (λ i. record { start = same i; shown = c.self.inside.net; left = c.self.inside.left; breaks = c.self.inside.breaks }) ∙ c.self.view_is in
     subst (λ (d : Debugging). IfOk c.show.result (HasMoved d c.show.new.self)) kept c.show.ensures.moved
 
 pub returns-clause-goes : goal.returns-clause-goes
 returns-clause-goes c =
-    let here = ok_shown (RunGoesTo c.self.inside.saved c.self.inside.breaks c.self.inside.net.position) c.net_at_stop-found.result c.show.result c.show.ensures.answer c.net_at_stop-found.ensures.goes in
+    let here = ok_shown (RunGoesTo c.self.inside.checkpoints c.self.inside.breaks c.self.inside.net.position) c.net_at_stop-found.result c.show.result c.show.ensures.answer c.net_at_stop-found.ensures.goes in
     subst (λ (d : Debugging). IfOk c.show.result (RunGoesTo d.start d.breaks d.shown.position)) c.self.view_is here
 
 pub returns-clause-full : goal.returns-clause-full
 returns-clause-full c =
-    let here = err_shown (λ (fault : MoveFault). fault ≡ CountFull → IsTooLong c.self.inside.saved) c.net_at_stop-found.result c.show.result c.show.ensures.answer c.net_at_stop-found.ensures.full in
+    let here = err_shown (λ (fault : MoveFault). fault ≡ CountFull → IsTooLong c.self.inside.checkpoints) c.net_at_stop-found.result c.show.result c.show.ensures.answer c.net_at_stop-found.ensures.full in
     subst (λ (d : Debugging). IfErr c.show.result (λ (fault : MoveFault). fault ≡ CountFull → IsTooLong d.start)) c.self.view_is here
 
 pub returns-clause-err : goal.returns-clause-err
 returns-clause-err c =
     let same = c.net_at_stop-found.ensures.same in
-    let kept : ◌≡◌ {A = Debugging} (record { start = c.net_at_stop-found.new.saved; shown = c.self.inside.net; left = c.self.inside.left; breaks = c.self.inside.breaks }) c.args.self.now = (λ i. record { start = same i; shown = c.self.inside.net; left = c.self.inside.left; breaks = c.self.inside.breaks }) ∙ c.self.view_is in
+    let kept : ◌≡◌ {A = Debugging} (record { start = c.net_at_stop-found.new.checkpoints; shown = c.self.inside.net; left = c.self.inside.left; breaks = c.self.inside.breaks }) c.args.self.now = (λ i. record { start = same i; shown = c.self.inside.net; left = c.self.inside.left; breaks = c.self.inside.breaks }) ∙ c.self.view_is in
     subst (λ (d : Debugging). OnErr c.show.result (c.show.new.self ≡ d)) kept c.show.ensures.err

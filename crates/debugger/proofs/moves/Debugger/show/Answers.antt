@@ -1,6 +1,6 @@
 use Rattle.std.proofs.Common.{sym, ap, subst, refl, ◌∙◌, Some}
 use Rattle.std.proofs.lemmas.Result.{IfOk-at_ok}
-use Rattle.ranking.proofs.Maps.{same_some}
+use Rattle.tournament.proofs.Maps.{same_some}
 use Rattle.table_run.specs.State.{State}
 use Rattle.net_machine.specs.Run.{Reached}
 use Rattle.debugger.specs.Moves.{Passes}
@@ -11,9 +11,9 @@ use Rattle.debugger.proofs.moves.Debugger.show.Goals as goal
 pub invariant_of-self : goal.invariant_of-self
 invariant_of-self c =
     let come : Passes c.args.self.now.start c.in-Ok.net = IfOk-at_ok (Passes c.args.self.now.start) c.in-Ok.is c.requires in
-    let here : Passes c.self.inside.saved c.replace.new.dest = subst (Passes c.self.inside.saved) (sym c.replace.ensures.after) (subst (λ (s : State). Passes s c.in-Ok.net) (sym (ap (λ (d : Debugging). d.start) c.self.view_is)) come) in
+    let here : Passes c.self.inside.checkpoints c.replace.new.dest = subst (Passes c.self.inside.checkpoints) (sym c.replace.ensures.after) (subst (λ (s : State). Passes s c.in-Ok.net) (sym (ap (λ (d : Debugging). d.start) c.self.view_is)) come) in
     record {
-      moves = record { shown = here; left = λ was e. subst (Passes c.self.inside.saved) (sym c.replace.ensures.value ∙ same_some c.replace.result was e) c.self.invariant.moves.shown };
+      moves = record { shown = here; left = λ was e. subst (Passes c.self.inside.checkpoints) (sym c.replace.ensures.value ∙ same_some c.replace.result was e) c.self.invariant.moves.shown };
       nodes = c.self.invariant.nodes;
     }
 
@@ -23,7 +23,7 @@ same-self c = refl
 pub returns-in-Ok-clause-moved : goal.returns-in-Ok-clause-moved
 returns-in-Ok-clause-moved c =
     let come : Passes c.args.self.now.start c.in-Ok.net = IfOk-at_ok (Passes c.args.self.now.start) c.in-Ok.is c.requires in
-    let here : Passes c.self.inside.saved c.replace.new.dest = subst (Passes c.self.inside.saved) (sym c.replace.ensures.after) (subst (λ (s : State). Passes s c.in-Ok.net) (sym (ap (λ (d : Debugging). d.start) c.self.view_is)) come) in
+    let here : Passes c.self.inside.checkpoints c.replace.new.dest = subst (Passes c.self.inside.checkpoints) (sym c.replace.ensures.after) (subst (λ (s : State). Passes s c.in-Ok.net) (sym (ap (λ (d : Debugging). d.start) c.self.view_is)) come) in
     let start = ap (λ (d : Debugging). d.start) c.self.view_is in
     let shown = c.replace.ensures.value ∙ ap (λ (d : Debugging). d.shown) c.self.view_is in
     let breaks = ap (λ (d : Debugging). d.breaks) c.self.view_is in

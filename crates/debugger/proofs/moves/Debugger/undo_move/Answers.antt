@@ -1,5 +1,5 @@
 use Rattle.std.proofs.Common.{◌≡◌, sym, ap, refl, ◌∙◌}
-use Rattle.ranking.proofs.Maps.{not_some, same_some}
+use Rattle.tournament.proofs.Maps.{not_some, same_some}
 use Rattle.debugger.specs.Debugging.{Debugging}
 use Rattle.debugger.proofs.moves.Debugger.undo_move.Goals as goal
 
@@ -30,7 +30,7 @@ pub returns-in-None-clause-none : goal.returns-in-None-clause-none
 returns-in-None-clause-none c =
     λ _.
     let left = c.take.ensures.after ∙ c.in-None.ensures.value in
-    let kept : ◌≡◌ {A = Debugging} (record { start = c.self.inside.saved; shown = c.self.inside.net; left = c.take.new.self; breaks = c.self.inside.breaks }) (record { start = c.self.inside.saved; shown = c.self.inside.net; left = c.self.inside.left; breaks = c.self.inside.breaks }) = (λ i. record { start = c.self.inside.saved; shown = c.self.inside.net; left = left i; breaks = c.self.inside.breaks }) in
+    let kept : ◌≡◌ {A = Debugging} (record { start = c.self.inside.checkpoints; shown = c.self.inside.net; left = c.take.new.self; breaks = c.self.inside.breaks }) (record { start = c.self.inside.checkpoints; shown = c.self.inside.net; left = c.self.inside.left; breaks = c.self.inside.breaks }) = (λ i. record { start = c.self.inside.checkpoints; shown = c.self.inside.net; left = left i; breaks = c.self.inside.breaks }) in
     (refl, kept ∙ c.self.view_is)
 
 pub returns-in-None-clause-undone : goal.returns-in-None-clause-undone

@@ -16,14 +16,14 @@ pub find-found-requires-clause-on_run : goal.find-found-requires-clause-on_run
 find-found-requires-clause-on_run g c = c.self.invariant.moves.shown
 
 pub find-found-requires-clause-nodes : goal.find-found-requires-clause-nodes
-find-found-requires-clause-nodes g c = c.self.invariant.nodes ∙ sym (same_nodes c.self.inside.saved c.self.inside.net c.self.invariant.moves.shown)
+find-found-requires-clause-nodes g c = c.self.invariant.nodes ∙ sym (same_nodes c.self.inside.checkpoints c.self.inside.net c.self.invariant.moves.shown)
 
 pub invariant_of-self : goal.invariant_of-self
 invariant_of-self g c =
     let same = c.find-found.ensures.same in
     record {
       moves = subst (λ (s : State). IsDebugger (record { start = s; shown = c.self.inside.net; left = c.self.inside.left; breaks = c.self.inside.breaks })) (sym same) c.self.invariant.moves;
-      nodes = subst (λ (s : State). length c.self.inside.crew.partition ≡ length s.parts) (sym same) c.self.invariant.nodes;
+      nodes = subst (λ (s : State). length c.self.inside.window_settings.partition ≡ length s.parts) (sym same) c.self.invariant.nodes;
     }
 
 pub show-requires : goal.show-requires
@@ -32,21 +32,21 @@ show-requires g c = subst (λ (s : State). IfOk c.find-found.result (Passes s)) 
 pub returns-clause-moved : goal.returns-clause-moved
 returns-clause-moved g c =
     let same = c.find-found.ensures.same in
-    let kept : ◌≡◌ {A = Debugging} (record { start = c.find-found.new.saved; shown = c.self.inside.net; left = c.self.inside.left; breaks = c.self.inside.breaks }) c.args.self.now = (λ i. record { start = same i; shown = c.self.inside.net; left = c.self.inside.left; breaks = c.self.inside.breaks }) ∙ c.self.view_is in
+    let kept : ◌≡◌ {A = Debugging} (record { start = c.find-found.new.checkpoints; shown = c.self.inside.net; left = c.self.inside.left; breaks = c.self.inside.breaks }) c.args.self.now = (λ i. record { start = same i; shown = c.self.inside.net; left = c.self.inside.left; breaks = c.self.inside.breaks }) ∙ c.self.view_is in
     subst (λ (d : Debugging). IfOk c.show.result (HasMoved d c.show.new.self)) kept c.show.ensures.moved
 
 pub returns-clause-goes : goal.returns-clause-goes
 returns-clause-goes g c =
-    let here = ok_shown (UntilGoesTo c.self.inside.saved c.args.time c.self.inside.net.position) c.find-found.result c.show.result c.show.ensures.answer c.find-found.ensures.goes in
+    let here = ok_shown (UntilGoesTo c.self.inside.checkpoints c.args.time c.self.inside.net.position) c.find-found.result c.show.result c.show.ensures.answer c.find-found.ensures.goes in
     subst (λ (d : Debugging). IfOk c.show.result (UntilGoesTo d.start c.args.time d.shown.position)) c.self.view_is here
 
 pub returns-clause-full : goal.returns-clause-full
 returns-clause-full g c =
-    let here = err_shown (λ (fault : MoveFault). fault ≡ CountFull → IsTooLong c.self.inside.saved) c.find-found.result c.show.result c.show.ensures.answer c.find-found.ensures.full in
+    let here = err_shown (λ (fault : MoveFault). fault ≡ CountFull → IsTooLong c.self.inside.checkpoints) c.find-found.result c.show.result c.show.ensures.answer c.find-found.ensures.full in
     subst (λ (d : Debugging). IfErr c.show.result (λ (fault : MoveFault). fault ≡ CountFull → IsTooLong d.start)) c.self.view_is here
 
 pub returns-clause-err : goal.returns-clause-err
 returns-clause-err g c =
     let same = c.find-found.ensures.same in
-    let kept : ◌≡◌ {A = Debugging} (record { start = c.find-found.new.saved; shown = c.self.inside.net; left = c.self.inside.left; breaks = c.self.inside.breaks }) c.args.self.now = (λ i. record { start = same i; shown = c.self.inside.net; left = c.self.inside.left; breaks = c.self.inside.breaks }) ∙ c.self.view_is in
+    let kept : ◌≡◌ {A = Debugging} (record { start = c.find-found.new.checkpoints; shown = c.self.inside.net; left = c.self.inside.left; breaks = c.self.inside.breaks }) c.args.self.now = (λ i. record { start = same i; shown = c.self.inside.net; left = c.self.inside.left; breaks = c.self.inside.breaks }) ∙ c.self.view_is in
     subst (λ (d : Debugging). OnErr c.show.result (c.show.new.self ≡ d)) kept c.show.ensures.err

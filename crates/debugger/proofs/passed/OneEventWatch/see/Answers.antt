@@ -14,11 +14,11 @@ returns-clause-has c began from runs was = (
       let old = c.args._before.now.value in
       let new = c.args.after.now in
       let line = shown c.args.line.now in
-      let told = c.event_told-self.result in
+      let reported = c.event_reported-self.result in
       let next = c.requires.stepped in
       let here = (was.1 start at none).0 in
-      let first = subst (λ (breaks : List Break). IfOk told (λ (event : LastEvent). IsFirstHit breaks old.state line new.state event.hit)) was.0 (c.event_told-self.ensures.first old c.requires.fits next) in
-      (omega (arith, here, next.1), last_event start began.breaks.now old new line new.position told (passes_on start from old at runs) next refl c.event_told-self.ensures.time first),
+      let first = subst (λ (breaks : List Break). IfOk reported (λ (event : LastEvent). IsFirstHit breaks old.state line new.state event.hit)) was.0 (c.event_reported-self.ensures.first old c.requires.fits next) in
+      (omega (arith, here, next.1), last_event start began.breaks.now old new line new.position reported (passes_on start from old at runs) next refl c.event_reported-self.ensures.time first),
 )
 
 pub returns-clause-fits : goal.returns-clause-fits

@@ -1,9 +1,9 @@
 use Rattle.std.proofs.Common.{◌≡◌, ◌++◌, ◌∙◌, take, drop, length, refl, ap, subst, arith}
 use Rattle.node_core.specs.TraceLine.{shown}
 use Rattle.trace_text.specs.Line.{line_bytes}
-use Rattle.debugger.specs.declared.passed.Order.{Order}
+use Rattle.debugger.specs.declared.passed.LineOrder.{LineOrder}
 use Rattle.debugger.specs.Passed.{beside}
-use Rattle.debugger.proofs.Between.{told_more, told_begins, still_within}
+use Rattle.debugger.proofs.Between.{reported_more, reported_begins, still_within}
 use Rattle.debugger.proofs.Watched.{passes_on}
 use Rattle.debugger.proofs.passed.TextsWatch.see.Goals as goal
 
@@ -12,14 +12,14 @@ returns-in-Ok-clause-has c began from runs was = (
   was.0,
   was.1,
   was.2,
-  λ start m before low at whole told.
+  λ start m before low at whole reported.
       let old = c.args._before.now.value in
       let new = c.args.after.now in
       let self = c.args.self.now in
-      let so = was.3 start m before low at whole told in
+      let so = was.3 start m before low at whole reported in
       let text = line_bytes c.position.result (shown c.args.line.now) in
-      let made = subst (λ (order : Order). c.put_line.new.out.items ≡ take self.start self.out.now.items ++ beside order (drop self.start self.out.now.items) text) was.2 c.in-Ok.ensures.ok in (
-        told_more start began.order m c.position.result self.start old new (shown c.args.line.now) before self.out.now.items c.put_line.new.out.items (let far = runs.position in omega (arith, low, far)) (passes_on start from old at runs) c.requires.stepped
+      let made = subst (λ (order : LineOrder). c.put_line.new.out.items ≡ take self.start self.out.now.items ++ beside order (drop self.start self.out.now.items) text) was.2 c.in-Ok.ensures.ok in (
+        reported_more start began.order m c.position.result self.start old new (shown c.args.line.now) before self.out.now.items c.put_line.new.out.items (let far = runs.position in omega (arith, low, far)) (passes_on start from old at runs) c.requires.stepped
             c.position.ensures.count (was.1 ∙ whole) so.0 made,
         so.1,
       ),
@@ -38,10 +38,10 @@ returns-in-Err-clause-has c began from runs was = (
   was.0,
   was.1,
   was.2,
-  λ start m before low at whole told.
+  λ start m before low at whole reported.
       let self = c.args.self.now in
-      let so = was.3 start m before low at whole told in
-      (ap (take (length before)) c.in-Err.ensures.err ∙ told_begins start began.order m c.args._before.now.value.position before self.out.now.items so.0, refl),
+      let so = was.3 start m before low at whole reported in
+      (ap (take (length before)) c.in-Err.ensures.err ∙ reported_begins start began.order m c.args._before.now.value.position before self.out.now.items so.0, refl),
 )
 
 pub returns-in-Err-clause-fits : goal.returns-in-Err-clause-fits

@@ -6,7 +6,7 @@ use Rattle.figures.specs.Moments.{cause_of}
 use Rattle.figures.proofs.Steps.{is_step, size_stays}
 use Rattle.figures.proofs.AllLinks.{links_counted, sizes_are}
 use Rattle.figures.proofs.One.{one_link}
-use Rattle.figures.proofs.After.{quiet, quiet_sender, acted_from, one_acted, told, within_parts, none_where_free}
+use Rattle.figures.proofs.After.{quiet, quiet_sender, acted_from, one_acted, reported, within_parts, none_where_free}
 use Rattle.figures.proofs.figures.Figures.after.Goals as goal
 
 pub turn-requires-clause-acted : goal.turn-requires-clause-acted
@@ -15,7 +15,7 @@ turn-requires-clause-acted c =
     let line = shown c.args.line.now in
     let t : State = c.args.net.now.state in
     let cause : cause_of line.event ≡ Some c.in-Some.cause = sym c.cause_of.ensures ∙ c.in-Some.is in
-    let here = told c.nodes-nodes.result.now t c.from-place.result line.key.node (Some c.in-Some-sender_at.sender.now) c.nodes-nodes.ensures.parts c.from-place.ensures c.in-Some-sender_at.ensures in
+    let here = reported c.nodes-nodes.result.now t c.from-place.result line.key.node (Some c.in-Some-sender_at.sender.now) c.nodes-nodes.ensures.parts c.from-place.ensures c.in-Some-sender_at.ensures in
     let inside : line.key.node < length t.parts = within_parts t line.key.node c.in-Some-sender_at.sender.now here in
     let old : IsOfNode R.base R.so_far R.before line.key.node c.index_mut-counted.result.now =
     subst (IsOfNode R.base R.so_far R.before line.key.node) (sym (c.index_mut-counted.ensures.value ∙ ap (λ i. get_or c.args.self.now.senders.items i c.index_mut-counted.result.now) c.from-place.ensures))
@@ -27,7 +27,7 @@ returns-in-Some-sender_at-clause-senders c = λ b ms s is next.
     let line = shown c.args.line.now in
     let t : State = c.args.net.now.state in
     let cause : cause_of line.event ≡ Some c.in-Some.cause = sym c.cause_of.ensures ∙ c.in-Some.is in
-    let here = told c.nodes-nodes.result.now t c.from-place.result line.key.node (Some c.in-Some-sender_at.sender.now) c.nodes-nodes.ensures.parts c.from-place.ensures c.in-Some-sender_at.ensures in
+    let here = reported c.nodes-nodes.result.now t c.from-place.result line.key.node (Some c.in-Some-sender_at.sender.now) c.nodes-nodes.ensures.parts c.from-place.ensures c.in-Some-sender_at.ensures in
     let inside : line.key.node < length t.parts = within_parts t line.key.node c.in-Some-sender_at.sender.now here in
     one_acted b ms s line t next c.in-Some.cause c.in-Some-sender_at.sender.now cause here c.args.self.now _ c.index_mut-counted.result.now c.turn.new.self
     (omega (arith, inside, is.size, size_stays s line t (is_step s line t next)))
@@ -38,7 +38,7 @@ pub returns-in_default-sender_at-clause-senders : goal.returns-in_default-sender
 returns-in_default-sender_at-clause-senders c = λ b ms s is next.
     quiet b ms s (shown c.args.line.now) c.args.net.now.state next c.args.self.now _ refl
     (quiet_sender b ms s (shown c.args.line.now) c.args.net.now.state next
-    (inr (told c.nodes-nodes.result.now c.args.net.now.state c.from-place.result c.args.line.now.key.node None c.nodes-nodes.ensures.parts c.from-place.ensures c.in_default-sender_at.ensures))) is
+    (inr (reported c.nodes-nodes.result.now c.args.net.now.state c.from-place.result c.args.line.now.key.node None c.nodes-nodes.ensures.parts c.from-place.ensures c.in_default-sender_at.ensures))) is
 
 pub returns-in_default-clause-senders : goal.returns-in_default-clause-senders
 returns-in_default-clause-senders c = λ b ms s is next.

@@ -3,7 +3,7 @@ use Rattle.line_merge.proofs.Ahead.{length_ranks, some_ranked}
 use Rattle.line_merge.proofs.merge.ahead.list_of_least_key.Goals as goal
 
 pub leader-requires : goal.leader-requires
-leader-requires c = some_ranked c.args.lists.now c.args.nexts.now c.rank_nexts.new.ranking c.rank_nexts.ensures.ranked c.requires.some
+leader-requires c = some_ranked c.args.lists.now c.args.nexts.now c.rank_nexts.new.tournament c.rank_nexts.ensures.ranked c.requires.some
 
-pub returns-clause-ranking : goal.returns-clause-ranking
-returns-clause-ranking c = ap length c.rank_nexts.ensures.ranked ∙ length_ranks c.args.lists.now c.args.nexts.now
+pub returns-clause-tournament : goal.returns-clause-tournament
+returns-clause-tournament c = ap length c.rank_nexts.ensures.ranked ∙ length_ranks c.args.lists.now c.args.nexts.now

@@ -5,7 +5,7 @@ use Rattle.std.proofs.Common.{refl}
 use Rattle.line_merge.proofs.merge.ahead.next_list.Goals as goal
 
 pub leader-requires : goal.leader-requires
-leader-requires c = some_ranked c.args.lists.now c.args.nexts.now c.args.ranking.now (c.requires.ahead.many c.if-lists-gt-FEW.true) c.requires.some
+leader-requires c = some_ranked c.args.lists.now c.args.nexts.now c.args.tournament.now (c.requires.ahead.many c.if-lists-gt-FEW.true) c.requires.some
 
 pub returns-clause-next : goal.returns-clause-next
 returns-clause-next c =

@@ -5,7 +5,7 @@ use Rattle.std.specs.Option.{option_map}
 use Rattle.sim_time.specs.declared.key.Key.{Key}
 use Rattle.node_core.specs.TraceLine.{TraceLine}
 use Rattle.window_law.specs.Windows.{in_order}
-use Rattle.line_merge.specs.Ahead.{moment_in}
+use Rattle.line_merge.specs.Ahead.{next_moment_in}
 use Rattle.line_merge.specs.Merged.{all_of, first_key, line_in, lines_of, rests}
 use Rattle.line_merge.proofs.Ahead.{dated_anew, taken_ahead}
 use Rattle.line_merge.proofs.merge.ahead.pass.Goals as goal
@@ -91,11 +91,11 @@ returns-then-lists-gt-FEW-clause-ahead c =
     record {
       size = length-set nexts list next ∙ c.requires.ahead.size;
       dates = c.requires.ahead.dates;
-      places = ap length c.set.ensures ∙ length-set c.args.ranking.now list c.key.result ∙ c.requires.ahead.places;
+      places = ap length c.set.ensures ∙ length-set c.args.tournament.now list c.key.result ∙ c.requires.ahead.places;
       few = λ few i under. absurd (let many = c.if-lists-gt-FEW.true in omega (arith, few, many));
       many = λ many.
           c.set.ensures
-          ∙ ap (set c.args.ranking.now list) (c.key.ensures ∙ ap (λ (lines : List TraceLine). option_map (λ (line : TraceLine). line.key) (slice_get lines next)) read)
+          ∙ ap (set c.args.tournament.now list) (c.key.ensures ∙ ap (λ (lines : List TraceLine). option_map (λ (line : TraceLine). line.key) (slice_get lines next)) read)
           ∙ ap (λ (ranks : List (Option Key)). set ranks list (option_map (λ (line : TraceLine). line.key) (slice_get (lines_of lists list) next))) (c.requires.ahead.many many)
           ∙ ap (λ (n : ℕ). set (map first_key (rests lists nexts)) list (option_map (λ (line : TraceLine). line.key) (slice_get (lines_of lists list) n))) c.after-next.ensures
           ∙ taken.ranked
@@ -125,6 +125,6 @@ returns-else-lists-gt-FEW-clause-ahead c =
       dates = length-set c.args.moments.now list c.moment_at.result ∙ c.requires.ahead.dates;
       places = c.requires.ahead.places;
       few = λ few. dated_anew lists nexts c.args.moments.now list next c.moment_at.result c.requires.ahead.dates taken (c.requires.ahead.few few) c.after-next.ensures
-          (c.moment_at.ensures ∙ ap (λ (lines : List TraceLine). moment_in list (option_map (λ (line : TraceLine). line.key) (slice_get lines next))) read);
+          (c.moment_at.ensures ∙ ap (λ (lines : List TraceLine). next_moment_in list (option_map (λ (line : TraceLine). line.key) (slice_get lines next))) read);
       many = λ many. absurd (let few = c.if-lists-gt-FEW.false in omega (arith, few, many));
     }

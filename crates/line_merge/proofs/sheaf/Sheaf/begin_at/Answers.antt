@@ -26,7 +26,7 @@ returns-clause-at c =
     let dates = c.look_ahead.new.moments in
     let dated = with_items c.cursor.inside.moments dates in
     let dated_is : dated.items ≡ dates = with_items_is c.cursor.inside.moments dates (c.look_ahead.auto.moments ∙ ap length c.deref_mut-2.ensures.value ∙ sym c.cursor.inside.moments.ok.0) in
-    let cursor : CursorValue = record { at = c.cut-cursor-inside.result; nexts = kept.items; moments = dated.items; ranks = c.look_ahead.new.ranking } in
+    let cursor : CursorValue = record { at = c.cut-cursor-inside.result; nexts = kept.items; moments = dated.items; ranks = c.look_ahead.new.tournament } in
     let apart : AreApart s.lists = subst AreApart lists c.self.invariant.apart in
     let here : c.deref.result.now ≡ s.lists = c.deref.ensures.value ∙ lists in
     let cuts : AreCuts c.args.moment s.lists kept.items = subst (λ ls. AreCuts c.args.moment ls kept.items) here (subst (AreCuts c.args.moment c.deref.result.now) (sym kept_is) c.cut-cursor-inside.ensures.cuts) in
@@ -49,7 +49,7 @@ returns-clause-cut c =
     let dates = c.look_ahead.new.moments in
     let dated = with_items c.cursor.inside.moments dates in
     let dated_is : dated.items ≡ dates = with_items_is c.cursor.inside.moments dates (c.look_ahead.auto.moments ∙ ap length c.deref_mut-2.ensures.value ∙ sym c.cursor.inside.moments.ok.0) in
-    let cursor : CursorValue = record { at = c.cut-cursor-inside.result; nexts = kept.items; moments = dated.items; ranks = c.look_ahead.new.ranking } in
+    let cursor : CursorValue = record { at = c.cut-cursor-inside.result; nexts = kept.items; moments = dated.items; ranks = c.look_ahead.new.tournament } in
     let apart : AreApart s.lists = subst AreApart lists c.self.invariant.apart in
     let here : c.deref.result.now ≡ s.lists = c.deref.ensures.value ∙ lists in
     let cuts : AreCuts c.args.moment s.lists kept.items = subst (λ ls. AreCuts c.args.moment ls kept.items) here (subst (AreCuts c.args.moment c.deref.result.now) (sym kept_is) c.cut-cursor-inside.ensures.cuts) in

@@ -36,7 +36,7 @@ returns-clause-at c =
     let kept_is : kept.items ≡ made.nexts = with_items_is c.cursor.inside.nexts made.nexts (c.pass.auto.nexts ∙ ap length c.deref_mut.ensures.value ∙ sym c.cursor.inside.nexts.ok.0) in
     let dated = with_items c.cursor.inside.moments made.moments in
     let dated_is : dated.items ≡ made.moments = with_items_is c.cursor.inside.moments made.moments (c.pass.auto.moments ∙ ap length c.deref_mut-2.ensures.value ∙ sym c.cursor.inside.moments.ok.0) in
-    let now : CursorValue = record { at = c.cursor.inside.at + 1; nexts = kept.items; moments = dated.items; ranks = made.ranking } in
+    let now : CursorValue = record { at = c.cursor.inside.at + 1; nexts = kept.items; moments = dated.items; ranks = made.tournament } in
     let line = line_in (lines_of all c.args.list) (get_or c.deref_mut.result.now c.args.list 0) in
     let at : now.at ≡ was.at + 1 = ap (λ (x : CursorValue). x.at + 1) c.cursor.view_is in
     let next : IsAhead s.lists now.nexts now.moments now.ranks =

@@ -2,7 +2,7 @@ use Rattle.std.proofs.Common.{rules, ◌≡◌, ◌<◌, List, length, refl, sym
 use Rattle.std.proofs.lemmas.List.{get_or_read}
 use Rattle.std.specs.Option.{option_map}
 use Rattle.sim_time.specs.declared.key.Key.{Key}
-use Rattle.ranking.specs.Keyed.{next_key}
+use Rattle.tournament.specs.Keyed.{next_key}
 use Rattle.node_core.specs.declared.event.Event.{Event}
 use Rattle.node_core.specs.Node.{NodeState}
 use Rattle.table_run.specs.State.{due}

@@ -1,6 +1,6 @@
 use Rattle.std.proofs.Common.{◌≡◌, ◌<◌, List, length, set, sym, ap, subst, ◌∙◌}
 use Rattle.std.proofs.lemmas.List.{get_or_read}
-use Rattle.ranking.specs.Keyed.{next_key}
+use Rattle.tournament.specs.Keyed.{next_key}
 use Rattle.node_core.specs.Node.{NodeState}
 use Rattle.net_machine.specs.Nodes.{no_node, node_at}
 use Rattle.net_machine.proofs.AtNodes.{timed_set, timed_stays}

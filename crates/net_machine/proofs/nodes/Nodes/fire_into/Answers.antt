@@ -1,7 +1,7 @@
 use Rattle.std.proofs.Common.{◌≡◌, ◌<◌, List, length, set, sym, ap, subst, ◌∙◌, Some}
 use Rattle.std.proofs.lemmas.List.{get_or_read}
 use Rattle.sim_time.specs.declared.key.Key.{Key}
-use Rattle.ranking.specs.Keyed.{least}
+use Rattle.tournament.specs.Keyed.{least}
 use Rattle.node_core.specs.declared.event.Event.{Event}
 use Rattle.node_core.specs.Ready.{IsRunnable}
 use Rattle.node_core.specs.Node.{NodeState}

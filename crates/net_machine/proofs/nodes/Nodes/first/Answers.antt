@@ -1,6 +1,6 @@
 use Rattle.std.proofs.Common.{◌≡◌, ℕ, List, None, Option, subst, ◌∙◌, ap}
-use Rattle.ranking.specs.Timed.{time_at, IsSoonest}
-use Rattle.ranking.proofs.Timed.{led, none_led}
+use Rattle.tournament.specs.Timed.{time_at, IsSoonest}
+use Rattle.tournament.proofs.Timed.{led, none_led}
 use Rattle.net_machine.specs.Nodes.{next_keys, next_times}
 use Rattle.net_machine.proofs.nodes.Nodes.first.Goals as goal
 

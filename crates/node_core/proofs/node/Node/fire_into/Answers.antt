@@ -1,6 +1,6 @@
 use Rattle.std.proofs.Common.{◌≡◌, ◌≤◌, Some, arith, length, sym, subst}
 use Rattle.sim_time.specs.declared.key.Key.{Key}
-use Rattle.ranking.specs.Keyed.{least}
+use Rattle.tournament.specs.Keyed.{least}
 use Rattle.port.specs.ActList.{ActList}
 use Rattle.node_core.specs.declared.event.Event.{Event}
 use Rattle.node_core.specs.Node.{NodeState}
@@ -22,7 +22,7 @@ run-requires-clause-can c =
     let runnable = subst Due (sym c.self.view_is) c.requires.due key event is_least in
     record {
       in_step = c.self.invariant;
-      next = is_next c.self.inside.role c.self.inside.links.items c.self.inside.agenda c.args.out.now key event c.self.invariant c.tell_least.ensures.due runnable is_least
+      next = is_next c.self.inside.role c.self.inside.links.items c.self.inside.event_queue c.args.out.now key event c.self.invariant c.tell_least.ensures.due runnable is_least
           (subst (λ (s : NodeState). length s.part.links ≤ length c.args.out.now) (sym c.self.view_is) c.requires.chains) c.requires.room;
       runs = runnable.can;
     }

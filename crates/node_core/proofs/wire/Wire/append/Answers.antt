@@ -1,6 +1,6 @@
 use Rattle.std.proofs.Common.{◌+◌, ◌<◌, ◌≤◌, ◌^◌, List, length, sym, ap, subst, ◌∙◌, IsSome}
 use Rattle.std.specs.Prelude.{All}
-use Rattle.ranking.specs.Keyed.{next_key, apply, entering, EachKey}
+use Rattle.tournament.specs.Keyed.{next_key, apply, entering, EachKey}
 use Rattle.packet_chain.specs.Stamped.{Stamped}
 use Rattle.node_core.specs.WireState.{WireState, IsWire, arrivals, pending_on, came_over, stamps_of}
 use Rattle.node_core.proofs.Wires.{wire, Appended, appended, next_appended}

@@ -3,10 +3,10 @@ use Rattle.std.specs.List.{slice_get}
 use Rattle.std.specs.Option.{option_map}
 use Rattle.sim_time.specs.declared.key.Key.{Key}
 use Rattle.packet_chain.specs.Stamped.{Stamped}
-use Rattle.ranking.specs.Keyed.{least}
+use Rattle.tournament.specs.Keyed.{least}
 use Rattle.node_core.specs.declared.event.Event.{Event}
 use Rattle.node_core.specs.declared.event.Event.TheVariants.{Arrive}
-use Rattle.node_core.specs.Alarms.{arrival_key}
+use Rattle.node_core.specs.Timers.{arrival_key}
 use Rattle.node_core.specs.WireState.{WireState, IsWire, arrivals_on, pending_on}
 use Rattle.node_core.proofs.Wires.{wire, head_on, least_on}
 use Rattle.node_core.proofs.wire.Wire.head.Goals as goal

@@ -3,8 +3,8 @@ use Rattle.std.specs.List.{slice_get}
 use Rattle.std.specs.Option.{option_map}
 use Rattle.sim_time.specs.declared.key.Key.{Key}
 use Rattle.packet_chain.specs.Stamped.{Stamped}
-use Rattle.ranking.specs.Keyed.{next_key}
-use Rattle.ranking.specs.Timed.{time_of}
+use Rattle.tournament.specs.Keyed.{next_key}
+use Rattle.tournament.specs.Timed.{time_of}
 use Rattle.node_core.specs.declared.event.Event.{Event}
 use Rattle.node_core.specs.WireState.{WireState, IsWire, pending_on}
 use Rattle.node_core.proofs.Wires.{wire, front_least}

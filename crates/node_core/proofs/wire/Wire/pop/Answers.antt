@@ -3,7 +3,7 @@ use Rattle.std.specs.FinMap as map
 use Rattle.packet_chain.specs.Stamped.{Stamped}
 use Rattle.std.specs.List.{slice_get}
 use Rattle.std.specs.Option.{option_map}
-use Rattle.ranking.specs.Keyed.{least, next_key}
+use Rattle.tournament.specs.Keyed.{least, next_key}
 use Rattle.node_core.specs.WireState.{WireState, IsWire, pending_on}
 use Rattle.node_core.proofs.Wires.{wire, wire_popped, pending_popped, none_next, first_packet}
 use Rattle.node_core.proofs.wire.Wire.pop.Goals as goal

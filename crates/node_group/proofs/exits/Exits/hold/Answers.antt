@@ -1,7 +1,7 @@
 use Rattle.std.proofs.Common.{◌≡◌, ◌<◌, ◌++◌, List, length, set, refl, sym, ap, subst, ◌∙◌, arith}
 use Rattle.std.proofs.lemmas.List.{get_or_read}
 use Rattle.std.specs.Vec.{vec_capacity}
-use Rattle.ranking.specs.Keyed.{apply, entering}
+use Rattle.tournament.specs.Keyed.{apply, entering}
 use Rattle.node_core.specs.WireState.{WireState, arrivals, pending_on, came_over}
 use Rattle.node_group.specs.declared.exits.Exits.TheInside.{Inside}
 use Rattle.node_group.specs.Held.{no_wire, wire_at, held_on, is_idle, AreListed}

@@ -1,6 +1,6 @@
 use Rattle.std.proofs.Common.{◌<◌, ◌≤◌, ◌+◌, ◌^◌, ◌≡◌, All, length, refl, sym, subst}
-use Rattle.ranking.specs.Keyed.{EachKey}
-use Rattle.node_core.specs.AgendaState.{incoming_at}
+use Rattle.tournament.specs.Keyed.{EachKey}
+use Rattle.node_core.specs.EventQueueState.{incoming_at}
 use Rattle.node_core.specs.WireState.{stamps_of}
 use Rattle.node_core.specs.Node.{NodeState, delivered}
 use Rattle.net_machine.specs.Nodes.{node_at}

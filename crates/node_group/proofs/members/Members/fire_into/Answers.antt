@@ -3,7 +3,7 @@ use Rattle.std.specs.Prelude.{OnOk, OnErr}
 use Rattle.std.proofs.lemmas.Result.{IfOk-weaker, on_ok_weaker}
 use Rattle.std.specs.Option.{option_map}
 use Rattle.sim_time.specs.declared.key.Key.{Key}
-use Rattle.ranking.specs.Keyed.{least, next_key}
+use Rattle.tournament.specs.Keyed.{least, next_key}
 use Rattle.node_core.specs.declared.event.Event.{Event}
 use Rattle.node_core.specs.Row.{Leaving, row}
 use Rattle.node_core.specs.Ready.{IsRunnable}

@@ -1,5 +1,5 @@
 use Rattle.std.proofs.Common.{◌≡◌, ◌≢◌, ◌<◌, ◌+◌, ◌≤◌, ◌^◌, List, length, set, All, sym, ap, subst, ◌∙◌}
-use Rattle.ranking.specs.Keyed.{EachKey}
+use Rattle.tournament.specs.Keyed.{EachKey}
 use Rattle.node_core.specs.Node.{delivered}
 use Rattle.node_core.specs.WireState.{WireState, stamps_of}
 use Rattle.net_machine.specs.declared.places.LinkEnds.{LinkEnds}

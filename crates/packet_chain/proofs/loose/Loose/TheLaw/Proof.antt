@@ -5,8 +5,8 @@ use denote.Struct.Laws.{RawPtr-copy}
 use denote.Struct.Lending.{lent_at_shr_laws, of_Lends}
 use Rattle.std_heap.specs.contracts.Global as Heap
 use Rattle.std_heap.proofs.Global.TheLaws as heap
-use Rattle.packet_chain.specs.contracts.node.Node.{the_row as N}
-use Rattle.packet_chain.proofs.node.Node.TheLaws.{the_row_laws as L}
+use Rattle.packet_chain.specs.contracts.node.ChainNode.{the_row as N}
+use Rattle.packet_chain.proofs.node.ChainNode.TheLaws.{the_row_laws as L}
 use Rattle.packet_chain.specs.contracts.loose.Loose as C
 use Rattle.packet_chain.proofs.loose.Loose.TheLaw.Statement.{statement}
 use Rattle.packet_chain.proofs.Sharing.{Lends-link}

@@ -20,7 +20,7 @@ use Rattle.std_alloc.proofs.OfVacant.{vacant_val, vacant_typed, Vacant-made}
 use Rattle.std_alloc.specs.contracts.room.vacant.Vacant as V
 use Rattle.std_heap.specs.contracts.Global as Heap
 use Rattle.std_heap.specs.contracts.GlobalAllocator.TheImpl.{ghosts}
-use Rattle.packet_chain.specs.contracts.node.Node as N
+use Rattle.packet_chain.specs.contracts.node.ChainNode as N
 use Rattle.packet_chain.specs.declared.loose.Loose.{Loose}
 use Rattle.packet_chain.specs.contracts.loose.Loose.{the_row as L}
 use Rattle.packet_chain.specs.contracts.loose.Loose.empty as f

@@ -26,9 +26,9 @@ use Rattle.std_alloc.proofs.OfVacant.{Vacant, vacant_val, vacant_typed, Vacant-h
 use Rattle.std_alloc.specs.contracts.room.vacant.Vacant as V
 use Rattle.std_heap.specs.contracts.Global as Heap
 use Rattle.std_heap.specs.contracts.GlobalAllocator.TheImpl.{ghosts}
-use Rattle.packet_chain.specs.declared.node.Node.{Node}
-use Rattle.packet_chain.specs.contracts.node.Node as N
-use Rattle.packet_chain.proofs.node.Node.TheLaws as node
+use Rattle.packet_chain.specs.declared.node.ChainNode.{ChainNode}
+use Rattle.packet_chain.specs.contracts.node.ChainNode as N
+use Rattle.packet_chain.proofs.node.ChainNode.TheLaws as node
 use Rattle.packet_chain.specs.declared.loose.Loose.{Loose}
 use Rattle.packet_chain.specs.contracts.loose.Loose.fill as f
 use Rattle.packet_chain.proofs.loose.Loose.fill.Statement.{statement}
@@ -47,7 +47,7 @@ fill_spec 𝓤 𝓛 𝓜 𝓡 wired =
     proved_at 𝓛 f.ended stayed c 𝓜 𝓡 (Goes-dropped 𝓛 0 (plain (λ _. Room)) yes (λ κs x w. refl), (Goes-dropped 𝓛 0 (plain (λ _. N.the_row)) yes (λ κs x w. refl), tt))
     f.Key.name code.function (code.unfolded 𝓤 𝓛.H 𝓜 𝓡 wired) (λ z are.
     let Post : Val → SProp 𝓤 = (walk_of 𝓛 f.ended stayed c).post z in
-    let room : Room.Denot = z.0.3.0 in let n : Node = z.0.3.1.0 in
+    let room : Room.Denot = z.0.3.0 in let n : ChainNode = z.0.3.1.0 in
     qed 𝓛 ((‵ ftrue ⊛ ‵ (owns (types_at f.signature.params tt) z.0.3 z.0.4)) ∷ ‵ ftrue ∷ []) ∵ split ! $ drop ! $
     fsplit ! $ use1 𝓛 (‵ ((Vacant heap N.the_row).own_val room z.0.4.0)) (id⊢ 𝓤 _) $ Vacant-had heap N.the_row ! room z.0.4.0 (λ b o hv at rs fa. move ! (3 ∷ []) $
     fsplit ! $ facts ! N.the_row (Is N.the_row) (shows 𝓛 N.the_row) n z.0.4.1.0 (λ it.

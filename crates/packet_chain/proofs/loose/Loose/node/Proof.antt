@@ -20,7 +20,7 @@ use denote.Steps.{nothing}
 use denote.Triple.Walked.{Stays, stay_dropped, walk_of, Goes-dropped}
 use Rattle.std.proofs.raw_atomic.Walks.{proved_at, leaves}
 use Rattle.std_alloc.proofs.VecSteps.Shapes.{after}
-use Rattle.packet_chain.specs.declared.node.Node.{Node}
+use Rattle.packet_chain.specs.declared.node.ChainNode.{ChainNode}
 use Rattle.packet_chain.specs.declared.loose.Loose.{Loose}
 use Rattle.packet_chain.specs.contracts.loose.Loose.{the_row as L}
 use Rattle.packet_chain.specs.contracts.loose.Loose.node as f
@@ -40,7 +40,7 @@ node_spec 𝓤 𝓛 𝓜 𝓡 wired =
     let κ = z.0.0.0 in let q = z.0.1.0 in let self : Bor Loose = z.0.3.0 in let d = self.now in let b = self.ref_ptr.0 in let o = self.ref_ptr.1 in
     qed 𝓛 (((‵ (flft κ q) ⊛ ‵ ftrue) ⊛ ‵ (owns (types_at f.signature.params z.0.0) z.0.3 z.0.4)) ∷ ‵ ftrue ∷ []) ∵ split ! $ move ! (1 ∷ []) $
     fsplit ! $ fsplit ! $ feq_l ! (λ es. loose_shown ! d b o (λ nb no at.
-    let r : Val = vptr nb no in let made : Bor Node = record { ref_ptr = (nb, no); now = d.node } in
+    let r : Val = vptr nb no in let made : Bor ChainNode = record { ref_ptr = (nb, no); now = d.node } in
     -- [the pointer; the node; nothing; the token and nothing; nothing]
     move ! (3 ∷ []) $ split ! $ move ! (2 ∷ 0 ∷ []) $
     regoal ! (λ (us : List Val). prop (WpFn 𝓤 𝓛.H 𝓣.C 𝓣.Λ code.function us Post)) (λ j. es j ++ []) refl $

@@ -20,7 +20,7 @@ use denote.Steps.{nothing}
 use denote.Triple.Walked.{Stays, stay_dropped, walk_of, Goes-dropped}
 use Rattle.std.proofs.raw_atomic.Walks.{proved_at, leaves}
 use Rattle.std_alloc.proofs.VecSteps.Shapes.{after}
-use Rattle.packet_chain.specs.declared.node.Node.{Node}
+use Rattle.packet_chain.specs.declared.node.ChainNode.{ChainNode}
 use Rattle.packet_chain.specs.declared.loose.Loose.{Loose}
 use Rattle.packet_chain.specs.contracts.loose.Loose.{the_row as L}
 use Rattle.packet_chain.specs.contracts.loose.Loose.stamped as f
@@ -38,7 +38,7 @@ stamped_spec 𝓤 𝓛 𝓜 𝓡 wired =
     f.Key.name code.function (code.unfolded 𝓤 𝓛.H 𝓜 𝓡 wired) (λ z are.
     let Post : Val → SProp 𝓤 = (walk_of 𝓛 f.ended stayed c).post z in
     let d : Loose = z.0.3.0 in let t : ℕ = z.0.3.1.0 in let ts = are.1.0.0 in let small = are.1.0.1 in
-    let n : Node = record d.node { stamp = t } in
+    let n : ChainNode = record d.node { stamp = t } in
     qed 𝓛 ((‵ ftrue ⊛ ‵ (owns (types_at f.signature.params tt) z.0.3 z.0.4)) ∷ ‵ ftrue ∷ []) ∵ split ! $ drop ! $
     fsplit ! $ loose_had ! d z.0.4.0 (λ hv ds fa. link_out ! (d.at, d.node) (λ b o at fits.
     -- [the node's memory; its right; the handle; the stamp]

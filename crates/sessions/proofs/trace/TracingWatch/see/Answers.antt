@@ -10,8 +10,8 @@ returns-in-Err-clause-has g c began from runs was =
     let self = c.args.self.now in (
       was.0,
       was.1,
-      λ opening empty.
-          let so = was.2 opening empty in
+      λ initial empty.
+          let so = was.2 initial empty in
           record {
             made = λ _. made_so_far from.state c.args._before.now.value self.page.now c.put_line.new.self (contents began.writer.now) (contents self.writer.now) so.0 c.in-Err.ensures.err;
             failed_then = λ e. absurd (memory_not_failed e);
@@ -25,8 +25,8 @@ returns-in-Ok-put_full_page-clause-has g c began from runs was =
     let self = c.args.self.now in (
       was.0,
       was.1,
-      λ opening empty.
-          let so = was.2 opening empty in
+      λ initial empty.
+          let so = was.2 initial empty in
           let made = made_line from.state c.args._before.now.value c.args.after.now self.page.now c.put_line.new.self (shown c.args.line.now) c.position.result (contents began.writer.now) (contents self.writer.now)
           so.0 c.requires.stepped c.position.ensures.count c.in-Ok.ensures.ok in (
             made_moved from.state c.args.after.now c.put_line.new.self c.put_full_page.new.page (contents began.writer.now) (contents self.writer.now) (contents c.put_full_page.new.writer) made c.in-Ok-put_full_page.ensures.ok,
@@ -40,8 +40,8 @@ returns-in-Err-put_full_page-clause-has g c began from runs was =
     let self = c.args.self.now in (
       was.0,
       was.1,
-      λ opening empty.
-          let so = was.2 opening empty in
+      λ initial empty.
+          let so = was.2 initial empty in
           let made = made_line from.state c.args._before.now.value c.args.after.now self.page.now c.put_line.new.self (shown c.args.line.now) c.position.result (contents began.writer.now) (contents self.writer.now)
           so.0 c.requires.stepped c.position.ensures.count c.in-Ok.ensures.ok in
           record {

@@ -1,6 +1,6 @@
 -- What is pending at the nodes behind is still to be appended.
 use Rattle.std.proofs.Common.{◌≡◌, ◌++◌, drop}
-use Rattle.ranking.specs.Gathered.{all_entries}
+use Rattle.tournament.specs.Gathered.{all_entries}
 use Rattle.net_machine.specs.Nodes.{pendings}
 use Rattle.trace_text.proofs.dump.events.node_by_node.Given as goal
 

@@ -17,7 +17,7 @@ copies_of-requires c =
     let is = subst IsWindow c.self.view_is c.self.invariant.window in
     let one = groups_are w v c.self.view_is in
     let two = c.shares.ensures ∙ one in
-    let are : (h : ℕ) → h < length v.groups → IsGroup (value_at v.groups h) = λ h under. subst (λ (gs : List GroupValue). IsGroup (value_at gs h)) one (c.told.ensures.are_groups h no_value (subst (λ (gs : List GroupValue). h < length gs) (sym one) under)) in
+    let are : (h : ℕ) → h < length v.groups → IsGroup (value_at v.groups h) = λ h under. subst (λ (gs : List GroupValue). IsGroup (value_at gs h)) one (c.reported.ensures.are_groups h no_value (subst (λ (gs : List GroupValue). h < length gs) (sym one) under)) in
     subst (λ (es : List ℕ). AreSeated es c.shares.result.now) (sym (ap (λ (x : WindowValue). x.entries) c.self.view_is)) (subst (AreSeated v.entries) (sym two) (are_seated v is are))
 
 pub new-requires : goal.new-requires
@@ -27,7 +27,7 @@ new-requires c =
     let is = subst IsWindow c.self.view_is c.self.invariant.window in
     let one = groups_are w v c.self.view_is in
     let two = c.shares.ensures ∙ one in
-    let are : (h : ℕ) → h < length v.groups → IsGroup (value_at v.groups h) = λ h under. subst (λ (gs : List GroupValue). IsGroup (value_at gs h)) one (c.told.ensures.are_groups h no_value (subst (λ (gs : List GroupValue). h < length gs) (sym one) under)) in
+    let are : (h : ℕ) → h < length v.groups → IsGroup (value_at v.groups h) = λ h under. subst (λ (gs : List GroupValue). IsGroup (value_at gs h)) one (c.reported.ensures.are_groups h no_value (subst (λ (gs : List GroupValue). h < length gs) (sym one) under)) in
     let nodes = c.in_ok-nodes.nodes.items in
     let together : AreTogether v.entries v.groups (length v.entries) nodes = subst (λ (gs : List GroupValue). AreTogether v.entries gs (length v.entries) nodes) two (subst (λ (es : List ℕ). AreTogether es c.shares.result.now (length es) nodes) (ap (λ (x : WindowValue). x.entries) c.self.view_is) c.in_ok-nodes.ensures) in
     let parts = net_parts v is are c.requires.unfired nodes together is.edge is.from in
@@ -43,7 +43,7 @@ of_parts-requires-clause-parts c =
     let is = subst IsWindow c.self.view_is c.self.invariant.window in
     let one = groups_are w v c.self.view_is in
     let two = c.shares.ensures ∙ one in
-    let are : (h : ℕ) → h < length v.groups → IsGroup (value_at v.groups h) = λ h under. subst (λ (gs : List GroupValue). IsGroup (value_at gs h)) one (c.told.ensures.are_groups h no_value (subst (λ (gs : List GroupValue). h < length gs) (sym one) under)) in
+    let are : (h : ℕ) → h < length v.groups → IsGroup (value_at v.groups h) = λ h under. subst (λ (gs : List GroupValue). IsGroup (value_at gs h)) one (c.reported.ensures.are_groups h no_value (subst (λ (gs : List GroupValue). h < length gs) (sym one) under)) in
     let nodes = c.in_ok-nodes.nodes.items in
     let together : AreTogether v.entries v.groups (length v.entries) nodes = subst (λ (gs : List GroupValue). AreTogether v.entries gs (length v.entries) nodes) two (subst (λ (es : List ℕ). AreTogether es c.shares.result.now (length es) nodes) (ap (λ (x : WindowValue). x.entries) c.self.view_is) c.in_ok-nodes.ensures) in
     let parts = net_parts v is are c.requires.unfired nodes together is.edge is.from in
@@ -57,7 +57,7 @@ returns c = λ edge from.
     let is = subst IsWindow c.self.view_is c.self.invariant.window in
     let one = groups_are w v c.self.view_is in
     let two = c.shares.ensures ∙ one in
-    let are : (h : ℕ) → h < length v.groups → IsGroup (value_at v.groups h) = λ h under. subst (λ (gs : List GroupValue). IsGroup (value_at gs h)) one (c.told.ensures.are_groups h no_value (subst (λ (gs : List GroupValue). h < length gs) (sym one) under)) in
+    let are : (h : ℕ) → h < length v.groups → IsGroup (value_at v.groups h) = λ h under. subst (λ (gs : List GroupValue). IsGroup (value_at gs h)) one (c.reported.ensures.are_groups h no_value (subst (λ (gs : List GroupValue). h < length gs) (sym one) under)) in
     let nodes = c.in_ok-nodes.nodes.items in
     let together : AreTogether v.entries v.groups (length v.entries) nodes = subst (λ (gs : List GroupValue). AreTogether v.entries gs (length v.entries) nodes) two (subst (λ (es : List ℕ). AreTogether es c.shares.result.now (length es) nodes) (ap (λ (x : WindowValue). x.entries) c.self.view_is) c.in_ok-nodes.ensures) in
     let state = ap (λ (x : WindowValue). net_state nodes x.end) c.self.view_is ∙ state_is v is are c.requires.unfired nodes together edge from in

@@ -1,5 +1,5 @@
 use Rattle.std.proofs.Common.{◌≡◌, false, sym, ap, subst, ◌∙◌}
-use Rattle.window_core.specs.Rosters.{RosterValue}
+use Rattle.window_core.specs.GroupTables.{GroupTableValue}
 use Rattle.window_core.specs.Window.{IsWindow, IsFrom}
 use Rattle.window_core.specs.WindowOf.{window_of}
 use Rattle.window_core.proofs.Windowed.{split_returned, from_returned}
@@ -11,7 +11,7 @@ invariant_of-self c =
     let v = c.args.self.now in
     let back = c.args.groups.items in
     let is : IsWindow v = subst IsWindow c.self.view_is c.self.invariant.window in
-    let view : window_of (record w { roster = c.take_back.new.self }) ≡ record v { groups = back; out = false } = ap (λ (r : RosterValue). window_of (record w { roster = r })) c.take_back.ensures ∙ (λ i. record (c.self.view_is i) { groups = back; out = false }) in
+    let view : window_of (record w { group_table = c.take_back.new.self }) ≡ record v { groups = back; out = false } = ap (λ (r : GroupTableValue). window_of (record w { group_table = r })) c.take_back.ensures ∙ (λ i. record (c.self.view_is i) { groups = back; out = false }) in
     record {
       window = subst IsWindow (sym view) (record { split = split_returned v back c.requires.count c.requires.fired is.split; edge = is.edge; from = from_returned v back c.requires.count c.requires.fired is.split is.edge is.from });
       nexts = c.self.invariant.nexts;
@@ -24,5 +24,5 @@ returns-clause-from c edge from =
     let v = c.args.self.now in
     let back = c.args.groups.items in
     let is : IsWindow v = subst IsWindow c.self.view_is c.self.invariant.window in
-    let view : window_of (record w { roster = c.take_back.new.self }) ≡ record v { groups = back; out = false } = ap (λ (r : RosterValue). window_of (record w { roster = r })) c.take_back.ensures ∙ (λ i. record (c.self.view_is i) { groups = back; out = false }) in
+    let view : window_of (record w { group_table = c.take_back.new.self }) ≡ record v { groups = back; out = false } = ap (λ (r : GroupTableValue). window_of (record w { group_table = r })) c.take_back.ensures ∙ (λ i. record (c.self.view_is i) { groups = back; out = false }) in
     subst (IsFrom edge) (sym view) (from_returned v back c.requires.count c.requires.fired is.split edge from)

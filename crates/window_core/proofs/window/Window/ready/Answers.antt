@@ -1,24 +1,24 @@
 use Rattle.std.proofs.Common.{◌≡◌, ◌<◌, length, true, sym, subst, ◌∙◌, arith}
-use Rattle.window_core.specs.Faults.{IsDone, events_in}
-use Rattle.window_core.specs.Full.{HasTooMany, opening_at}
+use Rattle.window_core.specs.Faults.{WindowIsDone, events_in}
+use Rattle.window_core.specs.Full.{HasTooMany, initial_at}
 use Rattle.window_core.specs.Window.{WindowValue, states_of, IsWindow, IsFrom}
 use Rattle.window_core.specs.WindowOf.{window_of}
 use Rattle.window_law.specs.Windows.{all_done, all_lines}
 use Rattle.window_core.proofs.TooMany.{full_turn_has_too_many}
 use Rattle.window_core.proofs.window.Window.ready.Goals as goal
 
-pub returns-then-self-count-gt-MOST_EVENTS-clause-told : goal.returns-then-self-count-gt-MOST_EVENTS-clause-told
-returns-then-self-count-gt-MOST_EVENTS-clause-told c =
+pub returns-then-self-count-gt-MOST_EVENTS-clause-reported : goal.returns-then-self-count-gt-MOST_EVENTS-clause-reported
+returns-then-self-count-gt-MOST_EVENTS-clause-reported c =
     let w = c.self.inside in
-    let told = c.told-count.result in
+    let reported = c.reported-count.result in
     let v : WindowValue = window_of w in
     let v_is : v ≡ c.args.self.now = c.self.view_is in
     let is : IsWindow v = c.self.invariant.window in
-    let all : all_done w.until (states_of w.roster.groups) ≡ true = sym c.all_done.ensures ∙ c.if-not-all_done.false in
-    let count : told ≡ length (all_lines (states_of w.roster.groups)) = c.told-count.ensures.count in
+    let all : all_done w.until (states_of w.group_table.groups) ≡ true = sym c.all_done.ensures ∙ c.if-not-all_done.false in
+    let count : reported ≡ length (all_lines (states_of w.group_table.groups)) = c.reported-count.ensures.count in
     let more = c.if-self-count-gt-MOST_EVENTS.true in
     let many : 1000000000000000 < events_in v = omega (arith, count, more) in (
-      subst IsDone v_is all,
+      subst WindowIsDone v_is all,
       subst (λ (x : WindowValue). 1000000000000000 < events_in x) v_is many,
-      λ edge from. subst (λ (x : WindowValue). HasTooMany (opening_at edge x)) v_is (full_turn_has_too_many edge v (subst (IsFrom edge) (sym v_is) from) is.split.fits all many),
+      λ edge from. subst (λ (x : WindowValue). HasTooMany (initial_at edge x)) v_is (full_turn_has_too_many edge v (subst (IsFrom edge) (sym v_is) from) is.split.fits all many),
     )

@@ -1,6 +1,6 @@
 use Rattle.std.proofs.Common.{◌≡◌, All, true, sym, ap, subst, ◌∙◌}
 use Rattle.node_group.specs.Group.{IsOnRun}
-use Rattle.window_core.specs.Rosters.{RosterValue}
+use Rattle.window_core.specs.GroupTables.{GroupTableValue}
 use Rattle.window_core.specs.Window.{IsWindow, IsFrom}
 use Rattle.window_core.specs.WindowOf.{window_of}
 use Rattle.window_core.proofs.Windowed.{split_out, from_out, all_on_run}
@@ -15,7 +15,7 @@ invariant_of-self c =
     let w = c.self.inside in
     let v = c.args.self.now in
     let is : IsWindow v = subst IsWindow c.self.view_is c.self.invariant.window in
-    let view : window_of (record w { roster = c.hand_out.new.self }) ≡ record v { out = true } = ap (λ (r : RosterValue). window_of (record w { roster = r })) c.hand_out.ensures.state ∙ moved_out (window_of w) v c.self.view_is w.roster.groups v.groups (groups_are w v c.self.view_is) true in
+    let view : window_of (record w { group_table = c.hand_out.new.self }) ≡ record v { out = true } = ap (λ (r : GroupTableValue). window_of (record w { group_table = r })) c.hand_out.ensures.state ∙ moved_out (window_of w) v c.self.view_is w.group_table.groups v.groups (groups_are w v c.self.view_is) true in
     record {
       window = subst IsWindow (sym view) (record { split = split_out v true is.split; edge = is.edge; from = from_out v true is.edge is.from });
       nexts = c.self.invariant.nexts;
@@ -26,5 +26,5 @@ pub returns-clause-from : goal.returns-clause-from
 returns-clause-from c edge from =
     let w = c.self.inside in
     let v = c.args.self.now in
-    let view : window_of (record w { roster = c.hand_out.new.self }) ≡ record v { out = true } = ap (λ (r : RosterValue). window_of (record w { roster = r })) c.hand_out.ensures.state ∙ moved_out (window_of w) v c.self.view_is w.roster.groups v.groups (groups_are w v c.self.view_is) true in
+    let view : window_of (record w { group_table = c.hand_out.new.self }) ≡ record v { out = true } = ap (λ (r : GroupTableValue). window_of (record w { group_table = r })) c.hand_out.ensures.state ∙ moved_out (window_of w) v c.self.view_is w.group_table.groups v.groups (groups_are w v c.self.view_is) true in
     subst (IsFrom edge) (sym view) (from_out v true edge from)

@@ -21,8 +21,8 @@ of-requires-clause-nexts c =
     ∙ turned_size c.args.self.now c.turn_with.new.self (merged c.turn_with.new.sheaf) turned.ok
     ∙ sym (ap length turned.lists ∙ length-map c.args.self.now.groups (λ (g : GroupValue). g.lines))
 
-pub of-requires-clause-ranking : goal.of-requires-clause-ranking
-of-requires-clause-ranking c =
+pub of-requires-clause-tournament : goal.of-requires-clause-tournament
+of-requires-clause-tournament c =
     let turned = c.in_ok-turn_with.ensures in
     c.self.invariant.ranks
     ∙ sym c.self.invariant.window.split.count

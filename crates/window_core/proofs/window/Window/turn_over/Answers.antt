@@ -34,5 +34,5 @@ pub returns-clause-inside : goal.returns-clause-inside
 returns-clause-inside c =
     let w = c.self-2.inside in
     let new = c.turn_into-turned.new in
-    let out : w.roster.out ≡ false = ap (λ (v : WindowValue). v.out) c.self-2.view_is ∙ turned_inside (window_of c.self.inside) new.self new.batch c.turn_into-turned.result c.turn_into-turned.ensures.ok c.turn_into-turned.ensures.err (ap (λ (v : WindowValue). v.out) c.self.view_is ∙ c.requires) in
-    elim c.if-is_ok.branch [ then-is_ok b ↦ ap (λ (x : Inside). x.roster.out) b.self-inside-is ∙ out | else-is_ok b ↦ ap (λ (x : Inside). x.roster.out) b.self-inside-is ∙ out ]
+    let out : w.group_table.out ≡ false = ap (λ (v : WindowValue). v.out) c.self-2.view_is ∙ turned_inside (window_of c.self.inside) new.self new.batch c.turn_into-turned.result c.turn_into-turned.ensures.ok c.turn_into-turned.ensures.err (ap (λ (v : WindowValue). v.out) c.self.view_is ∙ c.requires) in
+    elim c.if-is_ok.branch [ then-is_ok b ↦ ap (λ (x : Inside). x.group_table.out) b.self-inside-is ∙ out | else-is_ok b ↦ ap (λ (x : Inside). x.group_table.out) b.self-inside-is ∙ out ]

@@ -4,7 +4,7 @@ use Rattle.net_machine.specs.declared.places.LinkEnds.{LinkEnds}
 use Rattle.line_merge.specs.Batches.{BatchValue}
 use Rattle.node_group.specs.Group.{GroupValue, IsGroup}
 use Rattle.line_merge.specs.Merged.{all_of}
-use Rattle.window_core.specs.Rosters.{RosterValue}
+use Rattle.window_core.specs.GroupTables.{GroupTableValue}
 use Rattle.line_merge.specs.Sheaves.{SheafValue, merged}
 use Rattle.window_core.specs.Turning.{CanTurn, AreReady, HasHanded}
 use Rattle.window_core.specs.Window.{WindowValue, no_value, value_at, states_of, setting_in, IsWindow, IsFrom, HasGoneOn, HasTurned}
@@ -58,16 +58,16 @@ hand_all-requires-clause-ready c =
     let are : (h : ℕ) → h < length v.groups → IsGroup (value_at v.groups h) = λ h here. can.are_groups h no_value here in
     let good = sym c.is_err.ensures.value ∙ c.if-is_err.false in
     let r1 = c.gather-gathered.new.self in
-    let gathered : r1 ≡ record w.roster { groups = map (cleared n) v.groups } = on_ok c.gather-gathered.result good c.gather-gathered.ensures.groups in
-    let mid : r1.groups ≡ map (cleared n) v.groups = ap (λ (r : RosterValue). r.groups) gathered in
+    let gathered : r1 ≡ record w.group_table { groups = map (cleared n) v.groups } = on_ok c.gather-gathered.result good c.gather-gathered.ensures.groups in
+    let mid : r1.groups ≡ map (cleared n) v.groups = ap (λ (r : GroupTableValue). r.groups) gathered in
     subst (λ (links : List LinkEnds). AreReady w.partition links r1.groups) (sym c.deref.ensures.value) (subst (AreReady w.partition w.links.items) (sym mid) (ready v is are can.done n))
 
 pub invariant_of-self : goal.invariant_of-self
 invariant_of-self c =
     let w = c.self.inside in
-    let same : c.gather-gathered.new.self ≡ w.roster = on_err c.gather-gathered.result (sym c.is_err.ensures.value ∙ c.if-is_err.true) c.gather-gathered.ensures.err in
+    let same : c.gather-gathered.new.self ≡ w.group_table = on_err c.gather-gathered.result (sym c.is_err.ensures.value ∙ c.if-is_err.true) c.gather-gathered.ensures.err in
     record {
-      window = subst (λ (r : RosterValue). IsWindow (window_of (record w { roster = r }))) (sym same) c.self.invariant.window;
+      window = subst (λ (r : GroupTableValue). IsWindow (window_of (record w { group_table = r }))) (sym same) c.self.invariant.window;
       nexts = c.self.invariant.nexts;
       ranks = c.self.invariant.ranks;
     }
@@ -83,16 +83,16 @@ invariant_of-self-2 c =
     let are : (h : ℕ) → h < length v.groups → IsGroup (value_at v.groups h) = λ h here. can.are_groups h no_value here in
     let good = sym c.is_err.ensures.value ∙ c.if-is_err.false in
     let r1 = c.gather-gathered.new.self in
-    let gathered : r1 ≡ record w.roster { groups = map (cleared n) v.groups } = on_ok c.gather-gathered.result good c.gather-gathered.ensures.groups in
-    let mid : r1.groups ≡ map (cleared n) v.groups = ap (λ (r : RosterValue). r.groups) gathered in
+    let gathered : r1 ≡ record w.group_table { groups = map (cleared n) v.groups } = on_ok c.gather-gathered.result good c.gather-gathered.ensures.groups in
+    let mid : r1.groups ≡ map (cleared n) v.groups = ap (λ (r : GroupTableValue). r.groups) gathered in
     let r2 = c.hand_all.new.self in
     let after = r2.groups in
     let handed : HasHanded w.partition w.links.items (map (cleared n) v.groups) after = subst (λ (links : List LinkEnds). HasHanded w.partition links (map (cleared n) v.groups) after) c.deref.ensures.value (subst (λ (gs : List GroupValue). HasHanded w.partition c.deref.result.now gs after) mid c.hand_all.ensures.handed) in
     let u = c.window_end-self-inside.result in
-    let u_is : u ≡ window_end (setting_in v) (states_of after) = c.window_end-self-inside.ensures ∙ ap (λ (o : Option ℕ). at_most (sum_of o w.ahead) w.end) (c.soonest.ensures ∙ ap (λ (r : RosterValue). soonest (states_of r.groups)) c.read_least.ensures) in
+    let u_is : u ≡ window_end (setting_in v) (states_of after) = c.window_end-self-inside.ensures ∙ ap (λ (o : Option ℕ). at_most (sum_of o w.ahead) w.end) (c.soonest.ensures ∙ ap (λ (r : GroupTableValue). soonest (states_of r.groups)) c.read_least.ensures) in
     let next : WindowValue = record v { until = u; position = n; groups = map (bounded u) after } in
-    let rest : c.set_until.new.self ≡ record w.roster { groups = map (bounded u) after } = c.set_until.ensures ∙ ap (λ (r : RosterValue). record r { groups = map (bounded u) r.groups }) c.read_least.ensures ∙ ap (λ (r : RosterValue). record r { groups = map (bounded u) after }) (c.hand_all.ensures.rest ∙ ap (λ (r : RosterValue). record r { groups = after }) gathered) in
-    let view : window_of (record w { until = u; position = n; roster = c.set_until.new.self }) ≡ next = ap (λ (r : RosterValue). window_of (record w { until = u; position = n; roster = r })) rest in
+    let rest : c.set_until.new.self ≡ record w.group_table { groups = map (bounded u) after } = c.set_until.ensures ∙ ap (λ (r : GroupTableValue). record r { groups = map (bounded u) r.groups }) c.read_least.ensures ∙ ap (λ (r : GroupTableValue). record r { groups = map (bounded u) after }) (c.hand_all.ensures.rest ∙ ap (λ (r : GroupTableValue). record r { groups = after }) gathered) in
+    let view : window_of (record w { until = u; position = n; group_table = c.set_until.new.self }) ≡ next = ap (λ (r : GroupTableValue). window_of (record w { until = u; position = n; group_table = r })) rest in
     let s = c.gather-gathered.new.sheaf in
     let s_is : s ≡ record { first = w.position + 1; lists = map (λ (g : GroupValue). g.lines) v.groups } = on_ok c.gather-gathered.result good c.gather-gathered.ensures.sheaf in
     let lines_are : (merged s).lines ≡ in_order (all_of (map (λ (g : GroupValue). g.lines) v.groups)) = ap (λ (x : SheafValue). (merged x).lines) s_is in
@@ -115,16 +115,16 @@ returns-clause-ok c =
     let are : (h : ℕ) → h < length v.groups → IsGroup (value_at v.groups h) = λ h here. can.are_groups h no_value here in
     let good = sym c.is_err.ensures.value ∙ c.if-is_err.false in
     let r1 = c.gather-gathered.new.self in
-    let gathered : r1 ≡ record w.roster { groups = map (cleared n) v.groups } = on_ok c.gather-gathered.result good c.gather-gathered.ensures.groups in
-    let mid : r1.groups ≡ map (cleared n) v.groups = ap (λ (r : RosterValue). r.groups) gathered in
+    let gathered : r1 ≡ record w.group_table { groups = map (cleared n) v.groups } = on_ok c.gather-gathered.result good c.gather-gathered.ensures.groups in
+    let mid : r1.groups ≡ map (cleared n) v.groups = ap (λ (r : GroupTableValue). r.groups) gathered in
     let r2 = c.hand_all.new.self in
     let after = r2.groups in
     let handed : HasHanded w.partition w.links.items (map (cleared n) v.groups) after = subst (λ (links : List LinkEnds). HasHanded w.partition links (map (cleared n) v.groups) after) c.deref.ensures.value (subst (λ (gs : List GroupValue). HasHanded w.partition c.deref.result.now gs after) mid c.hand_all.ensures.handed) in
     let u = c.window_end-self-inside.result in
-    let u_is : u ≡ window_end (setting_in v) (states_of after) = c.window_end-self-inside.ensures ∙ ap (λ (o : Option ℕ). at_most (sum_of o w.ahead) w.end) (c.soonest.ensures ∙ ap (λ (r : RosterValue). soonest (states_of r.groups)) c.read_least.ensures) in
+    let u_is : u ≡ window_end (setting_in v) (states_of after) = c.window_end-self-inside.ensures ∙ ap (λ (o : Option ℕ). at_most (sum_of o w.ahead) w.end) (c.soonest.ensures ∙ ap (λ (r : GroupTableValue). soonest (states_of r.groups)) c.read_least.ensures) in
     let next : WindowValue = record v { until = u; position = n; groups = map (bounded u) after } in
-    let rest : c.set_until.new.self ≡ record w.roster { groups = map (bounded u) after } = c.set_until.ensures ∙ ap (λ (r : RosterValue). record r { groups = map (bounded u) r.groups }) c.read_least.ensures ∙ ap (λ (r : RosterValue). record r { groups = map (bounded u) after }) (c.hand_all.ensures.rest ∙ ap (λ (r : RosterValue). record r { groups = after }) gathered) in
-    let view : window_of (record w { until = u; position = n; roster = c.set_until.new.self }) ≡ next = ap (λ (r : RosterValue). window_of (record w { until = u; position = n; roster = r })) rest in
+    let rest : c.set_until.new.self ≡ record w.group_table { groups = map (bounded u) after } = c.set_until.ensures ∙ ap (λ (r : GroupTableValue). record r { groups = map (bounded u) r.groups }) c.read_least.ensures ∙ ap (λ (r : GroupTableValue). record r { groups = map (bounded u) after }) (c.hand_all.ensures.rest ∙ ap (λ (r : GroupTableValue). record r { groups = after }) gathered) in
+    let view : window_of (record w { until = u; position = n; group_table = c.set_until.new.self }) ≡ next = ap (λ (r : GroupTableValue). window_of (record w { until = u; position = n; group_table = r })) rest in
     let s = c.gather-gathered.new.sheaf in
     let s_is : s ≡ record { first = w.position + 1; lists = map (λ (g : GroupValue). g.lines) v.groups } = on_ok c.gather-gathered.result good c.gather-gathered.ensures.sheaf in
     let lines_are : (merged s).lines ≡ in_order (all_of (map (λ (g : GroupValue). g.lines) v.groups)) = ap (λ (x : SheafValue). (merged x).lines) s_is in
@@ -132,7 +132,7 @@ returns-clause-ok c =
     ap length lines_are ∙ length_in_order (map (λ (g : GroupValue). g.lines) v.groups) (lists_apart v is are can.done) ∙ sym (can.count_is ∙ ap length (lines_of_groups v.groups)) in
     let turned : HasTurned v (record { first = w.position + 1; lines = (merged s).lines }) next = has_turned v is can.done c.args.count can.fits after handed u u_is (merged s).lines lines_are many in
     let batch : record { first = w.position + 1; lines = (merged s).lines } ≡ merged s = λ i. record { first = (sym s_is i).first; lines = (merged s).lines } in
-    subst (λ (x : WindowValue). HasTurned x (merged s) (window_of (record w { until = u; position = n; roster = c.set_until.new.self }))) v_is
+    subst (λ (x : WindowValue). HasTurned x (merged s) (window_of (record w { until = u; position = n; group_table = c.set_until.new.self }))) v_is
     (subst (λ (x : WindowValue). HasTurned v (merged s) x) (sym view) (subst (λ (x : BatchValue). HasTurned v x next) batch turned))
 
 pub returns-clause-run : goal.returns-clause-run
@@ -146,16 +146,16 @@ returns-clause-run c edge from =
     let are : (h : ℕ) → h < length v.groups → IsGroup (value_at v.groups h) = λ h here. can.are_groups h no_value here in
     let good = sym c.is_err.ensures.value ∙ c.if-is_err.false in
     let r1 = c.gather-gathered.new.self in
-    let gathered : r1 ≡ record w.roster { groups = map (cleared n) v.groups } = on_ok c.gather-gathered.result good c.gather-gathered.ensures.groups in
-    let mid : r1.groups ≡ map (cleared n) v.groups = ap (λ (r : RosterValue). r.groups) gathered in
+    let gathered : r1 ≡ record w.group_table { groups = map (cleared n) v.groups } = on_ok c.gather-gathered.result good c.gather-gathered.ensures.groups in
+    let mid : r1.groups ≡ map (cleared n) v.groups = ap (λ (r : GroupTableValue). r.groups) gathered in
     let r2 = c.hand_all.new.self in
     let after = r2.groups in
     let handed : HasHanded w.partition w.links.items (map (cleared n) v.groups) after = subst (λ (links : List LinkEnds). HasHanded w.partition links (map (cleared n) v.groups) after) c.deref.ensures.value (subst (λ (gs : List GroupValue). HasHanded w.partition c.deref.result.now gs after) mid c.hand_all.ensures.handed) in
     let u = c.window_end-self-inside.result in
-    let u_is : u ≡ window_end (setting_in v) (states_of after) = c.window_end-self-inside.ensures ∙ ap (λ (o : Option ℕ). at_most (sum_of o w.ahead) w.end) (c.soonest.ensures ∙ ap (λ (r : RosterValue). soonest (states_of r.groups)) c.read_least.ensures) in
+    let u_is : u ≡ window_end (setting_in v) (states_of after) = c.window_end-self-inside.ensures ∙ ap (λ (o : Option ℕ). at_most (sum_of o w.ahead) w.end) (c.soonest.ensures ∙ ap (λ (r : GroupTableValue). soonest (states_of r.groups)) c.read_least.ensures) in
     let next : WindowValue = record v { until = u; position = n; groups = map (bounded u) after } in
-    let rest : c.set_until.new.self ≡ record w.roster { groups = map (bounded u) after } = c.set_until.ensures ∙ ap (λ (r : RosterValue). record r { groups = map (bounded u) r.groups }) c.read_least.ensures ∙ ap (λ (r : RosterValue). record r { groups = map (bounded u) after }) (c.hand_all.ensures.rest ∙ ap (λ (r : RosterValue). record r { groups = after }) gathered) in
-    let view : window_of (record w { until = u; position = n; roster = c.set_until.new.self }) ≡ next = ap (λ (r : RosterValue). window_of (record w { until = u; position = n; roster = r })) rest in
+    let rest : c.set_until.new.self ≡ record w.group_table { groups = map (bounded u) after } = c.set_until.ensures ∙ ap (λ (r : GroupTableValue). record r { groups = map (bounded u) r.groups }) c.read_least.ensures ∙ ap (λ (r : GroupTableValue). record r { groups = map (bounded u) after }) (c.hand_all.ensures.rest ∙ ap (λ (r : GroupTableValue). record r { groups = after }) gathered) in
+    let view : window_of (record w { until = u; position = n; group_table = c.set_until.new.self }) ≡ next = ap (λ (r : GroupTableValue). window_of (record w { until = u; position = n; group_table = r })) rest in
     let s = c.gather-gathered.new.sheaf in
     let s_is : s ≡ record { first = w.position + 1; lists = map (λ (g : GroupValue). g.lines) v.groups } = on_ok c.gather-gathered.result good c.gather-gathered.ensures.sheaf in
     let lines_are : (merged s).lines ≡ in_order (all_of (map (λ (g : GroupValue). g.lines) v.groups)) = ap (λ (x : SheafValue). (merged x).lines) s_is in

@@ -1,6 +1,6 @@
 use Rattle.std.proofs.Common.{◌≡◌, []}
 use Rattle.window_core.specs.Turning.{AreReady}
-use Rattle.window_core.specs.Rosters.{nexts_of}
+use Rattle.window_core.specs.GroupTables.{nexts_of}
 use Rattle.window_core.specs.Window.{states_of, value_at}
 use Rattle.window_core.proofs.HandedEach.{HandedFrom, left_over}
 use Rattle.window_core.proofs.window.handing.hand_all.Given as goal

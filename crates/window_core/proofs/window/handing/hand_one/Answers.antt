@@ -1,18 +1,18 @@
 use Rattle.std.proofs.Common.{◌≡◌, ◌<◌, ◌==◌, length, set, get_or, cond, false, sym, ap, subst, ◌∙◌, arith}
 use Rattle.std.proofs.lemmas.List.{get_or_read, get_or-set_same, get_or-set_other, length-set}
-use Rattle.ranking.specs.Keyed.{apply, entering}
+use Rattle.tournament.specs.Keyed.{apply, entering}
 use Rattle.node_core.specs.WireState.{arrivals_on, came_over}
 use Rattle.net_machine.specs.Nodes.{parts_of}
 use Rattle.net_machine.specs.Wiring.{place_at}
 use Rattle.node_group.specs.Group.{GroupValue, group_to, came_in, state_of}
 use Rattle.node_group.specs.Held.{wire_at, is_idle}
 use Rattle.net_partition.specs.Partition.{group_in}
-use Rattle.window_core.specs.Rosters.{next_of}
-use Rattle.node_group.specs.Seats.{seated, taken}
+use Rattle.window_core.specs.GroupTables.{next_of_group}
+use Rattle.node_group.specs.Seats.{seated, taken_nodes}
 use Rattle.window_core.specs.Turning.{to_group, pending_in, held_over, handed, CanHand, WasHanded}
 use Rattle.window_core.specs.Window.{no_value, value_at}
 use Rattle.window_core.proofs.HandedOver.{parts_stay, pending_over, came_each}
-use Rattle.window_core.proofs.Rosters.{nexts_handed}
+use Rattle.window_core.proofs.GroupTables.{nexts_handed}
 use Rattle.window_core.proofs.window.handing.hand_one.Goals as goal
 
 pub returns-clause-some : goal.returns-clause-some
@@ -53,7 +53,7 @@ returns-clause-some c =
       to_is = now ∙ c.deliver.ensures.rest ∙ (λ i. record (read i) { seats = (sym now i).seats });
       others = λ h off away. get_or-set_other mid to h c.deliver.new.self no_value away ∙ get_or-set_other shares from h c.release_next.new.self no_value off;
       parts = ap (λ (g : GroupValue). parts_of (seated g.seats)) now ∙ parts_stay x c.deliver.new.self is_group link under to_it packets c.deliver.ensures.rest c.deliver.ensures.nodes ∙ ap (λ (g : GroupValue). parts_of (seated g.seats)) read;
-      seats_stay = ap (λ (g : GroupValue). taken g.seats) now ∙ c.deliver.ensures.seats_stay ∙ ap (λ (g : GroupValue). taken g.seats) read;
+      seats_stay = ap (λ (g : GroupValue). taken_nodes g.seats) now ∙ c.deliver.ensures.seats_stay ∙ ap (λ (g : GroupValue). taken_nodes g.seats) read;
       pending =
           ap pending_in now
           ∙ pending_over x c.deliver.new.self is_group link under to_it packets c.deliver.ensures.rest c.deliver.ensures.nodes w can.number (can.node ∙ ap (λ (g : GroupValue). (place_at g.links link).node) (sym read)) came sent
@@ -76,5 +76,5 @@ returns-clause-nexts c =
     let a = c.release_next.new.self in
     let b = c.deliver.new.self in
     let sends : get_or shares from c.index-shares-from.result ≡ value_at shares from = sym c.index-shares-from.is ∙ get_or_read shares from c.index-shares-from.result c.requires.can.within c.index-shares-from.is no_value in
-    let same : next_of (state_of a) ≡ next_of (state_of (value_at shares from)) = ap (λ (g : GroupValue). next_of (state_of g)) c.release_next.ensures.rest ∙ ap (λ (g : GroupValue). next_of (state_of g)) sends in
+    let same : next_of_group (state_of a) ≡ next_of_group (state_of (value_at shares from)) = ap (λ (g : GroupValue). next_of_group (state_of g)) c.release_next.ensures.rest ∙ ap (λ (g : GroupValue). next_of_group (state_of g)) sends in
     (λ i. set (c.requires.nexts i) c.group-to.result (c.next_of.ensures i)) ∙ nexts_handed shares from c.group-to.result a b same

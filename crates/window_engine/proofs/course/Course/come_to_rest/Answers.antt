@@ -22,8 +22,8 @@ overflow_add-written g c =
     (c.in-Ok.ensures.wrote c.args._until w.net (reached_in c.args.self.now.window) w.early w.behind.gone) w.behind.few in
     omega (arith, fits)
 
-pub told-requires : goal.told-requires
-told-requires g c =
+pub reported-requires : goal.reported-requires
+reported-requires g c =
     let w = c.requires.writing in
     tells c.args._until c.args._began.now.value c.args.self.now c.args.written.now (g.S.Sink.contents c.args._known.now.value) (g.S.Sink.contents c.args.sink.now) w 1 c.put_made.new.self.position (g.S.Sink.contents c.put_made.new.sink) c.in-Err.fault
     (c.in-Err.ensures.broke c.args._until w.net (reached_in c.args.self.now.window) w.early w.behind.gone w.behind.committed)
@@ -34,7 +34,7 @@ returns-in-Err-clause-ended g c =
     let contents = g.S.Sink.contents in
     let failures = g.S.Sink.failures in
     let some = c.requires.workers in
-    rw c.told.ensures
+    rw c.reported.ensures
     (broken c.args._until c.args._began.now.value c.args.self.now c.args.written.now (contents c.args._known.now.value) (contents c.args.sink.now) w c.args._workers c.put_made.new.self (contents c.put_made.new.sink) c.in-Err.fault (failures c.args._known.now.value) (failures c.args.sink.now) (failures c.put_made.new.sink)
     (broke_later 1 c.args._workers c.args._until c.args._until w.net c.put_made.new.self.position (contents c.args.sink.now) (contents c.put_made.new.sink) c.in-Err.fault (omega (arith, some)) (omega arith) (c.in-Err.ensures.broke c.args._until w.net (reached_in c.args.self.now.window) w.early w.behind.gone w.behind.committed))
     (λ is. absurd (c.in-Err.ensures.not_full is)) c.requires.failures (c.put_made.ensures.failures ∙ ap (λ r. fails_after r (failures c.args.sink.now)) c.in-Err.is) (ap (λ (x : Course). x.groups) c.put_made.ensures.rest) (ap (λ (x : Course). x.ahead) c.put_made.ensures.rest))

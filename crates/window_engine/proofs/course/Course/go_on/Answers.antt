@@ -7,7 +7,7 @@ use Rattle.window_engine.specs.declared.fault.EngineFault.TheVariants.{NoMemory}
 use Rattle.window_engine.specs.declared.course.Course.{Course}
 use Rattle.window_engine.specs.declared.text.Text.{Text}
 use Rattle.window_engine.specs.Failures.{failures_after}
-use Rattle.window_engine.specs.Owed.{owed_text}
+use Rattle.window_engine.specs.PendingText.{text_pending}
 use Rattle.window_engine.specs.Parts.{text_of}
 use Rattle.window_engine.specs.Text.{text_from}
 use Rattle.window_engine.specs.Courses.{IsBehind}
@@ -33,10 +33,10 @@ returns-in-Ok-put-clause-ended g c =
     let contents = g.S.Sink.contents in
     let failures = g.S.Sink.failures in
     let new = record a.self.now { window = c.finish.new.window; sheaf = c.finish.new.lines; position = a.self.now.position + c.len.result } in
-    let text = ap (λ (t : Text). text_of t.scribes.items t.order.items) c.swap.ensures.y_after ∙ c.in-Ok.ensures.is in
+    let text = ap (λ (t : Text). text_of t.scribes.items t.job.items) c.swap.ensures.y_after ∙ c.in-Ok.ensures.is in
     let fault = c.in-Err.ensures.fault in
     let took = c.in-Ok-put.ensures in
-    stopped_after a._until a._began.now.value (record a.self.now { window = a.now.now.value }) a.written (contents a._known.now.value) (contents a.sink.now) c.requires.writing a.workers (text_of c.swap.new.y.scribes.items c.swap.new.y.order.items) c.len.result c.in-Ok-put.field-0 new (contents c.put.new.sink) c.in-Err.fault (failures a._known.now.value) (failures a.sink.now) (failures c.put.new.sink)
+    stopped_after a._until a._began.now.value (record a.self.now { window = a.now.now.value }) a.written (contents a._known.now.value) (contents a.sink.now) c.requires.writing a.workers (text_of c.swap.new.y.scribes.items c.swap.new.y.job.items) c.len.result c.in-Ok-put.field-0 new (contents c.put.new.sink) c.in-Err.fault (failures a._known.now.value) (failures a.sink.now) (failures c.put.new.sink)
     text c.len.ensures refl took.ok took.count took.few fault.0 fault.1 c.requires.failures (c.put.ensures.failures ∙ ap (λ r. failures_after r (failures a.sink.now)) c.in-Ok-put.is) refl refl
 
 pub returns-in-Err-put-clause-ended : goal.returns-in-Err-put-clause-ended
@@ -45,9 +45,9 @@ returns-in-Err-put-clause-ended g c =
     let contents = g.S.Sink.contents in
     let failures = g.S.Sink.failures in
     let new = record a.self.now { window = c.finish.new.window; sheaf = c.finish.new.lines; position = a.self.now.position + c.len.result } in
-    let text = ap (λ (t : Text). text_of t.scribes.items t.order.items) c.swap.ensures.y_after ∙ c.in-Ok.ensures.is in
+    let text = ap (λ (t : Text). text_of t.scribes.items t.job.items) c.swap.ensures.y_after ∙ c.in-Ok.ensures.is in
     let broke = c.in-Err-put.ensures in
-    failed_after a._until a._began.now.value (record a.self.now { window = a.now.now.value }) a.written (contents a._known.now.value) (contents a.sink.now) c.requires.writing a.workers (text_of c.swap.new.y.scribes.items c.swap.new.y.order.items) c.len.result c.in-Err-put.count new (contents c.put.new.sink) (failures a._known.now.value) (failures a.sink.now) (failures c.put.new.sink)
+    failed_after a._until a._began.now.value (record a.self.now { window = a.now.now.value }) a.written (contents a._known.now.value) (contents a.sink.now) c.requires.writing a.workers (text_of c.swap.new.y.scribes.items c.swap.new.y.job.items) c.len.result c.in-Err-put.count new (contents c.put.new.sink) (failures a._known.now.value) (failures a.sink.now) (failures c.put.new.sink)
     text c.len.ensures refl broke.err broke.few_before c.requires.failures (c.put.ensures.failures ∙ ap (λ r. failures_after r (failures a.sink.now)) c.in-Err-put.is) refl refl
 
 pub returns-clause-some : goal.returns-clause-some
@@ -82,6 +82,6 @@ returns-clause-owing g c =
     }
     in
     let early : AreBelow a._until (merged c.finish.new.lines).lines = below_later (min now.until a.plan.now.bound) a._until (merged c.finish.new.lines).lines (omega (arith, upto)) ran.early in
-    let text : owed_text (record { text = c.swap.new.y; lines = lines; put = None }) ≡ text_from a.self.now.sheaf.first (merged a.self.now.sheaf).lines = ap (λ (t : Text). text_of t.scribes.items t.order.items) c.swap.ensures.y_after ∙ whole.is in
+    let text : text_pending (record { text = c.swap.new.y; lines = lines; put = None }) ≡ text_from a.self.now.sheaf.first (merged a.self.now.sheaf).lines = ap (λ (t : Text). text_of t.scribes.items t.job.items) c.swap.ensures.y_after ∙ whole.is in
     let has = groups_on was then (merged c.finish.new.lines).lines w.has refl stays gone.is_run gone.position in
-    gone_on a._until a._began.now.value was a.written (contents a._known.now.value) (contents a.sink.now) w (owed_text (record { text = c.swap.new.y; lines = lines; put = None })) lines then c.choose.new.self text c.len.ensures refl refl refl behind early has c.choose.ensures
+    gone_on a._until a._began.now.value was a.written (contents a._known.now.value) (contents a.sink.now) w (text_pending (record { text = c.swap.new.y; lines = lines; put = None })) lines then c.choose.new.self text c.len.ensures refl refl refl behind early has c.choose.ensures

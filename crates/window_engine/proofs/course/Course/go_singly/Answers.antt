@@ -36,7 +36,7 @@ returns-in-Err-clause-ended g c =
     let failures = g.S.Sink.failures in
     let put = c.write_some-put in
     let upto : c.min-bound.result ≤ a.until = omega (arith, c.min-bound.ensures) in
-    rw c.told.ensures
+    rw c.reported.ensures
     (broken_on a.until c.min-bound.result a._began.now.value a.self.now was.self was.single.net a.written.now was.written (contents a._known.now.value) (contents a.sink.now) (contents was.sink) c.requires.rests was.invariant.0 upto a._workers put.new.self (contents put.new.sink) c.in-Err.fault (failures a._known.now.value) (failures was.sink) (failures put.new.sink)
     c.requires.workers c.in-Err.ensures.broke c.in-Err.ensures.full (was.invariant.1 ∙ c.requires.failures) (put.ensures.failures ∙ ap (λ r. fails_after r (failures was.sink)) c.in-Err.is) (ap (λ (x : Course). x.groups) put.ensures.rest) (ap (λ (x : Course). x.ahead) put.ensures.rest))
 
@@ -47,9 +47,9 @@ loop-more-preserved g c =
     let contents = g.S.Sink.contents in
     let failures = g.S.Sink.failures in
     let put = c.write_some-put in
-    let now = record put.new.self { pace = c.pass.new.self } in
+    let now = record put.new.self { granularity = c.ticket.new.self } in
     let at = c.in-Ok-put.ensures.committed in
-    let rest : now ≡ record was.self { position = put.new.single.net.position; pace = c.pass.new.self } = ap (λ (x : Course). record x { pace = c.pass.new.self }) put.ensures.rest ∙ ap (λ n. record was.self { position = n; pace = c.pass.new.self }) at in (
+    let rest : now ≡ record was.self { position = put.new.single.net.position; granularity = c.ticket.new.self } = ap (λ (x : Course). record x { granularity = c.ticket.new.self }) put.ensures.rest ∙ ap (λ n. record was.self { position = n; granularity = c.ticket.new.self }) at in (
       on_more c.min-bound.result a.self.now was.self was.single.net a.written.now was.written (contents a.sink.now) (contents was.sink) was.invariant.0 now put.new.single.net c.in-Ok-put.count (was.written + c.in-Ok-put.count) (contents put.new.sink) c.in-Ok-put.ensures.wrote rest refl c.position-reached-in-loop-more.ensures.is_run.position_fits,
       put.ensures.failures ∙ ap (λ r. fails_after r (failures was.sink)) c.in-Ok-put.is ∙ was.invariant.1,
     )

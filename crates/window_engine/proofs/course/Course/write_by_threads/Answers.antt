@@ -13,4 +13,4 @@ returns-in_default g c =
     let contents = g.S.Sink.contents new.sink in
     let window : c.of-now.result.value ≡ new.self.window = c.of-now.ensures ∙ sym (ap (λ (x : Course). x.window) c.settle.ensures.rest) in
     let w = subst (λ (v : WindowValue). IsWriting a.until a.began.now.value (record new.self { window = v }) new.written known contents) window c.in_ok-settle.ensures.writing in
-    out_of_memory a.until a.began.now.value new.self new.written known contents w a.crew.now.workers (g.S.Sink.failures a.known.now.value) (g.S.Sink.failures new.sink) c.in_ok-settle.ensures.failures
+    out_of_memory a.until a.began.now.value new.self new.written known contents w a.window_workers.now.workers (g.S.Sink.failures a.known.now.value) (g.S.Sink.failures new.sink) c.in_ok-settle.ensures.failures

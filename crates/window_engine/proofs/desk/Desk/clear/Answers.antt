@@ -4,7 +4,7 @@ use Rattle.std.specs.Mem.Slots.{slots_items, slots_len}
 use Rattle.window_core.specs.Sheaves.{SheafValue}
 use Rattle.work_board.proofs.Clearing.{still_full, now_empty}
 use Rattle.window_engine.specs.Parts.{IsRight}
-use Rattle.window_engine.specs.declared.scribe.Scribe.{Scribe}
+use Rattle.window_engine.specs.declared.formatter.TextFormatter.{TextFormatter}
 use Rattle.window_engine.proofs.Desks.{rest_is_right, put_behind}
 use Rattle.window_engine.proofs.desk.Desk.clear.Goals as goal
 use Rattle.window_engine.proofs.desk.Desk.clear.Goals.{then-word-ne-TAKEN+in-Some, else-word-ne-TAKEN+in-Some-1, else-word-ne-TAKEN+in-None-1}
@@ -22,8 +22,8 @@ loop-place-preserved c =
             let left : IfSome c.take-laid.result (IsRight c.self.inside.table.shared.key.value) =
             rest_is_right _ _ _ place c.word-word.result c.take-laid.result c.close-closed.ensures.values.2 (ap (λ l. get_elem? (slots_items l) place) (sym was.0) ∙ c.word-word.ensures)
             (ap (λ l. get_elem? l place) (sym was.1) ∙ c.take-laid.ensures.value) w.if-word-ne-TAKEN.true in
-            let right : IfSome (Some w.in-Some.scribe) (IsRight c.self.inside.table.shared.key.value) = subst (λ (x : Option Scribe). IfSome x (IsRight c.self.inside.table.shared.key.value)) w.in-Some.is left in
-            rw w.scribes-is (put_behind _ (is_ok w.push.result) _ _ w.in-Some.scribe w.push.ensures.items was.5 (subst (λ (s : SheafValue). IsRight s w.in-Some.scribe) (ap (λ d. d.sheaf) c.self.view_is) right))
+            let right : IfSome (Some w.in-Some.formatter) (IsRight c.self.inside.table.shared.key.value) = subst (λ (x : Option TextFormatter). IfSome x (IsRight c.self.inside.table.shared.key.value)) w.in-Some.is left in
+            rw w.scribes-is (put_behind _ (is_ok w.push.result) _ _ w.in-Some.formatter w.push.ensures.items was.5 (subst (λ (s : SheafValue). IsRight s w.in-Some.formatter) (ap (λ d. d.sheaf) c.self.view_is) right))
         | else-word-ne-TAKEN+in-Some-1 w ↦ rw w.scribes-is was.5
         | else-word-ne-TAKEN+in-None-1 w ↦ rw w.scribes-is was.5
       ],

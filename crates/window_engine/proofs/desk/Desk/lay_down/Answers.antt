@@ -7,15 +7,15 @@ use Rattle.window_engine.proofs.desk.Desk.lay_down.Goals as goal
 
 pub fetch_or-requires : goal.fetch_or-requires
 fetch_or-requires c = (
-  c.pass.view_is ∙ (c.requires.pass ∙ sym (ap (λ d. d.table) c.self.view_is)),
+  c.ticket.view_is ∙ (c.requires.ticket ∙ sym (ap (λ d. d.table) c.self.view_is)),
   omega (arith, c.word_count.ensures, c.if-place-word_count.false),
   takes_place _ _ _ _ 1 _ none (omega (arith, c.word_count.ensures, c.if-place-word_count.false, c.self.invariant.0)),
 )
 
 pub fetch_or-requires-2 : goal.fetch_or-requires-2
 fetch_or-requires-2 c = (
-  c.exchange.ensures.0 ∙ (c.fetch_or.ensures.0 ∙ (c.pass.view_is ∙ (c.requires.pass ∙ sym (ap (λ d. d.table) c.self.view_is)))),
+  c.exchange.ensures.0 ∙ (c.fetch_or.ensures.0 ∙ (c.ticket.view_is ∙ (c.requires.ticket ∙ sym (ap (λ d. d.table) c.self.view_is)))),
   omega (arith, c.word_count.ensures, c.if-place-word_count.false),
-  lays _ _ _ _ _ _ c.args.scribe _ (omega (arith, c.word_count.ensures, c.if-place-word_count.false, c.self.invariant.0)) (ap (λ m. m.1) c.exchange.ensures.3)
-      (subst (λ (s : SheafValue). IsRight s c.args.scribe) (sym (ap (λ d. d.sheaf) c.self.view_is)) c.requires.right),
+  lays _ _ _ _ _ _ c.args.formatter _ (omega (arith, c.word_count.ensures, c.if-place-word_count.false, c.self.invariant.0)) (ap (λ m. m.1) c.exchange.ensures.3)
+      (subst (λ (s : SheafValue). IsRight s c.args.formatter) (sym (ap (λ d. d.sheaf) c.self.view_is)) c.requires.right),
 )

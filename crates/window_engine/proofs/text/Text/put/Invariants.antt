@@ -6,7 +6,7 @@ use Rattle.window_engine.proofs.text.Text.put.Given as goal
 
 abbrev pub invariant-loop-place : goal.invariant-loop-place
 invariant-loop-place g l =
-    Appends (g.S.Sink.contents l.fn.sink) (g.S.Sink.contents l.sink) (text_of l.self.scribes.items (take l.place-index l.self.order.items))
-    × (l.done ≡ length (text_of l.self.scribes.items (take l.place-index l.self.order.items)))
+    Appends (g.S.Sink.contents l.fn.sink) (g.S.Sink.contents l.sink) (text_of l.self.scribes.items (take l.place-index l.self.job.items))
+    × (l.done ≡ length (text_of l.self.scribes.items (take l.place-index l.self.job.items)))
     × (l.done ≤ l.place-index * 2 ^ 64)
     × (g.S.Sink.failures l.sink ≡ g.S.Sink.failures l.fn.sink)

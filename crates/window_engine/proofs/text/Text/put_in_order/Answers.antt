@@ -1,6 +1,6 @@
 use Rattle.std.proofs.Common.{[], ◌∷◌, All, List, ap, arith, length, length-append, subst, sym, ◌∙◌}
 use Rattle.std.proofs.lemmas.List.Elements.{All-nil, All-push}
-use Rattle.window_engine.specs.declared.scribe.Scribe.{Scribe}
+use Rattle.window_engine.specs.declared.formatter.TextFormatter.{TextFormatter}
 use Rattle.window_engine.specs.Parts.{IsInside, IsPlaceAt, text_of}
 use Rattle.window_engine.proofs.Parted.{text_up_to}
 use Rattle.window_engine.proofs.text.Text.put_in_order.Goals as goal
@@ -13,7 +13,7 @@ loop-init c =
 
 pub overflow_add-at : goal.overflow_add-at
 overflow_add-at c =
-    let is = subst (λ (ss : List Scribe). IsPlaceAt c.args.sheaf.now ss c.loop.at c.in-Some.place) c.as_slice.ensures.value c.in-Some.ensures in
+    let is = subst (λ (ss : List TextFormatter). IsPlaceAt c.args.sheaf.now ss c.loop.at c.in-Some.place) c.as_slice.ensures.value c.in-Some.ensures in
     let within = is.within in
     omega (arith, within, c.len-lines.ensures, c.len-lines.type_inv)
 
@@ -22,8 +22,8 @@ loop-preserved c =
     let was = c.loop.invariant in
     let s = c.args.sheaf.now in
     let ss = c.loop.self.scribes.items in
-    let places = c.loop.self.order.items in
-    let is : IsPlaceAt s ss c.loop.at c.in-Some.place = subst (λ (l : List Scribe). IsPlaceAt s l c.loop.at c.in-Some.place) c.as_slice.ensures.value c.in-Some.ensures in
+    let places = c.loop.self.job.items in
+    let is : IsPlaceAt s ss c.loop.at c.in-Some.place = subst (λ (l : List TextFormatter). IsPlaceAt s l c.loop.at c.in-Some.place) c.as_slice.ensures.value c.in-Some.ensures in
     let items = c.in_ok-push.ensures.items in (
       was.0,
       subst (All (IsInside ss)) (sym items) (All-push (IsInside ss) places c.in-Some.place was.1 is.inside),

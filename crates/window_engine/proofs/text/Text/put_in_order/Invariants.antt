@@ -8,7 +8,7 @@ use Rattle.window_engine.proofs.text.Text.put_in_order.Given as goal
 abbrev pub invariant-loop : goal.invariant-loop
 invariant-loop l =
     AreRight l.sheaf l.self.scribes.items
-    × All (IsInside l.self.scribes.items) l.self.order.items
-    × (length l.self.order.items ≤ l.counter)
+    × All (IsInside l.self.scribes.items) l.self.job.items
+    × (length l.self.job.items ≤ l.counter)
     × (l.at ≤ length (merged l.sheaf).lines)
-    × (text_of l.self.scribes.items l.self.order.items ≡ text_from l.sheaf.first (take l.at (merged l.sheaf).lines))
+    × (text_of l.self.scribes.items l.self.job.items ≡ text_from l.sheaf.first (take l.at (merged l.sheaf).lines))

@@ -1,0 +1,5 @@
+use Rattle.debugger.proofs.Faults.{full_from_step}
+use Rattle.debugger.proofs.course.WindowedNet.into_net_at.Goals as goal
+
+pub returns-in-Err-clause-full : goal.returns-in-Err-clause-full
+returns-in-Err-clause-full c = full_from_step c.into.result c.in-Err.fault c.into.ensures c.in-Err.ensures.full

@@ -1,0 +1,7 @@
+use Rattle.debugger.proofs.Alone.{moves_on}
+use Rattle.debugger.proofs.course.WindowedNet.window.Goals as goal
+
+pub returns-clause-some : goal.returns-clause-some
+returns-clause-some g c =
+    let some = c.requires.slice in
+    moves_on c.args.self.now.engine.net c.window.new.self.net c.in_ok-batch.batch _ c.args.self.now.slice c.in-Some.next (c.position-began.ensures.is_run c.requires.running) some c.saturating_add-until.ensures c.in-Some.ensures.next c.in-Some.ensures.below c.in_ok-batch.ensures.some c.in_ok-batch.ensures.ok

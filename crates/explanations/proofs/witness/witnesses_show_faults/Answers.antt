@@ -1,5 +1,0 @@
-use Rattle.explanations.proofs.Shown.{shown}
-use Rattle.explanations.proofs.witness.witnesses_show_faults.Goals as goal
-
-pub returns : goal.returns
-returns c = shown

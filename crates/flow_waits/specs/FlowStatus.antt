@@ -1,0 +1,107 @@
+-- How a flow stands, and the words that say it.
+use Rattle.std.specs.Prelude.{ℕ, ◌==◌, ◌+◌, min, Bool, nat_lt, nat_le, if◌then◌else◌, List, [], ◌∷◌, ◌++◌, codes, decimal, Option, None, Some}
+use Rattle.std.specs.Option.{option_or}
+use Rattle.sim_time.specs.declared.key.Key.{Key}
+use Rattle.reno_sender.specs.declared.fields.SenderFields.{SenderFields}
+use Rattle.reno_sender.specs.Fields.{total, flight_size}
+use Rattle.node_core.specs.declared.event.Event.{Event}
+use Rattle.node_core.specs.declared.event.Event.TheVariants.{Start, Rto, DelAck, Free, Arrive}
+use Rattle.flow_waits.specs.declared.timer.FlowTimer.{FlowTimer}
+use Rattle.flow_waits.specs.declared.timer.FlowTimer.TheVariants.{Starts, Retransmission, DelayedAcknowledgement}
+use Rattle.flow_waits.specs.declared.timer.DueTimer.{DueTimer}
+use Rattle.flow_waits.specs.declared.flow_status.FlowStatus.{FlowStatus}
+use Rattle.flow_waits.specs.declared.flow_status.FlowStatus.TheVariants.{NotStarted, Complete, Stalled, SentAll, SendsNoMore, MaySend}
+use Rattle.flow_waits.specs.Stalled.{is_unfinished}
+
+-- a number behind a text
+abbrev pub numbered : List ℕ → ℕ → List ℕ
+numbered before n = before ++ decimal n
+
+-- a number between two texts
+abbrev pub between : List ℕ → ℕ → List ℕ → List ℕ
+between before n after = numbered before n ++ after
+
+-- a timer, where it is one of a flow that is asked for
+abbrev pub timer_if : Bool → FlowTimer → Option FlowTimer
+timer_if is_own timer = if is_own then Some timer else None
+
+-- which of a flow's timers an event is, if it is one
+abbrev pub own_timer : ℕ → Event → Option FlowTimer
+own_timer flow (Start own) = timer_if (own == flow) Starts
+own_timer flow (Rto own) = timer_if (own == flow) Retransmission
+own_timer flow (DelAck own) = timer_if (own == flow) DelayedAcknowledgement
+own_timer flow (Free link) = None
+own_timer flow (Arrive packet) = None
+
+-- a timer with the moment at which it is due, in nanoseconds
+abbrev pub due_at : ℕ → Option FlowTimer → Option DueTimer
+due_at time None = None
+due_at time (Some timer) = Some (record { time = time; timer = timer })
+
+-- the timer of a flow that is due first
+abbrev pub first_timer : ℕ → List (Key × Event) → Option DueTimer
+first_timer flow [] = None
+first_timer flow (entry ∷ pending) = option_or (due_at entry.0.time (own_timer flow entry.1)) (first_timer flow pending)
+
+-- the bytes that may be in flight: the least of the congestion window and the receiver's window (RFC 5681 section 3.1)
+abbrev pub window : SenderFields → ℕ
+window f = min f.cwnd f.rwnd
+
+-- the bytes in flight with one more segment
+abbrev pub with_next : SenderFields → ℕ
+with_next f = flight_size f + f.mss
+
+-- of a flow that was started and is not complete, with packets in the net: one more segment fits where the window holds it and what is in flight
+abbrev pub sending_status : SenderFields → FlowStatus
+sending_status f =
+    if f.nxt == total f then SentAll
+    else (if nat_lt (window f) (with_next f) then SendsNoMore else MaySend)
+
+-- of a flow that was started, by whether packets of it wait or are under way
+abbrev pub started_status : Bool → SenderFields → FlowStatus
+started_status packets f =
+    if is_unfinished f then (if packets then sending_status f else Stalled) else Complete
+
+-- of any flow, by when it starts, where that is still to come
+abbrev pub flow_status_of : Option ℕ → Bool → SenderFields → FlowStatus
+flow_status_of (Some time) packets f = NotStarted time
+flow_status_of None packets f = started_status packets f
+
+-- what wakes a flow that is stalled
+abbrev pub timer_pairs : FlowTimer → List ℕ
+timer_pairs Starts = codes "its start"
+timer_pairs Retransmission = codes "its retransmission timer"
+timer_pairs DelayedAcknowledgement = codes "its delayed acknowledgement"
+
+abbrev pub awaited_text : Option DueTimer → List ℕ
+awaited_text None = codes "nothing goes on with it\n"
+awaited_text (Some due) = timer_pairs due.timer ++ between (codes " is due at ") due.time (codes " ns\n")
+
+abbrev pub stalled_text : SenderFields → Option DueTimer → List ℕ
+stalled_text f timer = between (codes " is stalled: ") f.dups (codes " duplicate acknowledgements, and ") ++ awaited_text timer
+
+abbrev pub sent_text : SenderFields → List ℕ
+sent_text f = numbered (codes " has sent all ") (total f) ++ between (codes " bytes: ") f.una (codes " are acknowledged\n")
+
+-- the bytes that are sent and not acknowledged, and those of one more segment
+abbrev pub flight_text : List ℕ → SenderFields → List ℕ
+flight_text before f = numbered before (flight_size f) ++ numbered (codes " bytes in flight, a segment of ") f.mss
+
+-- the window that is the least, in bytes: the congestion window, or the receiver's
+abbrev pub window_text : SenderFields → List ℕ
+window_text f = if nat_le f.cwnd f.rwnd then between (codes ", cwnd ") f.cwnd (codes "\n") else between (codes ", rwnd ") f.rwnd (codes "\n")
+
+abbrev pub full_text : SenderFields → List ℕ
+full_text f = flight_text (codes " sends no more: ") f ++ window_text f
+
+abbrev pub open_text : SenderFields → List ℕ
+open_text f = flight_text (codes " may send at its next acknowledgement: ") f ++ between (codes ", cwnd ") f.cwnd (codes "\n")
+
+-- how a flow stands; of one that is stalled also which timer is due first
+abbrev pub flow_status_text : SenderFields → Option DueTimer → FlowStatus → List ℕ
+flow_status_text f timer (NotStarted time) = between (codes " is not started: it starts at ") time (codes " ns\n")
+flow_status_text f timer Complete = between (codes " is complete: all ") (total f) (codes " bytes are acknowledged\n")
+flow_status_text f timer Stalled = stalled_text f timer
+flow_status_text f timer SentAll = sent_text f
+flow_status_text f timer SendsNoMore = full_text f
+flow_status_text f timer MaySend = open_text f

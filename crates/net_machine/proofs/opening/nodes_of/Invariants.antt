@@ -1,7 +1,0 @@
-use Rattle.std.proofs.Common.{◌≡◌, take}
-use Rattle.net_machine.specs.Nodes.{opening_nodes}
-use Rattle.net_machine.proofs.opening.nodes_of.Given as goal
-
--- the nodes so far are the scenario's
-abbrev pub invariant-loop-number : goal.invariant-loop-number
-invariant-loop-number l = l.nodes.items ≡ take l.number (opening_nodes l.scenario)

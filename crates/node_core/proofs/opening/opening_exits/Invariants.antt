@@ -1,7 +1,0 @@
-use Rattle.std.proofs.Common.{◌≡◌, map, take}
-use Rattle.node_core.specs.Opening.{exits_of}
-use Rattle.node_core.proofs.opening.opening_exits.Given as goal
-
--- the exits of each flow so far
-abbrev pub invariant-loop-flow : goal.invariant-loop-flow
-invariant-loop-flow l = l.exits.items ≡ map (exits_of l.parts l.node) (take l.flow-index l.flow-items)

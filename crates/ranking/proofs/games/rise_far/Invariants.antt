@@ -1,9 +1,0 @@
-use Rattle.ranking.specs.Replayed.{IsRising}
-use Rattle.ranking.proofs.games.rise_far.Given as goal
-
--- the games below this node are played, and none of those above it is
-abbrev pub invariant-loop-climb : goal.invariant-loop-climb
-invariant-loop-climb l = IsRising l.leaves l.winners l.climb.at l.climb.first l.climb.moment
-
-abbrev pub decreases-loop-climb : goal.decreases-loop-climb
-decreases-loop-climb l = l.climb.at

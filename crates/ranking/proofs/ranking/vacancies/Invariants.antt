@@ -1,6 +1,0 @@
-use Rattle.std.proofs.Common.{◌≡◌, ℕ, ◌<◌, length}
-use Rattle.ranking.specs.Tournament.{IsVacantAt}
-use Rattle.ranking.proofs.ranking.vacancies.Given as goal
-
-abbrev pub invariant-loop-place : goal.invariant-loop-place
-invariant-loop-place l = record { size : length l.leaves.items ≡ l.place; vacant : (p : ℕ) → p < l.place → IsVacantAt l.leaves.items p }

@@ -1,7 +1,0 @@
-use Rattle.std.proofs.Common.{◌≡◌, ℕ, ◌<◌, length, false}
-use Rattle.std.specs.Prelude.{slice_index}
-use Rattle.ranking.specs.Tournament.{moment_of}
-use Rattle.ranking.proofs.ranking.vacant_moments.Given as goal
-
-abbrev pub invariant-loop-place : goal.invariant-loop-place
-invariant-loop-place l = record { size : length l.moments.items ≡ l.place; vacant : (p : ℕ) → p < l.place → slice_index l.moments.items p ≡ moment_of 18446744073709551615 0 p false }

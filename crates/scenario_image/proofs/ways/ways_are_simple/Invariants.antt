@@ -1,6 +1,0 @@
-use Rattle.scenario_image.specs.Ways.{IsSimple}
-use Rattle.scenario_image.proofs.Courses.{EachWayBefore}
-use Rattle.scenario_image.proofs.ways.ways_are_simple.Given as goal
-
-abbrev pub invariant-loop-flow : goal.invariant-loop-flow
-invariant-loop-flow l = EachWayBefore l.parts l.flow-index (IsSimple l.parts)

@@ -1,0 +1,12 @@
+pub mod Gathered
+pub mod InOrder
+pub mod Maps
+pub mod Moments
+pub mod Replays
+pub mod Winners
+pub mod Rising
+pub mod Timed
+pub mod Climbing
+pub mod Searched
+pub mod Reported
+pub mod Soonest
