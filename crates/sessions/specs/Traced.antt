@@ -4,7 +4,7 @@ use Rattle.std.proofs.Common.{sym, subst}
 use Rattle.node_core.specs.TraceLine.{TraceLine}
 use Rattle.table_run.specs.State.{State, run}
 use Rattle.net_machine.specs.Run.{Reached}
-use Rattle.window_engine.proofs.Bytes.{appends_nothing}
+use Rattle.window_text.proofs.Bytes.{appends_nothing}
 use Rattle.sessions.specs.declared.fault.SessionFault.{SessionFault}
 use Rattle.sessions.specs.declared.fault.SessionFault.TheVariants.{NoMemory, WriteFailed}
 use Rattle.sessions.specs.Written.{Writes, WritesBefore, IsBeginningOf}

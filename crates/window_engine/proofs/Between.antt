@@ -18,7 +18,7 @@ use Rattle.window_engine.specs.Edges.{IsAtEdge, edge_of, reached_in}
 use Rattle.window_engine.specs.Engines.{EngineValue, GoesOn, NoneBelow, Commits, window_end_by}
 use Rattle.window_engine.specs.declared.fault.EngineFault.TheVariants.{Failed}
 use Rattle.window_engine.proofs.Whole.{whole_none}
-use Rattle.window_engine.proofs.Bytes.{appends_nothing}
+use Rattle.window_text.proofs.Bytes.{appends_nothing}
 use Rattle.window_engine.proofs.Edge.{edge_is}
 use Rattle.window_engine.proofs.Resting.{end_is}
 

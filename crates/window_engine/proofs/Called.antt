@@ -14,16 +14,16 @@ use Rattle.window_engine.specs.declared.course.WriteFault.TheVariants.{Workers, 
 use Rattle.window_engine.specs.declared.fault.EngineFault.{EngineFault}
 use Rattle.window_engine.specs.declared.fault.EngineFault.TheVariants.{CountFull, NoMemory, Sink as SinkFailed}
 use Rattle.window_engine.specs.declared.fault.Stop.{Stop}
-use Rattle.window_engine.specs.declared.pending_text.PendingText.{PendingText}
+use Rattle.window_text.specs.declared.pending_text.PendingText.{PendingText}
 use Rattle.window_engine.specs.Courses.{AtRest, AwaitsSink, HasGroups, IsBehind, IsOwing, IsWriting, HasEnded, Broke, CanTell, WindowsRest, Wrote, fails_after, reported_as}
 use Rattle.window_engine.specs.Edges.{IsAtEdge, edge_of, reached_in}
 use Rattle.window_engine.specs.Engines.{IsStop}
-use Rattle.window_engine.specs.Failures.{counted}
+use Rattle.window_text.specs.Failures.{counted}
 use Rattle.window_engine.specs.Outcomes.{IsOfWorkers}
-use Rattle.window_engine.specs.PendingText.{Fares, Owes, text_pending}
-use Rattle.window_engine.specs.Parts.{IsInside, IsReady, text_of}
-use Rattle.window_engine.specs.Puts.{TakesFirst}
-use Rattle.window_engine.specs.Text.{text_from}
+use Rattle.window_text.specs.PendingText.{Fares, Owes, text_pending}
+use Rattle.window_text.specs.Parts.{IsInside, IsReady, text_of}
+use Rattle.window_text.specs.Puts.{TakesFirst}
+use Rattle.window_text.specs.Text.{text_from}
 use Rattle.window_engine.proofs.Grouped.{groups_kept}
 use Rattle.window_engine.proofs.TooMany.{reported_full, workers_full}
 use Rattle.window_engine.proofs.Unwritten.{all_committed, behind_by_none, few_before, full_before, no_line, wrote_to_edge}
@@ -64,13 +64,13 @@ module _ (until : ℕ) (began c : Course) (s : SheafValue) (written : ℕ) (know
       }
 
 -- a text of no line is owed
-pub awaits_nothing : (until : ℕ) (began c : Course) (pending_text : PendingText) (written : ℕ) (known now : Option (List ℕ)) (f g : ℕ) → IsOwing until began c [] 0 written known now → pending_text.text.job.items ≡ [] → pending_text.lines ≡ 0 → pending_text.put ≡ None → g ≡ f
+pub awaits_nothing : (until : ℕ) (began c : Course) (pending_text : PendingText) (written : ℕ) (known now : Option (List ℕ)) (f g : ℕ) → IsOwing until began c [] 0 written known now → pending_text.text.places.items ≡ [] → pending_text.lines ≡ 0 → pending_text.put ≡ None → g ≡ f
     → AwaitsSink until began c pending_text written known now f g
 awaits_nothing until began c pending_text written known now f g o empty lines waits same = record {
   owing =
-      subst (λ (t : List ℕ). IsOwing until began c t pending_text.lines written known now) (sym (ap (text_of pending_text.text.scribes.items) empty))
+      subst (λ (t : List ℕ). IsOwing until began c t pending_text.lines written known now) (sym (ap (text_of pending_text.text.formatters.items) empty))
       (subst (λ (n : ℕ). IsOwing until began c [] n written known now) (sym lines) o);
-  ready = record { inside = subst (All (IsInside pending_text.text.scribes.items)) (sym empty) (All-nil (IsInside pending_text.text.scribes.items)); few = (let e = ap length empty in omega (arith, e)) };
+  ready = record { inside = subst (All (IsInside pending_text.text.formatters.items)) (sym empty) (All-nil (IsInside pending_text.text.formatters.items)); few = (let e = ap length empty in omega (arith, e)) };
   waits = waits;
   failures_are = same;
 }

@@ -1,10 +1,7 @@
 pub mod Gathering
 pub mod Full
-pub mod Bytes
 pub mod Edge
 pub mod Soonest
-pub mod Numbered
-pub mod Parted
 pub mod Laying
 pub mod Resting
 pub mod Whole
@@ -17,6 +14,4 @@ pub mod Grouped
 pub mod Called
 pub mod OneByOne
 pub mod Meant
-pub mod Desks
-pub mod DeskSent
 pub mod PoolSent

@@ -28,9 +28,9 @@ use Rattle.window_engine.specs.declared.granularity.Granularity.{Granularity}
 use Rattle.window_engine.specs.Courses.{AtRest, HasEnded, IsApart, WindowsRest, RunsIn, Broke, CanTell, Wrote, WroteFirst, fails_after, reported_as}
 use Rattle.window_engine.specs.Edges.{IsAtEdge, edge_of, reached_in}
 use Rattle.window_engine.specs.Engines.{GoesOn}
-use Rattle.window_engine.specs.Puts.{TakesFirst}
+use Rattle.window_text.specs.Puts.{TakesFirst}
 use Rattle.window_engine.specs.Singly.{CanStop, HasGone, IsBefore, IsGoing, IsPaged, key_of}
-use Rattle.window_engine.specs.Text.{text_from}
+use Rattle.window_text.specs.Text.{text_from}
 use Rattle.window_engine.proofs.Called.{broken_at}
 use Rattle.window_engine.proofs.Grouped.{runs_on}
 use Rattle.window_engine.proofs.TooMany.{earlier_full}

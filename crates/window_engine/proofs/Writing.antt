@@ -10,14 +10,14 @@ use Rattle.window_engine.specs.declared.fault.EngineFault.{EngineFault}
 use Rattle.window_engine.specs.declared.fault.EngineFault.TheVariants.{NoMemory, CountFull, NoWorker, Sink, Failed}
 use Rattle.window_core.specs.Windows.{AreBelow}
 use Rattle.window_engine.specs.Outcomes.{IsOfRun, IsOfWorkers}
-use Rattle.window_engine.specs.Puts.{TakesFirst}
-use Rattle.window_engine.specs.Text.{text_from}
+use Rattle.window_text.specs.Puts.{TakesFirst}
+use Rattle.window_text.specs.Text.{text_from}
 use Rattle.window_engine.specs.Engines.{GoesOn, Commits, SinkTakes, sink_failures}
 use Rattle.window_engine.specs.declared.course.WriteFault.{WriteFault}
 use Rattle.window_engine.specs.declared.course.WriteFault.TheVariants.{Workers, Sink as Failing}
 use Rattle.window_engine.specs.Courses.{CanTell, Wrote, WroteFirst, WroteTo, Broke, reported_as, fails_after}
-use Rattle.window_engine.proofs.Bytes.{appends_nothing, appends_more, take_past}
-use Rattle.window_engine.proofs.Numbered.{text_both}
+use Rattle.window_text.proofs.Bytes.{appends_nothing, appends_more, take_past}
+use Rattle.window_text.proofs.Numbered.{text_both}
 use Rattle.window_engine.proofs.Whole.{below_later, below_more, whole_none, whole_more}
 
 -- nothing was written yet

@@ -19,17 +19,17 @@ use Rattle.window_engine.specs.declared.course.WriteFault.TheVariants.{Workers, 
 use Rattle.window_engine.specs.declared.fault.EngineFault.{EngineFault}
 use Rattle.window_engine.specs.declared.fault.EngineFault.TheVariants.{Sink as SinkFailed}
 use Rattle.window_engine.specs.declared.fault.Stop.{Stop}
-use Rattle.window_engine.specs.declared.pending_text.PendingText.{PendingText}
+use Rattle.window_text.specs.declared.pending_text.PendingText.{PendingText}
 use Rattle.window_engine.specs.declared.pipeline.Stage.{Stage}
 use Rattle.window_engine.specs.declared.pipeline.Stage.TheVariants.{ToShare, Ended}
 use Rattle.window_engine.specs.Edges.{IsAtEdge, edge_of, reached_in}
 use Rattle.window_engine.specs.Engines.{AreWhole, Commits, GoesOn, IsStop, sink_failures}
-use Rattle.window_engine.specs.Failures.{counted}
+use Rattle.window_text.specs.Failures.{counted}
 use Rattle.window_engine.specs.Outcomes.{IsOfWorkers, IsRunFault}
-use Rattle.window_engine.specs.PendingText.{text_pending}
-use Rattle.window_engine.specs.Parts.{IsReady}
-use Rattle.window_engine.specs.Puts.{TakesFirst}
-use Rattle.window_engine.specs.Text.{text_from}
+use Rattle.window_text.specs.PendingText.{text_pending}
+use Rattle.window_text.specs.Parts.{IsReady}
+use Rattle.window_text.specs.Puts.{TakesFirst}
+use Rattle.window_text.specs.Text.{text_from}
 
 -- the window is at its edge, and all its events are committed
 pub record AtRest (c : Course) : Type 0 where

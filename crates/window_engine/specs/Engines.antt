@@ -12,9 +12,9 @@ use Rattle.window_engine.specs.declared.fault.EngineFault.{EngineFault}
 use Rattle.window_engine.specs.declared.fault.EngineFault.TheVariants.{Sink}
 use Rattle.window_engine.specs.declared.fault.Stop.{Stop}
 use Rattle.window_engine.specs.declared.fault.Stop.TheVariants.{End, Until}
-use Rattle.window_engine.specs.Failures.{counted}
-use Rattle.window_engine.specs.Puts.{TakesFirst}
-use Rattle.window_engine.specs.Text.{text_from}
+use Rattle.window_text.specs.Failures.{counted}
+use Rattle.window_text.specs.Puts.{TakesFirst}
+use Rattle.window_text.specs.Text.{text_from}
 
 -- the group of each node; the least delay of a link between two groups, where there is one; the net at the edge of the last window, with the number of events that were committed; whether a call had a fault
 pub record EngineValue : Type 0 where

@@ -1,12 +1,5 @@
 pub mod Sweeps
 pub mod Outcomes
-pub mod Failures
-pub mod Over
-pub mod Puts
-pub mod Text
-pub mod Parts
-pub mod PendingText
-pub mod Desks
 pub mod Engines
 pub mod EngineCode
 pub mod Edges
@@ -14,3 +7,9 @@ pub mod Laid
 pub mod Courses
 pub mod Singly
 pub mod EngineOf
+pub use Rattle.window_text.specs.Failures
+pub use Rattle.window_text.specs.Over
+pub use Rattle.window_text.specs.Puts
+pub use Rattle.window_text.specs.Text
+pub use Rattle.window_text.specs.Parts
+pub use Rattle.window_text.specs.PendingText

@@ -9,7 +9,7 @@ use Rattle.table_run.specs.State.{State, due, run}
 use Rattle.net_machine.specs.Run.{Reached}
 use Rattle.window_core.specs.Windows.{AreBelow}
 use Rattle.window_engine.specs.Engines.{AreWhole, NoneBelow}
-use Rattle.window_engine.specs.Text.{text_from}
+use Rattle.window_text.specs.Text.{text_from}
 
 abbrev pub key_of : Option (Key × Event) → Option Key
 key_of o = option_map (λ (entry : Key × Event). entry.0) o

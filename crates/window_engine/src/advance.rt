@@ -11,24 +11,23 @@ ghost use Rattle.window_core.specs.Windows.{AreBelow};
 ghost use Rattle.window_engine.specs.Edges.{IsAtEdge, StaysNet, edge_of, reached_in};
 ghost use Rattle.window_engine.specs.Engines.{GoesOn, IsNext, NoneBelow};
 ghost use Rattle.window_engine.specs.Outcomes.{IsWorkersFault};
-ghost use Rattle.window_engine.specs.PendingText.{Owes};
-ghost use Rattle.window_engine.specs.Parts.{AreRight};
+ghost use Rattle.window_text.specs.PendingText.{Owes};
+ghost use Rattle.window_text.specs.Parts.{AreRight};
 ghost use Rattle.window_engine.specs.Laid.{laid_for, HasRun, HasRunOr, HasFullGroup, IsDoneBy};
 
+use crate::call::Writing;
 use crate::fault::{EngineFault, group_fault};
-use crate::formatter::TextFormatter;
 use crate::gate::Gate;
-use crate::job::Job;
 use crate::lines::LineTarget;
-use crate::pending_text::PendingText;
 use crate::pieces::run_pieces;
-use crate::sink::Sink;
+use crate::window_job::WindowJob;
+use crate::window_workers::WindowWorkers;
 use sim_time::Time;
 use std::alloc::{AllocError, Global};
 use std::snapshot::Snapshot;
 use std::sync::Wait;
-use thread_pool::ThreadPool;
 use window_core::{Group, GroupFault, Sheaf, Window};
+use window_text::Sink;
 use work_board::Piece;
 
 /// A piece for each group.
@@ -79,52 +78,35 @@ fn run_in_turn(gate: &Gate, window: &mut Window) -> Result<(), EngineFault>
 }
 
 /// Takes the groups out, has workers, the calling thread and threads of a pool, run them up to the window's
-/// end and then make the text of a sheaf's lines, and puts them back; the text of the window before is
-/// written meanwhile. After a fault they are out.
+/// end and then make the text of a sheaf's lines, and puts them back; the pending text is written meanwhile. After a
+/// fault they are out.
 pub(crate) fn run_apart<R: Wait, S: Sink>(
     rt: &R,
-    pool: &ThreadPool<Job>,
-    alloc: Global,
-    workers: usize,
-    gate: &Gate,
+    job: &WindowJob,
     window: &mut Window,
     sheaf: &mut Sheaf,
-    scribes: &mut Vec<TextFormatter>,
-    pending_text: &mut PendingText,
-    before: &Snapshot<S>,
+    writing: &mut Writing<S>,
     sink: &mut S,
 ) -> Result<(), EngineFault>
     requires inside { window.old.out ≡ false }
     requires least { 0 < length window.old.groups }
     requires few { length window.old.groups ≤ 64 }
     requires ends { All (λ (g : GroupValue). window.old.until ≤ g.until) window.old.groups }
-    requires workers { (1 < workers) × (workers ≤ 64) }
-    requires right { AreRight sheaf.old scribes.old.items }
+    requires right { AreRight sheaf.old writing.old.text.formatters.items }
     requires fits { sheaf.old.first + length (merged sheaf.old).lines < 2 ^ 63 }
-    requires owes { Owes pending_text.old (S.contents before.now.value) (S.contents sink.old) (S.failures before.now.value) (S.failures sink.old) }
+    requires owes { Owes writing.old.pending_text (S.contents writing.old.before.value) (S.contents sink.old) (S.failures writing.old.before.value) (S.failures sink.old) }
     ensures done { OnOk result (HasRun window.old window.new) }
     ensures stays { StaysNet window.old window.new }
-    ensures fault { IfErr result (IsWorkersFault workers (HasFullGroup window.old)) }
+    ensures fault { IfErr result (IsWorkersFault job.now.workers (HasFullGroup window.old)) }
     ensures sheaf { sheaf.new ≡ sheaf.old }
-    ensures right { AreRight sheaf.new scribes.new.items }
-    ensures owes { Owes pending_text.new (S.contents before.now.value) (S.contents sink.new) (S.failures before.now.value) (S.failures sink.new) }
-    ensures same { pending_text.new ≡ record pending_text.old { put = pending_text.new.put } }
+    ensures right { AreRight sheaf.new writing.new.text.formatters.items }
+    ensures owes { Owes writing.new.pending_text (S.contents writing.new.before.value) (S.contents sink.new) (S.failures writing.new.before.value) (S.failures sink.new) }
+    ensures pending { writing.new.pending_text ≡ record writing.old.pending_text { put = writing.new.pending_text.put } }
+    ensures rest { writing.new ≡ record writing.old { text = writing.new.text; pending_text = writing.new.pending_text } }
 {
     let end = window.end();
-    let pieces = pieces_of(alloc, window.take_groups(), end)?;
-    let groups = run_pieces(
-        rt,
-        pool,
-        alloc,
-        workers,
-        gate,
-        pieces,
-        sheaf,
-        scribes,
-        pending_text,
-        before,
-        sink,
-    )?;
+    let pieces = pieces_of(job.alloc, window.take_groups(), end)?;
+    let groups = run_pieces(rt, job, pieces, sheaf, writing, sink)?;
     window.put_groups(groups);
     Ok(())
 }
@@ -162,8 +144,7 @@ fn run_rest<L: LineTarget>(
 /// then the calling thread runs it, and it is turned. A window with an event in it has a line. After a
 /// fault groups may be out, and there may be no lines. How the window was before is for clauses alone.
 pub(crate) fn finish<L: LineTarget>(
-    gate: &Gate,
-    _workers: usize,
+    workers: &WindowWorkers,
     ran: Result<bool, EngineFault>,
     until: Time,
     before: &Snapshot<Window>,
@@ -173,20 +154,19 @@ pub(crate) fn finish<L: LineTarget>(
     requires edge { IsAtEdge before.now.value }
     requires is_window { IsWindow before.now.value }
     requires few { groups_of before.now.value.entries ≤ 64 }
-    requires workers { 0 < _workers }
     requires ran { IfOk ran (λ ran. HasRunOr ran until before.now.value window.old) }
     requires stays { StaysNet before.now.value window.old }
-    requires fault { IfErr ran (IsWorkersFault _workers (HasTooMany (reached_in before.now.value))) }
+    requires fault { IfErr ran (IsWorkersFault workers.now.workers (HasTooMany (reached_in before.now.value))) }
     ensures edge { OnOk result (IsAtEdge window.new) }
     ensures gone { OnOk result (GoesOn (reached_in before.now.value) (L.reported lines.new) (reached_in window.new)) }
     ensures none_left { OnOk result (NoneBelow (min before.now.value.until until) (edge_of window.new)) }
     ensures early { OnOk result (AreBelow (min before.now.value.until until) (L.reported lines.new).lines) }
     ensures some { OnOk result ((time : ℕ) → IsNext until (edge_of before.now.value) time → 0 < length (L.reported lines.new).lines) }
     ensures stays { StaysNet before.now.value window.new }
-    ensures fault { IfErr result (IsWorkersFault _workers (HasTooMany (reached_in before.now.value))) }
+    ensures fault { IfErr result (IsWorkersFault workers.now.workers (HasTooMany (reached_in before.now.value))) }
 {
     let ran = ran?;
-    run_rest(gate, ran, until, before, window, lines)?;
+    run_rest(workers.gate, ran, until, before, window, lines)?;
     lines.turn(window)?;
     Ok(())
 }

@@ -9,11 +9,12 @@ ghost use Rattle.window_engine.specs.Edges.{IsAtEdge, StaysNet, edge_of, reached
 ghost use Rattle.window_engine.specs.Engines.{Commits, GoesOn, IsNext, IsStop, next_time, sink_failures};
 ghost use Rattle.window_engine.specs.Courses.{AtRest, HasGroups, CanTell, Wrote, Broke, fails_after, reported_as};
 ghost use Rattle.window_engine.specs.Outcomes.{IsOfRun};
-ghost use Rattle.window_engine.specs.Parts.{IsWhole};
+ghost use Rattle.window_text.specs.Parts.{IsWhole};
 
 use crate::fault::{EngineFault, Stop};
 use crate::granularity::{Granularity, Turnout};
 use crate::slice::{aim, slice_after};
+use crate::window_workers::WindowWorkers;
 use sim_time::Time;
 use std::alloc::Global;
 use window_core::{Partition, Sheaf, Window};
@@ -56,6 +57,8 @@ pub(crate) struct WindowPlan {
     pub span: Time,
     /// Whether it ends by the lookahead, and not sooner.
     pub whole: bool,
+    /// How many workers are to run it.
+    pub workers: usize,
 }
 
 /// Why a window was not run, or not written.
@@ -112,22 +115,30 @@ impl Course {
 
     /// The next window, which ends by a moment at the latest and is no longer than a slice, where an event
     /// is left below the moment; else why windows end.
-    pub(crate) fn plan(&self, until: Time, slice: Time) -> Result<WindowPlan, Stop>
+    pub(crate) fn plan(
+        &self,
+        until: Time,
+        slice: Time,
+        workers: &WindowWorkers,
+    ) -> Result<WindowPlan, Stop>
         requires edge { IsAtEdge self.now.window }
         requires end { self.now.end ≡ self.now.window.end }
         requires slice { 1 ≤ slice }
         ensures next { IfOk result (λ plan. IsNext plan.bound (edge_of self.now.window) plan.next) }
         ensures bound { IfOk result (λ plan. plan.bound ≤ until) }
+        ensures workers { IfOk result (λ plan. (0 < plan.workers) × (plan.workers ≤ workers.now.workers)) }
         ensures stop { IfErr result (IsStop until (edge_of self.now.window)) }
     {
         let next = self.next_below(until)?;
         let bound = until.min(next.saturating_add(slice));
         let end = self.window.end();
+        let (shared, lines) = (self.sheaf.beside_most(), self.sheaf.len());
         Ok(WindowPlan {
             next,
             bound,
             span: end.min(bound).saturating_sub(next),
             whole: end <= bound,
+            workers: workers.hands(&self.window, shared, lines, bound),
         })
     }
 

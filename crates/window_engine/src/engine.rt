@@ -19,7 +19,6 @@ use crate::fault::{EngineFault, Stop};
 use crate::gate::Gate;
 use crate::granularity::Granularity;
 use crate::several::Hands;
-use crate::sink::Sink;
 use crate::window_workers::WindowWorkers;
 use net_machine::Net;
 use scenario_image::Scenario;
@@ -28,6 +27,7 @@ use std::alloc::{AllocError, Global};
 use std::marker::Model;
 use std::snapshot::Snapshot;
 use window_core::{Batch, Partition, Sheaf, Window};
+use window_text::Sink;
 
 /// A scenario's run by windows on many workers. After a fault each call answers `Failed`.
 #[derive(Drop)]
@@ -57,16 +57,16 @@ impl Model for Engine {
 
 /// The numbers of the nodes, those of the first group before those of the second, and so on.
 fn by_groups(alloc: Global, partition: &Partition) -> Result<Vec<u16>, AllocError> {
-    let mut job = Vec::new(alloc);
+    let mut order = Vec::new(alloc);
     for group in 0..partition.groups() {
         for node in 0..partition.nodes() {
             match u16::try_from(node) {
-                Ok(number) if partition.group(node) == group => job.push(number)?,
+                Ok(number) if partition.group(node) == group => order.push(number)?,
                 _ => {}
             }
         }
     }
-    Ok(job)
+    Ok(order)
 }
 
 /// The net of a scenario before anything is sent. What the nodes of a group keep stands together in memory, so that
@@ -74,8 +74,8 @@ fn by_groups(alloc: Global, partition: &Partition) -> Result<Vec<u16>, AllocErro
 fn initial_net(alloc: Global, scenario: &Scenario, partition: &Partition) -> Result<Net, AllocError>
     ensures state { IfOk result (λ net. net ≡ record { state = initial scenario.now; position = 0 }) }
 {
-    let job = by_groups(alloc, partition)?;
-    Net::new(alloc, scenario)?.copy_in(&job)
+    let order = by_groups(alloc, partition)?;
+    Net::new(alloc, scenario)?.copy_in(&order)
 }
 
 impl Engine {
@@ -196,17 +196,15 @@ impl Engine {
             processors: 0,
             alloc,
         };
-        let mut none = Sheaf::new(alloc, 1);
-        let mut scribes = Vec::new(alloc);
         let window = &mut self.course.window;
         let many = window_workers.hands(window, self.shared, 0, until);
         let ran = if many == 1 {
             Ok(false)
         } else {
-            window_workers.run_once(hands, many, until, window, &mut none, &mut scribes)
+            window_workers.run_once(hands, many, until, window)
         };
         let mut batch = Batch::new(alloc, 0);
-        match finish(gate, workers, ran, until, &before, window, &mut batch) {
+        match finish(&window_workers, ran, until, &before, window, &mut batch) {
             Ok(()) => {}
             Err(fault) => {
                 self.failed = true;
@@ -254,7 +252,7 @@ impl Engine {
         };
         let outcome = self
             .course
-            .write_together(hands, &window_workers, until, sink);
+            .write_together(hands, window_workers, until, sink);
         self.failed = outcome.is_err();
         outcome
     }

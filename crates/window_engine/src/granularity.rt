@@ -4,6 +4,7 @@
 ghost use Rattle.std.specs.Prelude.{◌≡◌};
 
 use crate::slice::WORTH;
+use window_text::TextFormatter;
 
 /// Over how many windows it is asked how many events they hold.
 const LOOK: u64 = 32;
@@ -34,6 +35,16 @@ impl Turnout {
     /// That of a window which threads did not share.
     pub(crate) fn none() -> Turnout {
         Turnout { most: 0, all: 0 }
+    }
+
+    /// That of a window whose groups threads ran before they made these texts, of the window before.
+    pub(crate) fn of(formatters: &[TextFormatter]) -> Turnout {
+        let mut turnout = Turnout::none();
+        for formatter in formatters {
+            turnout.most = turnout.most.max(formatter.ran);
+            turnout.all = turnout.all.saturating_add(formatter.ran);
+        }
+        turnout
     }
 }
 
@@ -143,7 +154,7 @@ impl Granularity {
     }
 
     /// Counts so many events that were run one after another, and goes on by windows where they are enough.
-    pub(crate) fn ticket(&mut self, events: u64) {
+    pub(crate) fn count_singly(&mut self, events: u64) {
         self.events = self.events.saturating_add(events);
         if self.events >= self.stretch {
             self.go_by_windows();

@@ -3,18 +3,16 @@ ghost use Rattle.std.specs.Prelude.{◌≡◌, ◌+◌, ◌<◌, ◌^◌, length
 ghost use Rattle.std.specs.Arc.{arc_value};
 ghost use Rattle.window_core.specs.Sheaves.{merged};
 ghost use Rattle.work_board.specs.Seats.{IsOf, HoldsNothing};
-ghost use Rattle.window_engine.specs.Desks.{IsTicketOf};
+ghost use Rattle.window_text.specs.Desks.{IsTicketOf};
 ghost use Rattle.window_engine.specs.Sweeps.{IsSwept};
 
-use crate::desk::{Desk, Ticket};
-use crate::formatter::TextFormatter;
 use crate::gate::Gate;
-use crate::parts::Parts;
 use crate::work::work;
 use std::alloc::Global;
 use std::marker::Model;
 use std::sync::Arc;
 use window_core::Sheaf;
+use window_text::{Desk, Parts, TextFormatter, Ticket};
 use work_board::{Board, Seat};
 
 /// What the workers of a window share.
@@ -101,7 +99,7 @@ impl Model for Job {
     ghost use Rattle.std.specs.Prelude.{ℕ};
     ghost use Rattle.std.specs.Arc.{arc_value};
     ghost use Rattle.work_board.specs.Seats.{IsOf, HoldsNothing};
-    ghost use Rattle.window_engine.specs.Desks.{IsTicketOf};
+    ghost use Rattle.window_text.specs.Desks.{IsTicketOf};
 
     ghost Value = { ℕ };
 

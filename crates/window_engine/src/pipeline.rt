@@ -6,47 +6,34 @@
 ghost use Rattle.std.specs.Prelude.{◌≡◌, ◌+◌, ◌<◌, ◌≤◌, ◌^◌, ℕ, [], length, true, Err, None, IfOk, IfErr, OnOk};
 ghost use Rattle.net_machine.specs.Run.{Reached};
 ghost use Rattle.window_core.specs.Full.{HasTooMany};
+ghost use Rattle.window_core.specs.Partition.{groups_of};
 ghost use Rattle.window_core.specs.Sheaves.{merged};
 ghost use Rattle.window_core.specs.Window.{IsWindow};
 ghost use Rattle.window_core.specs.Windows.{AreBelow};
 ghost use Rattle.window_engine.specs.Courses.{AtRest, AwaitsSink, HasGroups, IsOwing, IsWriting, HasEnded, WindowsRest, StandsAt, Wrote, Broke, fails_after};
-ghost use Rattle.window_engine.specs.Edges.{StaysNet, edge_of, reached_in};
+ghost use Rattle.window_engine.specs.Edges.{IsAtEdge, StaysNet, edge_of, reached_in};
 ghost use Rattle.window_engine.specs.Engines.{GoesOn, IsNext, IsStop};
 ghost use Rattle.window_engine.specs.Laid.{HasRunOr};
 ghost use Rattle.window_engine.specs.Outcomes.{IsWorkersFault};
-ghost use Rattle.window_engine.specs.PendingText.{Owes, text_pending};
-ghost use Rattle.window_engine.specs.Parts.{AreRight, IsReady, IsWhole};
+ghost use Rattle.window_text.specs.PendingText.{Owes, text_pending};
+ghost use Rattle.window_text.specs.Parts.{AreRight, IsReady, IsWhole};
 
 use crate::advance::finish;
+use crate::call::{Call, Writing};
 use crate::course::{Course, WindowPlan, WriteFault, reported};
 use crate::fault::{EngineFault, Stop};
-use crate::gate::Gate;
+use crate::granularity::Turnout;
 use crate::job::Job;
-use crate::pending_text::PendingText;
 use crate::several::Hands;
-use crate::sink::Sink;
-use crate::slice::FIRST_SLICE;
-use crate::text::Text;
+use crate::window_job::WindowJob;
 use crate::window_workers::{WindowWorkers, lacks_threads};
 use sim_time::Time;
 use std::alloc::AllocError;
 use std::mem::swap;
 use std::snapshot::Snapshot;
 use thread_pool::ThreadPool;
-use window_core::{Sheaf, Window};
-
-/// How far a call's windows are.
-#[derive(Drop)]
-struct Writing {
-    /// Memory for the text of the last window's lines.
-    text: Text,
-    /// The text of the window before the last.
-    pending_text: PendingText,
-    /// How long the next window may be, in nanoseconds.
-    slice: Time,
-    /// How many bytes were written.
-    written: u128,
-}
+use window_core::Sheaf;
+use window_text::{Sink, Text};
 
 /// Where a call's windows stand.
 #[derive(Drop)]
@@ -55,6 +42,15 @@ enum Stage {
     ToShare,
     /// They have ended so.
     Ended(Result<Stop, EngineFault>),
+}
+
+/// Who runs windows now.
+#[derive(Drop)]
+struct Team<'a, H: Hands> {
+    /// By whose hands.
+    hands: &'a H,
+    /// The threads that wait for jobs, where some do.
+    pool: Option<&'a ThreadPool<Job>>,
 }
 
 impl Course {
@@ -86,139 +82,115 @@ impl Course {
         }
     }
 
-    /// Writes the text that is owed, where that was not done yet, and commits the events of its lines. How the
-    /// course and the sink were as the call began, the sink before any of the text was written, and the window
-    /// before it was run, is for clauses alone.
+    /// Writes the pending text, where that was not done yet, and commits the events of its lines.
     fn settle<S: Sink>(
         &mut self,
-        _workers: usize,
-        _until: Time,
-        _began: &Snapshot<Course>,
-        _known: &Snapshot<S>,
-        before: &Snapshot<S>,
-        _now: &Snapshot<Window>,
-        pending_text: &mut PendingText,
-        written: &mut u128,
+        call: &Call<S>,
+        writing: &mut Writing<S>,
         sink: &mut S,
     ) -> Result<(), EngineFault>
-        requires owing { IsOwing _until _began.now.value (record self.old { window = _now.now.value }) (text_pending pending_text.old) pending_text.old.lines written.old (S.contents _known.now.value) (S.contents before.now.value) }
-        requires owes { Owes pending_text.old (S.contents before.now.value) (S.contents sink.old) (S.failures before.now.value) (S.failures sink.old) }
-        requires failures { S.failures before.now.value ≡ S.failures _known.now.value }
-        ensures writing { OnOk result (IsWriting _until _began.now.value (record self.new { window = _now.now.value }) written.new (S.contents _known.now.value) (S.contents sink.new)) }
-        ensures failures { OnOk result (S.failures sink.new ≡ S.failures _known.now.value) }
+        requires owing { IsOwing call.now.until call.now.began.value (record self.old { window = writing.old.window.value }) (text_pending writing.old.pending_text) writing.old.pending_text.lines writing.old.written (S.contents call.now.known.value) (S.contents writing.old.before.value) }
+        requires owes { Owes writing.old.pending_text (S.contents writing.old.before.value) (S.contents sink.old) (S.failures writing.old.before.value) (S.failures sink.old) }
+        requires failures { S.failures writing.old.before.value ≡ S.failures call.now.known.value }
+        ensures writing { OnOk result (IsWriting call.now.until call.now.began.value (record self.new { window = writing.new.window.value }) writing.new.written (S.contents call.now.known.value) (S.contents sink.new)) }
+        ensures failures { OnOk result (S.failures sink.new ≡ S.failures call.now.known.value) }
         ensures rest { self.new ≡ record self.old { position = self.new.position } }
-        ensures ended { IfErr result (λ fault. HasEnded _workers _until _began.now.value self.new (Err fault) (S.contents _known.now.value) (S.contents sink.new) (S.failures _known.now.value) (S.failures sink.new)) }
+        ensures same { writing.new ≡ record writing.old { pending_text = writing.new.pending_text; written = writing.new.written } }
+        ensures ended { IfErr result (λ fault. HasEnded call.now.workers.workers call.now.until call.now.began.value self.new (Err fault) (S.contents call.now.known.value) (S.contents sink.new) (S.failures call.now.known.value) (S.failures sink.new)) }
     {
-        let put = pending_text.put(before, sink);
-        self.position += pending_text.lines;
+        let put = writing.pending_text.put(&writing.before, sink);
+        self.position += writing.pending_text.lines;
         match put {
             Ok(count) => {
-                *written += count;
+                writing.written += count;
                 Ok(())
             }
             Err(count) => Err(EngineFault::Sink {
-                written: *written + count,
+                written: writing.written + count,
             }),
         }
     }
 
-    /// Completes the text of the lines before a window, which is then owed, and ends the window, which workers
-    /// have run or the calling thread runs; the sheaf then has its lines. The answer is how long the next window may
-    /// be. Where the window can't be ended what is owed is written at once. How the course and the sink were as the call began, and the window before it was run, is
-    /// for clauses alone.
+    /// Completes the text of the lines before a window, which is then pending, and ends the window, which workers
+    /// have run or the calling thread runs; the sheaf then has its lines. Where the window can't be ended what is
+    /// pending is written at once.
     fn go_on<S: Sink>(
         &mut self,
-        gate: &Gate,
-        workers: usize,
-        _until: Time,
+        call: &Call<S>,
         plan: &WindowPlan,
         ran: Result<bool, EngineFault>,
-        _began: &Snapshot<Course>,
-        _known: &Snapshot<S>,
-        now: &Snapshot<Window>,
-        text: &mut Text,
-        pending_text: &mut PendingText,
-        written: u128,
+        writing: &mut Writing<S>,
         sink: &mut S,
-    ) -> Result<Time, EngineFault>
-        requires writing { IsWriting _until _began.now.value (record self.old { window = now.now.value }) written (S.contents _known.now.value) (S.contents sink.old) }
-        requires failures { S.failures sink.old ≡ S.failures _known.now.value }
-        requires is_window { IsWindow now.now.value }
-        requires right { AreRight self.old.sheaf text.old.scribes.items }
-        requires workers { 0 < workers }
-        requires bound { plan.now.bound ≤ _until }
-        requires ran { IfOk ran (λ ran. HasRunOr ran plan.now.bound now.now.value self.old.window) }
-        requires stays { StaysNet now.now.value self.old.window }
-        requires fault { IfErr ran (IsWorkersFault workers (HasTooMany (reached_in now.now.value))) }
+    ) -> Result<(), EngineFault>
+        requires writing { IsWriting call.now.until call.now.began.value (record self.old { window = writing.old.window.value }) writing.old.written (S.contents call.now.known.value) (S.contents sink.old) }
+        requires failures { S.failures sink.old ≡ S.failures call.now.known.value }
+        requires is_window { IsWindow writing.old.window.value }
+        requires right { AreRight self.old.sheaf writing.old.text.formatters.items }
+        requires bound { plan.now.bound ≤ call.now.until }
+        requires ran { IfOk ran (λ ran. HasRunOr ran plan.now.bound writing.old.window.value self.old.window) }
+        requires stays { StaysNet writing.old.window.value self.old.window }
+        requires fault { IfErr ran (IsWorkersFault call.now.workers.workers (HasTooMany (reached_in writing.old.window.value))) }
         ensures sink { OnOk result (sink.new ≡ sink.old) }
-        ensures owing { OnOk result (IsOwing _until _began.now.value self.new (text_pending pending_text.new) pending_text.new.lines written (S.contents _known.now.value) (S.contents sink.new)) }
-        ensures ready { OnOk result (IsReady pending_text.new.text) }
-        ensures waits { OnOk result (pending_text.new.put ≡ None) }
-        ensures slice { IfOk result (λ slice. 1 ≤ slice) }
-        ensures some { OnOk result ((time : ℕ) → IsNext plan.now.bound (edge_of now.now.value) time → now.now.value.position < self.new.window.position) }
-        ensures ended { IfErr result (λ fault. HasEnded workers _until _began.now.value self.new (Err fault) (S.contents _known.now.value) (S.contents sink.new) (S.failures _known.now.value) (S.failures sink.new)) }
+        ensures owing { OnOk result (IsOwing call.now.until call.now.began.value self.new (text_pending writing.new.pending_text) writing.new.pending_text.lines writing.new.written (S.contents call.now.known.value) (S.contents sink.new)) }
+        ensures ready { OnOk result (IsReady writing.new.pending_text.text) }
+        ensures waits { OnOk result (writing.new.pending_text.put ≡ None) }
+        ensures some { OnOk result ((time : ℕ) → IsNext plan.now.bound (edge_of writing.old.window.value) time → writing.old.window.value.position < self.new.window.position) }
+        ensures ended { IfErr result (λ fault. HasEnded call.now.workers.workers call.now.until call.now.began.value self.new (Err fault) (S.contents call.now.known.value) (S.contents sink.new) (S.failures call.now.known.value) (S.failures sink.new)) }
     {
-        let turnout = text.turnout();
-        let Ok(()) = text.complete(&self.sheaf) else {
+        let turnout = Turnout::of(writing.text.formatters.as_slice());
+        let Ok(()) = writing.text.complete(&self.sheaf) else {
             return Err(EngineFault::NoMemory);
         };
-        swap(text, &mut pending_text.text);
-        pending_text.lines = self.sheaf.len() as u64;
-        pending_text.put = None;
-        let bound = plan.bound;
+        swap(&mut writing.text, &mut writing.pending_text.text);
+        writing.pending_text.lines = self.sheaf.len() as u64;
+        writing.pending_text.put = None;
         match finish(
-            gate,
-            workers,
+            &call.workers,
             ran,
-            bound,
-            now,
+            plan.bound,
+            &writing.window,
             &mut self.window,
             &mut self.sheaf,
         ) {
             Ok(()) => {}
             Err(fault) => {
-                self.position += pending_text.lines;
-                return match pending_text.text.put(sink) {
+                self.position += writing.pending_text.lines;
+                return match writing.pending_text.text.put(sink) {
                     Ok(_) => Err(fault),
                     Err(count) => Err(EngineFault::Sink {
-                        written: written + count,
+                        written: writing.written + count,
                     }),
                 };
             }
         }
         let _turned = self.window.position();
-        let slice = self.slice_after(plan, workers);
-        self.choose(gate.worth(), plan.whole, turnout);
-        Ok(slice)
+        writing.slice = self.slice_after(plan, call.workers.workers);
+        self.choose(call.workers.gate.worth(), plan.whole, turnout);
+        Ok(())
     }
 
     /// Makes the text of the lines that are left where windows end, commits their events and writes them.
     fn come_to_rest<S: Sink>(
         &mut self,
-        _workers: usize,
-        _until: Time,
-        _began: &Snapshot<Course>,
-        _known: &Snapshot<S>,
-        text: &mut Text,
-        written: &mut u128,
+        call: &Call<S>,
+        writing: &mut Writing<S>,
         sink: &mut S,
     ) -> Result<(), EngineFault>
-        requires writing { IsWriting _until _began.now.value self.old written.old (S.contents _known.now.value) (S.contents sink.old) }
-        requires failures { S.failures sink.old ≡ S.failures _known.now.value }
-        requires workers { 0 < _workers }
-        ensures rests { OnOk result (WindowsRest _until _began.now.value self.new written.new (S.contents _known.now.value) (S.contents sink.new)) }
-        ensures failures { OnOk result (S.failures sink.new ≡ S.failures _known.now.value) }
+        requires writing { IsWriting call.now.until call.now.began.value self.old writing.old.written (S.contents call.now.known.value) (S.contents sink.old) }
+        requires failures { S.failures sink.old ≡ S.failures call.now.known.value }
+        ensures rests { OnOk result (WindowsRest call.now.until call.now.began.value self.new writing.new.written (S.contents call.now.known.value) (S.contents sink.new)) }
+        ensures failures { OnOk result (S.failures sink.new ≡ S.failures call.now.known.value) }
         ensures rest { self.new ≡ record self.old { position = self.new.position } }
-        ensures ended { IfErr result (λ fault. HasEnded _workers _until _began.now.value self.new (Err fault) (S.contents _known.now.value) (S.contents sink.new) (S.failures _known.now.value) (S.failures sink.new)) }
+        ensures ended { IfErr result (λ fault. HasEnded call.now.workers.workers call.now.until call.now.began.value self.new (Err fault) (S.contents call.now.known.value) (S.contents sink.new) (S.failures call.now.known.value) (S.failures sink.new)) }
     {
         let _reached = self.window.position();
-        let made = text.make_all(&self.sheaf);
-        match self.put_made(made, text, sink) {
+        let made = writing.text.make_all(&self.sheaf);
+        match self.put_made(made, &writing.text, sink) {
             Ok(count) => {
-                *written += count;
+                writing.written += count;
                 Ok(())
             }
-            Err(fault) => Err(reported(fault, *written)),
+            Err(fault) => Err(reported(fault, writing.written)),
         }
     }
 
@@ -226,22 +198,16 @@ impl Course {
     fn end<S: Sink>(
         &mut self,
         stop: Stop,
-        workers: usize,
-        until: Time,
-        began: &Snapshot<Course>,
-        known: &Snapshot<S>,
-        text: &mut Text,
-        written: u128,
+        call: &Call<S>,
+        writing: &mut Writing<S>,
         sink: &mut S,
     ) -> Result<Stop, EngineFault>
-        requires writing { IsWriting until began.now.value self.old written (S.contents known.now.value) (S.contents sink.old) }
-        requires failures { S.failures sink.old ≡ S.failures known.now.value }
-        requires workers { 0 < workers }
-        requires stop { IsStop until (edge_of self.old.window) stop }
-        ensures { HasEnded workers until began.now.value self.new result (S.contents known.now.value) (S.contents sink.new) (S.failures known.now.value) (S.failures sink.new) }
+        requires writing { IsWriting call.now.until call.now.began.value self.old writing.old.written (S.contents call.now.known.value) (S.contents sink.old) }
+        requires failures { S.failures sink.old ≡ S.failures call.now.known.value }
+        requires stop { IsStop call.now.until (edge_of self.old.window) stop }
+        ensures { HasEnded call.now.workers.workers call.now.until call.now.began.value self.new result (S.contents call.now.known.value) (S.contents sink.new) (S.failures call.now.known.value) (S.failures sink.new) }
     {
-        let mut written = written;
-        match self.come_to_rest(workers, until, began, known, text, &mut written, sink) {
+        match self.come_to_rest(call, writing, sink) {
             Ok(()) => Ok(stop),
             Err(fault) => Err(fault),
         }
@@ -250,31 +216,26 @@ impl Course {
     /// Where events are to be run one after another, writes what is left of windows, and goes on so for a while.
     fn write_singly<S: Sink>(
         &mut self,
-        workers: usize,
-        until: Time,
-        began: &Snapshot<Course>,
-        known: &Snapshot<S>,
-        text: &mut Text,
-        written: &mut u128,
+        call: &Call<S>,
+        writing: &mut Writing<S>,
         sink: &mut S,
     ) -> Result<(), EngineFault>
-        requires writing { IsWriting until began.now.value self.old written.old (S.contents known.now.value) (S.contents sink.old) }
-        requires failures { S.failures sink.old ≡ S.failures known.now.value }
-        requires workers { 0 < workers }
-        ensures writing { OnOk result (IsWriting until began.now.value self.new written.new (S.contents known.now.value) (S.contents sink.new)) }
-        ensures owing { OnOk result (self.old.granularity.single ≡ true → IsOwing until began.now.value self.new [] 0 written.new (S.contents known.now.value) (S.contents sink.new)) }
-        ensures failures { OnOk result (S.failures sink.new ≡ S.failures known.now.value) }
+        requires writing { IsWriting call.now.until call.now.began.value self.old writing.old.written (S.contents call.now.known.value) (S.contents sink.old) }
+        requires failures { S.failures sink.old ≡ S.failures call.now.known.value }
+        ensures writing { OnOk result (IsWriting call.now.until call.now.began.value self.new writing.new.written (S.contents call.now.known.value) (S.contents sink.new)) }
+        ensures owing { OnOk result (self.old.granularity.single ≡ true → IsOwing call.now.until call.now.began.value self.new [] 0 writing.new.written (S.contents call.now.known.value) (S.contents sink.new)) }
+        ensures failures { OnOk result (S.failures sink.new ≡ S.failures call.now.known.value) }
         ensures on { OnOk result (self.old.window.position ≤ self.new.window.position) }
-        ensures ended { IfErr result (λ fault. HasEnded workers until began.now.value self.new (Err fault) (S.contents known.now.value) (S.contents sink.new) (S.failures known.now.value) (S.failures sink.new)) }
+        ensures ended { IfErr result (λ fault. HasEnded call.now.workers.workers call.now.until call.now.began.value self.new (Err fault) (S.contents call.now.known.value) (S.contents sink.new) (S.failures call.now.known.value) (S.failures sink.new)) }
     {
         if !self.granularity.is_single() {
             return Ok(());
         }
-        match self.come_to_rest(workers, until, began, known, text, written, sink) {
+        match self.come_to_rest(call, writing, sink) {
             Ok(()) => {}
             Err(fault) => return Err(fault),
         }
-        match self.go_singly(workers, until, began, known, written, sink) {
+        match self.go_singly(call, &mut writing.written, sink) {
             Ok(()) => {}
             Err(fault) => return Err(fault),
         }
@@ -282,94 +243,48 @@ impl Course {
         Ok(())
     }
 
-    /// Ends the call where the text of the window before is owed.
+    /// Ends the call where the text of the window before is pending.
     fn end_owing<S: Sink>(
         &mut self,
         stop: Stop,
-        workers: usize,
-        until: Time,
-        began: &Snapshot<Course>,
-        known: &Snapshot<S>,
-        before: &Snapshot<S>,
-        now: &Snapshot<Window>,
-        writing: &mut Writing,
+        call: &Call<S>,
+        writing: &mut Writing<S>,
         sink: &mut S,
     ) -> Result<Stop, EngineFault>
-        requires now { now.now.value ≡ self.old.window }
-        requires owing { IsOwing until began.now.value self.old (text_pending writing.old.pending_text) writing.old.pending_text.lines writing.old.written (S.contents known.now.value) (S.contents before.now.value) }
-        requires owes { Owes writing.old.pending_text (S.contents before.now.value) (S.contents sink.old) (S.failures before.now.value) (S.failures sink.old) }
-        requires failures { S.failures before.now.value ≡ S.failures known.now.value }
-        requires workers { 0 < workers }
-        requires stop { IsStop until (edge_of self.old.window) stop }
-        ensures { HasEnded workers until began.now.value self.new result (S.contents known.now.value) (S.contents sink.new) (S.failures known.now.value) (S.failures sink.new) }
+        requires now { writing.old.window.value ≡ self.old.window }
+        requires owing { IsOwing call.now.until call.now.began.value self.old (text_pending writing.old.pending_text) writing.old.pending_text.lines writing.old.written (S.contents call.now.known.value) (S.contents writing.old.before.value) }
+        requires owes { Owes writing.old.pending_text (S.contents writing.old.before.value) (S.contents sink.old) (S.failures writing.old.before.value) (S.failures sink.old) }
+        requires failures { S.failures writing.old.before.value ≡ S.failures call.now.known.value }
+        requires stop { IsStop call.now.until (edge_of self.old.window) stop }
+        ensures { HasEnded call.now.workers.workers call.now.until call.now.began.value self.new result (S.contents call.now.known.value) (S.contents sink.new) (S.failures call.now.known.value) (S.failures sink.new) }
     {
-        self.settle(
-            workers,
-            until,
-            began,
-            known,
-            before,
-            now,
-            &mut writing.pending_text,
-            &mut writing.written,
-            sink,
-        )?;
-        let written = writing.written;
-        self.end(
-            stop,
-            workers,
-            until,
-            began,
-            known,
-            &mut writing.text,
-            written,
-            sink,
-        )
+        self.settle(call, writing, sink)?;
+        self.end(stop, call, writing, sink)
     }
 
-    /// The same where the text of the window before is owed: then there is none.
+    /// The same as `write_singly` where the text of the window before is pending: then there is none.
     fn write_singly_owing<S: Sink>(
         &mut self,
-        workers: usize,
-        until: Time,
-        began: &Snapshot<Course>,
-        known: &Snapshot<S>,
-        writing: &mut Writing,
+        call: &Call<S>,
+        writing: &mut Writing<S>,
         sink: &mut S,
     ) -> Result<(), EngineFault>
-        requires owing { AwaitsSink until began.now.value self.old writing.old.pending_text writing.old.written (S.contents known.now.value) (S.contents sink.old) (S.failures known.now.value) (S.failures sink.old) }
-        requires workers { 0 < workers }
-        ensures owing { OnOk result (AwaitsSink until began.now.value self.new writing.new.pending_text writing.new.written (S.contents known.now.value) (S.contents sink.new) (S.failures known.now.value) (S.failures sink.new)) }
+        requires owing { AwaitsSink call.now.until call.now.began.value self.old writing.old.pending_text writing.old.written (S.contents call.now.known.value) (S.contents sink.old) (S.failures call.now.known.value) (S.failures sink.old) }
+        ensures owing { OnOk result (AwaitsSink call.now.until call.now.began.value self.new writing.new.pending_text writing.new.written (S.contents call.now.known.value) (S.contents sink.new) (S.failures call.now.known.value) (S.failures sink.new)) }
         ensures on { OnOk result (self.old.window.position ≤ self.new.window.position) }
-        ensures ended { IfErr result (λ fault. HasEnded workers until began.now.value self.new (Err fault) (S.contents known.now.value) (S.contents sink.new) (S.failures known.now.value) (S.failures sink.new)) }
+        ensures ended { IfErr result (λ fault. HasEnded call.now.workers.workers call.now.until call.now.began.value self.new (Err fault) (S.contents call.now.known.value) (S.contents sink.new) (S.failures call.now.known.value) (S.failures sink.new)) }
     {
         if !self.granularity.is_single() {
             return Ok(());
         }
         let (before, now) = (Snapshot::of(sink), Snapshot::of(&self.window));
-        match self.settle(
-            workers,
-            until,
-            began,
-            known,
-            &before,
-            &now,
-            &mut writing.pending_text,
-            &mut writing.written,
-            sink,
-        ) {
+        writing.before = before;
+        writing.window = now;
+        match self.settle(call, writing, sink) {
             Ok(()) => {}
             Err(fault) => return Err(fault),
         }
-        match self.write_singly(
-            workers,
-            until,
-            began,
-            known,
-            &mut writing.text,
-            &mut writing.written,
-            sink,
-        ) {
+        match self.write_singly(call, writing, sink) {
             Ok(()) => {}
             Err(fault) => return Err(fault),
         }
@@ -377,133 +292,107 @@ impl Course {
         Ok(())
     }
 
-    /// Has a window_workers run windows, makes the text of each while the next one runs, and writes it while the one after that
-    /// begins, until they end, or until threads are to share one and none wait for it. How the course and the sink were
-    /// as the call began is for clauses alone.
+    /// Has workers run a window up to its end or the plan's, where threads wait for jobs, and then make the text of the
+    /// lines before it; the pending text is written meanwhile. Where no threads wait, or one worker is to run it, the
+    /// window is left as it was. After a fault the groups may be out.
+    fn share<H: Hands, S: Sink>(
+        &mut self,
+        team: &Team<H>,
+        call: &Call<S>,
+        plan: &WindowPlan,
+        writing: &mut Writing<S>,
+        sink: &mut S,
+    ) -> Result<bool, EngineFault>
+        requires workers { plan.now.workers ≤ call.now.workers.workers }
+        requires edge { IsAtEdge self.old.window }
+        requires few { groups_of self.old.window.entries ≤ 64 }
+        requires right { AreRight self.old.sheaf writing.old.text.formatters.items }
+        requires fits { self.old.sheaf.first + length (merged self.old.sheaf).lines < 2 ^ 63 }
+        requires owes { Owes writing.old.pending_text (S.contents writing.old.before.value) (S.contents sink.old) (S.failures writing.old.before.value) (S.failures sink.old) }
+        ensures ran { IfOk result (λ ran. HasRunOr ran plan.now.bound self.old.window self.new.window) }
+        ensures stays { StaysNet self.old.window self.new.window }
+        ensures fault { IfErr result (IsWorkersFault call.now.workers.workers (HasTooMany (reached_in self.old.window))) }
+        ensures course { self.new ≡ record self.old { window = self.new.window } }
+        ensures right { AreRight self.old.sheaf writing.new.text.formatters.items }
+        ensures owes { Owes writing.new.pending_text (S.contents writing.new.before.value) (S.contents sink.new) (S.failures writing.new.before.value) (S.failures sink.new) }
+        ensures pending { writing.new.pending_text ≡ record writing.old.pending_text { put = writing.new.pending_text.put } }
+        ensures rest { writing.new ≡ record writing.old { text = writing.new.text; pending_text = writing.new.pending_text } }
+    {
+        match team.pool {
+            Some(pool) if plan.workers > 1 => {
+                let job = WindowJob {
+                    pool,
+                    gate: call.workers.gate,
+                    alloc: self.alloc,
+                    workers: plan.workers,
+                    until: plan.bound,
+                };
+                team.hands
+                    .run_shared(&job, &mut self.window, &mut self.sheaf, writing, sink)
+            }
+            _ => Ok(false),
+        }
+    }
+
+    /// Has workers run windows, makes the text of each while the next one runs, and writes it while the one after
+    /// that begins, until they end, or until threads are to share one and none wait for it.
     fn write_on<H: Hands, S: Sink>(
         &mut self,
-        by: &H,
-        window_workers: &WindowWorkers,
-        pool: Option<&ThreadPool<Job>>,
-        until: Time,
-        began: &Snapshot<Course>,
-        known: &Snapshot<S>,
-        writing: &mut Writing,
+        team: &Team<H>,
+        call: &Call<S>,
+        writing: &mut Writing<S>,
         sink: &mut S,
     ) -> Stage
-        requires owing { AwaitsSink until began.now.value self.old writing.old.pending_text writing.old.written (S.contents known.now.value) (S.contents sink.old) (S.failures known.now.value) (S.failures sink.old) }
-        ensures stands { StandsAt window_workers.now.workers until began.now.value self.new writing.new.pending_text writing.new.written (S.contents known.now.value) (S.contents sink.new) (S.failures known.now.value) (S.failures sink.new) result }
-        ensures shared { result ≡ Stage.ToShare → pool.entry ≡ None }
+        requires owing { AwaitsSink call.now.until call.now.began.value self.old writing.old.pending_text writing.old.written (S.contents call.now.known.value) (S.contents sink.old) (S.failures call.now.known.value) (S.failures sink.old) }
+        ensures stands { StandsAt call.now.workers.workers call.now.until call.now.began.value self.new writing.new.pending_text writing.new.written (S.contents call.now.known.value) (S.contents sink.new) (S.failures call.now.known.value) (S.failures sink.new) result }
+        ensures shared { result ≡ Stage.ToShare → team.entry.now.pool ≡ None }
     {
         loop {
-            match self.write_singly_owing(
-                window_workers.workers,
-                until,
-                began,
-                known,
-                writing,
-                sink,
-            ) {
+            match self.write_singly_owing(call, writing, sink) {
                 Ok(()) => {}
                 Err(fault) => return Stage::Ended(Err(fault)),
             }
             let (before, now) = (Snapshot::of(sink), Snapshot::of(&self.window));
-            let plan = match self.plan(until, writing.slice.max(1)) {
+            writing.before = before;
+            writing.window = now;
+            let plan = match self.plan(call.until, writing.slice.max(1), &call.workers) {
                 Ok(plan) => plan,
-                Err(stop) => {
-                    let ended = self.end_owing(
-                        stop,
-                        window_workers.workers,
-                        until,
-                        began,
-                        known,
-                        &before,
-                        &now,
-                        writing,
-                        sink,
-                    );
-                    return Stage::Ended(ended);
-                }
+                Err(stop) => return Stage::Ended(self.end_owing(stop, call, writing, sink)),
             };
-            let shared = self.sheaf.beside_most();
-            let hands = window_workers.hands(&self.window, shared, self.sheaf.len(), plan.bound);
-            if lacks_threads(pool, hands) {
+            if lacks_threads(team.pool, plan.workers) {
                 return Stage::ToShare;
             }
             let _reached = self.window.position();
             writing.text.clear(&self.sheaf);
-            let ran = window_workers.run_or_leave(
-                by,
-                pool,
-                hands,
-                plan.bound,
-                &mut self.window,
-                &mut self.sheaf,
-                &mut writing.text.scribes,
-                &mut writing.pending_text,
-                &before,
-                sink,
-            );
-            match self.settle(
-                window_workers.workers,
-                until,
-                began,
-                known,
-                &before,
-                &now,
-                &mut writing.pending_text,
-                &mut writing.written,
-                sink,
-            ) {
+            let ran = self.share(team, call, &plan, writing, sink);
+            match self.settle(call, writing, sink) {
                 Ok(()) => {}
                 Err(fault) => return Stage::Ended(Err(fault)),
             }
-            match self.go_on(
-                window_workers.gate,
-                window_workers.workers,
-                until,
-                &plan,
-                ran,
-                began,
-                known,
-                &now,
-                &mut writing.text,
-                &mut writing.pending_text,
-                writing.written,
-                sink,
-            ) {
-                Ok(next) => writing.slice = next,
+            match self.go_on(call, &plan, ran, writing, sink) {
+                Ok(()) => {}
                 Err(fault) => return Stage::Ended(Err(fault)),
             }
         }
     }
 
-    /// The same with threads that wait for orders. It goes on to where windows end, and the threads may go then.
+    /// The same with threads that wait for jobs. It goes on to where windows end, and the threads may go then.
     fn write_shared<H: Hands, S: Sink>(
         &mut self,
         by: &H,
-        window_workers: &WindowWorkers,
+        call: &Call<S>,
         pool: &ThreadPool<Job>,
-        until: Time,
-        began: &Snapshot<Course>,
-        known: &Snapshot<S>,
-        writing: &mut Writing,
+        writing: &mut Writing<S>,
         sink: &mut S,
     ) -> Result<Stop, EngineFault>
-        requires owing { AwaitsSink until began.now.value self.old writing.old.pending_text writing.old.written (S.contents known.now.value) (S.contents sink.old) (S.failures known.now.value) (S.failures sink.old) }
-        ensures { HasEnded window_workers.now.workers until began.now.value self.new result (S.contents known.now.value) (S.contents sink.new) (S.failures known.now.value) (S.failures sink.new) }
+        requires owing { AwaitsSink call.now.until call.now.began.value self.old writing.old.pending_text writing.old.written (S.contents call.now.known.value) (S.contents sink.old) (S.failures call.now.known.value) (S.failures sink.old) }
+        ensures { HasEnded call.now.workers.workers call.now.until call.now.began.value self.new result (S.contents call.now.known.value) (S.contents sink.new) (S.failures call.now.known.value) (S.failures sink.new) }
     {
-        let stage = self.write_on(
-            by,
-            window_workers,
-            Some(pool),
-            until,
-            began,
-            known,
-            writing,
-            sink,
-        );
-        match stage {
+        let team = Team {
+            hands: by,
+            pool: Some(pool),
+        };
+        match self.write_on(&team, call, writing, sink) {
             Stage::Ended(outcome) => outcome,
             Stage::ToShare => unreachable!(),
         }
@@ -513,92 +402,66 @@ impl Course {
     fn write_by_threads<H: Hands, S: Sink>(
         &mut self,
         by: &H,
-        window_workers: &WindowWorkers,
-        until: Time,
-        began: &Snapshot<Course>,
-        known: &Snapshot<S>,
-        writing: &mut Writing,
+        call: &Call<S>,
+        writing: &mut Writing<S>,
         sink: &mut S,
     ) -> Result<Stop, EngineFault>
         requires ready { H.ready by.now }
-        requires owing { AwaitsSink until began.now.value self.old writing.old.pending_text writing.old.written (S.contents known.now.value) (S.contents sink.old) (S.failures known.now.value) (S.failures sink.old) }
-        ensures { HasEnded window_workers.now.workers until began.now.value self.new result (S.contents known.now.value) (S.contents sink.new) (S.failures known.now.value) (S.failures sink.new) }
+        requires owing { AwaitsSink call.now.until call.now.began.value self.old writing.old.pending_text writing.old.written (S.contents call.now.known.value) (S.contents sink.old) (S.failures call.now.known.value) (S.failures sink.old) }
+        ensures { HasEnded call.now.workers.workers call.now.until call.now.began.value self.new result (S.contents call.now.known.value) (S.contents sink.new) (S.failures call.now.known.value) (S.failures sink.new) }
     {
-        let Ok(pool) = window_workers.pool_for(&self.window) else {
+        let Ok(pool) = call.workers.pool_for(&self.window) else {
             let (before, now) = (Snapshot::of(sink), Snapshot::of(&self.window));
-            let (pending_text, written) = (&mut writing.pending_text, &mut writing.written);
-            self.settle(
-                window_workers.workers,
-                until,
-                began,
-                known,
-                &before,
-                &now,
-                pending_text,
-                written,
-                sink,
-            )?;
+            writing.before = before;
+            writing.window = now;
+            self.settle(call, writing, sink)?;
             return Err(EngineFault::NoMemory);
         };
         let pool = &pool;
         by.with_threads(
-            window_workers.gate,
+            call.workers.gate,
             pool,
             &mut || -> Result<Stop, EngineFault>
-                requires owing { AwaitsSink until began.now.value self.now writing.now.pending_text writing.now.written (S.contents known.now.value) (S.contents sink.now) (S.failures known.now.value) (S.failures sink.now) }
-                ensures { HasEnded window_workers.entry.now.workers until began.entry.now.value self.exit.now result (S.contents known.entry.now.value) (S.contents sink.exit.now) (S.failures known.entry.now.value) (S.failures sink.exit.now) }
-            { self.write_shared(by, window_workers, pool, until, began, known, writing, sink) },
+                requires owing { AwaitsSink call.now.until call.now.began.value self.now writing.now.pending_text writing.now.written (S.contents call.now.known.value) (S.contents sink.now) (S.failures call.now.known.value) (S.failures sink.now) }
+                ensures { HasEnded call.entry.now.workers.workers call.entry.now.until call.entry.now.began.value self.exit.now result (S.contents call.entry.now.known.value) (S.contents sink.exit.now) (S.failures call.entry.now.known.value) (S.failures sink.exit.now) }
+            { self.write_shared(by, call, pool, writing, sink) },
         )
     }
 
-    /// Has a window_workers run windows, and writes the lines of each while later ones run, up to the run's end or
-    /// until no event is left below a moment. Nothing is left to write where they end. Threads are started once
-    /// a window is worth it, and stay. Where windows hold few events, or threads come late to them, events are run
-    /// one after another for a while.
+    /// Has workers run windows, and writes the lines of each while later ones run, up to the run's end or until no
+    /// event is left below a moment. Nothing is left to write where they end. Threads are started once a window is
+    /// worth it, and stay. Where windows hold few events, or threads come late to them, events are run one after
+    /// another for a while.
     pub(crate) fn write_together<H: Hands, S: Sink>(
         &mut self,
         by: &H,
-        window_workers: &WindowWorkers,
+        workers: WindowWorkers,
         until: Time,
         sink: &mut S,
     ) -> Result<Stop, EngineFault>
         requires ready { H.ready by.now }
         requires rest { AtRest self.old }
         requires groups { HasGroups self.old }
-        ensures { HasEnded window_workers.now.workers until self.old self.new result (S.contents sink.old) (S.contents sink.new) (S.failures sink.old) (S.failures sink.new) }
+        ensures { HasEnded workers.entry.workers until self.old self.new result (S.contents sink.old) (S.contents sink.new) (S.failures sink.old) (S.failures sink.new) }
     {
-        let (Ok(text), Ok(pending_text)) = (Text::new(self.alloc), PendingText::new(self.alloc))
-        else {
+        let Ok(mut writing) = Writing::new(self.alloc, &self.window, sink) else {
             return Err(EngineFault::NoMemory);
         };
-        let mut writing = Writing {
-            text,
-            pending_text,
-            slice: FIRST_SLICE,
-            written: 0,
-        };
         let (began, known) = (Snapshot::of(self), Snapshot::of(sink));
-        self.sheaf = Sheaf::new(self.alloc, self.position + 1);
-        match self.write_on(
-            by,
-            window_workers,
-            None,
+        let call = Call {
+            workers,
             until,
-            &began,
-            &known,
-            &mut writing,
-            sink,
-        ) {
+            began,
+            known,
+        };
+        self.sheaf = Sheaf::new(self.alloc, self.position + 1);
+        let team = Team {
+            hands: by,
+            pool: None,
+        };
+        match self.write_on(&team, &call, &mut writing, sink) {
             Stage::Ended(outcome) => outcome,
-            Stage::ToShare => self.write_by_threads(
-                by,
-                window_workers,
-                until,
-                &began,
-                &known,
-                &mut writing,
-                sink,
-            ),
+            Stage::ToShare => self.write_by_threads(by, &call, &mut writing, sink),
         }
     }
 }

@@ -6,24 +6,21 @@ ghost use Rattle.window_core.specs.Sheaves.{merged};
 ghost use Rattle.window_engine.specs.Edges.{IsAtEdge, StaysNet, reached_in};
 ghost use Rattle.window_engine.specs.Laid.{HasRunOr};
 ghost use Rattle.window_engine.specs.Outcomes.{IsWorkersFault};
-ghost use Rattle.window_engine.specs.PendingText.{Owes};
-ghost use Rattle.window_engine.specs.Parts.{AreRight};
+ghost use Rattle.window_text.specs.PendingText.{Owes};
+ghost use Rattle.window_text.specs.Parts.{AreRight};
 
 use crate::advance::run_apart;
+use crate::call::Writing;
 use crate::fault::EngineFault;
-use crate::formatter::TextFormatter;
 use crate::gate::Gate;
 use crate::job::Job;
-use crate::pending_text::PendingText;
-use crate::sink::Sink;
 use crate::sweep::keep_workers;
-use sim_time::Time;
-use std::alloc::Global;
-use std::snapshot::Snapshot;
+use crate::window_job::WindowJob;
 use std::sync::Wait;
 use std::thread::{Threads, available_parallelism, join_mut};
 use thread_pool::ThreadPool;
 use window_core::{Sheaf, Window};
+use window_text::Sink;
 
 /// Who runs a window's groups. What is written once for any of them is proved to return where its hands are: whether a
 /// method may wait is each one's own.
@@ -35,8 +32,8 @@ pub trait Hands {
     ghost use Rattle.window_engine.specs.Edges.{IsAtEdge, StaysNet, reached_in};
     ghost use Rattle.window_engine.specs.Laid.{HasRunOr};
     ghost use Rattle.window_engine.specs.Outcomes.{IsWorkersFault};
-    ghost use Rattle.window_engine.specs.PendingText.{Owes};
-    ghost use Rattle.window_engine.specs.Parts.{AreRight};
+    ghost use Rattle.window_text.specs.PendingText.{Owes};
+    ghost use Rattle.window_text.specs.Parts.{AreRight};
 
     // Its threads may share what it shares.
     ghost ready: { Self → Type 0 } = { λ _. Unit {0} };
@@ -44,39 +41,33 @@ pub trait Hands {
     /// On how many processors its threads may run: on one where that is not known.
     fn processors(&self) -> usize;
 
-    /// Has so many workers, the calling thread and threads of a pool, run the groups up to the window's end
-    /// or a moment that is sooner, and then make the text of a sheaf's lines; the text of the window before is
-    /// written meanwhile. The answer is whether they did: where there is one worker alone, the window is left as it was.
+    /// Has workers, the calling thread and threads of a pool, run the groups up to the window's end or a moment that is
+    /// sooner, and then make the text of a sheaf's lines; the pending text is written meanwhile. The answer is whether
+    /// they did: where there is one worker alone, the window is left as it was.
     /// After a fault the groups may be out.
     fn run_shared<S: Sink>(
         &self,
-        gate: &Gate,
-        pool: &ThreadPool<Job>,
-        alloc: Global,
-        workers: usize,
-        until: Time,
+        job: &WindowJob,
         window: &mut Window,
         sheaf: &mut Sheaf,
-        scribes: &mut Vec<TextFormatter>,
-        pending_text: &mut PendingText,
-        before: &Snapshot<S>,
+        writing: &mut Writing<S>,
         sink: &mut S,
     ) -> Result<bool, EngineFault>
-        requires workers { (1 < workers) × (workers ≤ 64) }
         requires edge { IsAtEdge window.old }
         requires few { groups_of window.old.entries ≤ 64 }
-        requires right { AreRight sheaf.old scribes.old.items }
+        requires right { AreRight sheaf.old writing.old.text.formatters.items }
         requires fits { sheaf.old.first + length (merged sheaf.old).lines < 2 ^ 63 }
-        requires owes { Owes pending_text.old (S.contents before.now.value) (S.contents sink.old) (S.failures before.now.value) (S.failures sink.old) }
-        ensures ran { IfOk result (λ ran. HasRunOr ran until window.old window.new) }
+        requires owes { Owes writing.old.pending_text (S.contents writing.old.before.value) (S.contents sink.old) (S.failures writing.old.before.value) (S.failures sink.old) }
+        ensures ran { IfOk result (λ ran. HasRunOr ran job.now.until window.old window.new) }
         ensures stays { StaysNet window.old window.new }
-        ensures fault { IfErr result (IsWorkersFault workers (HasTooMany (reached_in window.old))) }
+        ensures fault { IfErr result (IsWorkersFault job.now.workers (HasTooMany (reached_in window.old))) }
         ensures sheaf { sheaf.new ≡ sheaf.old }
-        ensures right { AreRight sheaf.new scribes.new.items }
-        ensures owes { Owes pending_text.new (S.contents before.now.value) (S.contents sink.new) (S.failures before.now.value) (S.failures sink.new) }
-        ensures same { pending_text.new ≡ record pending_text.old { put = pending_text.new.put } };
+        ensures right { AreRight sheaf.new writing.new.text.formatters.items }
+        ensures owes { Owes writing.new.pending_text (S.contents writing.new.before.value) (S.contents sink.new) (S.failures writing.new.before.value) (S.failures sink.new) }
+        ensures pending { writing.new.pending_text ≡ record writing.old.pending_text { put = writing.new.pending_text.put } }
+        ensures rest { writing.new ≡ record writing.old { text = writing.new.text; pending_text = writing.new.pending_text } };
 
-    /// Works while a pool's threads wait for orders, which go then.
+    /// Works while a pool's threads wait for jobs, which go then.
     fn with_threads<A, F: FnMut() -> A>(
         &self,
         gate: &Gate,
@@ -99,16 +90,10 @@ impl Hands for Alone {
 
     fn run_shared<S: Sink>(
         &self,
-        _gate: &Gate,
-        _pool: &ThreadPool<Job>,
-        _alloc: Global,
-        _workers: usize,
-        _until: Time,
+        _job: &WindowJob,
         _window: &mut Window,
         _sheaf: &mut Sheaf,
-        _scribes: &mut Vec<TextFormatter>,
-        _pending_text: &mut PendingText,
-        _before: &Snapshot<S>,
+        _writing: &mut Writing<S>,
         _sink: &mut S,
     ) -> Result<bool, EngineFault> {
         Ok(false)
@@ -124,7 +109,7 @@ impl Hands for Alone {
     }
 }
 
-/// Several workers, for which it may wait: the calling thread, and threads that carry out its orders.
+/// Several workers, for which it may wait: the calling thread, and threads that carry out its jobs.
 #[derive(Drop)]
 pub struct Several<'a, R: Threads + Wait + Sync> {
     /// What starts threads.
@@ -145,34 +130,16 @@ impl<'a, R: Threads + Wait + Sync> Hands for Several<'a, R> {
 
     fn run_shared<S: Sink>(
         &self,
-        gate: &Gate,
-        pool: &ThreadPool<Job>,
-        alloc: Global,
-        workers: usize,
-        until: Time,
+        job: &WindowJob,
         window: &mut Window,
         sheaf: &mut Sheaf,
-        scribes: &mut Vec<TextFormatter>,
-        pending_text: &mut PendingText,
-        before: &Snapshot<S>,
+        writing: &mut Writing<S>,
         sink: &mut S,
     ) -> Result<bool, EngineFault> {
         let _began = window.position();
-        window.limit(until);
+        window.limit(job.until);
         let _limited = window.position();
-        run_apart(
-            self.rt,
-            pool,
-            alloc,
-            workers,
-            gate,
-            window,
-            sheaf,
-            scribes,
-            pending_text,
-            before,
-            sink,
-        )?;
+        run_apart(self.rt, job, window, sheaf, writing, sink)?;
         Ok(true)
     }
 
@@ -186,7 +153,7 @@ impl<'a, R: Threads + Wait + Sync> Hands for Several<'a, R> {
     }
 }
 
-/// Works while a pool's threads wait for orders, which go then.
+/// Works while a pool's threads wait for jobs, which go then.
 fn work_with_threads<R: Threads + Wait + Sync, A, F: FnMut() -> A>(
     rt: &R,
     gate: &Gate,

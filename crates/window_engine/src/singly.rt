@@ -9,11 +9,9 @@ ghost use Rattle.window_engine.specs.Edges.{IsAtEdge, reached_in};
 ghost use Rattle.window_engine.specs.Outcomes.{IsWorkersFault};
 ghost use Rattle.window_engine.specs.Singly.{HasGone};
 
+use crate::call::Call;
 use crate::course::{Course, WriteFault, reported};
 use crate::fault::EngineFault;
-use crate::parts::LINE_BYTES;
-use crate::put::put_all;
-use crate::sink::Sink;
 use net_machine::{Due, Net, StepFault};
 use net_watch::{Watch, run_watched};
 use node_core::Line;
@@ -22,6 +20,7 @@ use std::alloc::{AllocError, Global};
 use std::snapshot::Snapshot;
 use trace_text::Page;
 use window_core::Window;
+use window_text::{LINE_BYTES, Sink, put_all};
 
 /// After so many events their text is written, once those of the same moment are run too.
 const AT_ONCE: usize = 1_024;
@@ -193,26 +192,21 @@ impl Course {
         }
     }
 
-    /// Goes on one event at a time from where windows ended, for as many events as the pace says or until none is left
-    /// below a moment; then the net is by groups again. Where memory for the net as one is refused, windows go on at
-    /// once; where it is refused for the groups, the call ends by that. How the course and the sink were as the call
-    /// began is for clauses alone.
+    /// Goes on one event at a time from where windows ended, for as many events as the granularity says or until none
+    /// is left below a moment; then the net is by groups again. Where memory for the net as one is refused, windows go
+    /// on at once; where it is refused for the groups, the call ends by that.
     pub(crate) fn go_singly<S: Sink>(
         &mut self,
-        _workers: usize,
-        until: Time,
-        _began: &Snapshot<Course>,
-        _known: &Snapshot<S>,
+        call: &Call<S>,
         written: &mut u128,
         sink: &mut S,
     ) -> Result<(), EngineFault>
-        requires rests { WindowsRest until _began.now.value self.old written.old (S.contents _known.now.value) (S.contents sink.old) }
-        requires failures { S.failures sink.old ≡ S.failures _known.now.value }
-        requires workers { 0 < _workers }
-        ensures rests { OnOk result (WindowsRest until _began.now.value self.new written.new (S.contents _known.now.value) (S.contents sink.new)) }
-        ensures failures { OnOk result (S.failures sink.new ≡ S.failures _known.now.value) }
+        requires rests { WindowsRest call.now.until call.now.began.value self.old written.old (S.contents call.now.known.value) (S.contents sink.old) }
+        requires failures { S.failures sink.old ≡ S.failures call.now.known.value }
+        ensures rests { OnOk result (WindowsRest call.now.until call.now.began.value self.new written.new (S.contents call.now.known.value) (S.contents sink.new)) }
+        ensures failures { OnOk result (S.failures sink.new ≡ S.failures call.now.known.value) }
         ensures on { OnOk result (self.old.window.position ≤ self.new.window.position) }
-        ensures ended { IfErr result (λ fault. HasEnded _workers until _began.now.value self.new (Err fault) (S.contents _known.now.value) (S.contents sink.new) (S.failures _known.now.value) (S.failures sink.new)) }
+        ensures ended { IfErr result (λ fault. HasEnded call.now.workers.workers call.now.until call.now.began.value self.new (Err fault) (S.contents call.now.known.value) (S.contents sink.new) (S.failures call.now.known.value) (S.failures sink.new)) }
     {
         let _reached = self.window.position();
         let Ok(net) = self.window.edge() else {
@@ -223,7 +217,7 @@ impl Course {
             self.granularity.go_by_windows();
             return Ok(());
         };
-        let bound = until.min(self.end);
+        let bound = call.until.min(self.end);
         let mut more = true;
         while more && self.granularity.is_single() {
             let before = self.position;
@@ -234,7 +228,7 @@ impl Course {
                 Err(fault) => return Err(reported(fault, *written)),
             }
             more = self.position != before;
-            self.granularity.ticket(self.position - before);
+            self.granularity.count_singly(self.position - before);
         }
         match self.take_up(single.net) {
             Ok(()) => Ok(()),

@@ -3,26 +3,23 @@ ghost use Rattle.std.specs.Prelude.{◌≡◌, ◌+◌, ◌<◌, ◌≤◌, ◌^
 ghost use Rattle.std.specs.Arc.{arc_value};
 ghost use Rattle.window_core.specs.Sheaves.{merged};
 ghost use Rattle.work_board.specs.Seats.{IsOf, HoldsNothing};
-ghost use Rattle.window_engine.specs.Desks.{IsTicketOf};
-ghost use Rattle.window_engine.specs.PendingText.{Owes};
-ghost use Rattle.window_engine.specs.Parts.{AreRight};
+ghost use Rattle.window_text.specs.Desks.{IsTicketOf};
+ghost use Rattle.window_text.specs.PendingText.{Owes};
+ghost use Rattle.window_text.specs.Parts.{AreRight};
 ghost use Rattle.window_engine.specs.Sweeps.{IsSwept};
 
-use crate::desk::{Desk, Ticket};
-use crate::formatter::TextFormatter;
+use crate::call::Writing;
 use crate::gate::Gate;
 use crate::job::{Begin, Job, Tasks, serve};
-use crate::parts::Parts;
-use crate::pending_text::PendingText;
-use crate::sink::Sink;
+use crate::window_job::WindowJob;
 use std::alloc::{AllocError, AllocFailed, Global};
 use std::mem::replace;
-use std::snapshot::Snapshot;
 use std::sync::{Arc, Wait};
 use std::thread;
 use std::thread::Threads;
 use thread_pool::{ThreadPool, run_workers};
 use window_core::Sheaf;
+use window_text::{Desk, Parts, Sink, TextFormatter, Ticket};
 use work_board::{Board, Seat};
 
 /// The value, once its other owners are gone.
@@ -47,38 +44,36 @@ pub(crate) fn keep_workers<R: Threads + Wait + Sync>(rt: &R, gate: &Gate, pool: 
 }
 
 /// Memory for a worker's text, that of the window before where there is some.
-fn take_formatter(sheaf: &Sheaf, scribes: &mut Vec<TextFormatter>) -> TextFormatter
-    requires { AreRight sheaf.now scribes.old.items }
-    ensures { AreRight sheaf.now scribes.new.items }
+fn take_formatter(sheaf: &Sheaf, formatters: &mut Vec<TextFormatter>) -> TextFormatter
+    requires { AreRight sheaf.now formatters.old.items }
+    ensures { AreRight sheaf.now formatters.new.items }
 {
-    let alloc = *scribes.allocator();
-    match scribes.pop() {
+    let alloc = *formatters.allocator();
+    match formatters.pop() {
         Some(formatter) => formatter,
         None => TextFormatter::new(alloc),
     }
 }
 
-/// Gives each thread of so many workers an order, each with a formatter. The answer is the rest of the seat and of the
-/// pass.
-fn give_orders<R: Wait>(
+/// Gives each thread a job, with a formatter. The answer is the rest of the seat and of the ticket.
+fn give_jobs<R: Wait>(
     rt: &R,
-    pool: &ThreadPool<Job>,
+    job: &WindowJob,
     tasks: &Arc<Tasks, Global>,
-    workers: usize,
-    seat: Seat,
-    ticket: Ticket,
-    scribes: &mut Vec<TextFormatter>,
+    held: (Seat, Ticket),
+    formatters: &mut Vec<TextFormatter>,
 ) -> (Seat, Ticket)
-    requires board { IsOf (arc_value tasks.now).board seat }
-    requires idle { HoldsNothing seat }
-    requires ticket { IsTicketOf (arc_value tasks.now).desk ticket }
-    requires right { AreRight (arc_value tasks.now).sheaf scribes.old.items }
+    requires board { IsOf (arc_value tasks.now).board held.0 }
+    requires idle { HoldsNothing held.0 }
+    requires ticket { IsTicketOf (arc_value tasks.now).desk held.1 }
+    requires right { AreRight (arc_value tasks.now).sheaf formatters.old.items }
     ensures board { IsOf (arc_value tasks.now).board result.0 }
     ensures idle { HoldsNothing result.0 }
     ensures ticket { IsTicketOf (arc_value tasks.now).desk result.1 }
-    ensures right { AreRight (arc_value tasks.now).sheaf scribes.new.items }
+    ensures right { AreRight (arc_value tasks.now).sheaf formatters.new.items }
 {
-    let (mut seat, mut ticket) = (seat, ticket);
+    let (mut seat, mut ticket) = held;
+    let workers = job.workers;
     for thread in 0..workers.saturating_sub(1) {
         let (mine, theirs) = tasks.board.split(seat);
         seat = mine;
@@ -90,58 +85,54 @@ fn give_orders<R: Wait>(
             // The last place has the formatter that is taken first: so each thread has its own one again.
             place: workers.saturating_sub(thread).saturating_sub(1),
             workers,
-            formatter: take_formatter(&tasks.sheaf, scribes),
+            formatter: take_formatter(&tasks.sheaf, formatters),
         };
         if let Ok(shared) = Arc::try_clone(tasks) {
-            let _ = pool.give(rt, thread, Job::new(shared, begin));
+            let _ = job.pool.give(rt, thread, Job::new(shared, begin));
         }
     }
     (seat, ticket)
 }
 
 /// Takes back what threads have not begun, and waits for what they have.
-fn end_jobs<R: Wait>(rt: &R, gate: &Gate, pool: &ThreadPool<Job>, workers: usize) {
-    for thread in 0..workers.saturating_sub(1) {
-        if let Some(job) = pool.take_back(rt, thread) {
-            job.carry_out(gate);
+fn end_jobs<R: Wait>(rt: &R, job: &WindowJob) {
+    for thread in 0..job.workers.saturating_sub(1) {
+        if let Some(back) = job.pool.take_back(rt, thread) {
+            back.carry_out(job.gate);
         }
     }
-    pool.rest(rt);
+    job.pool.rest(rt);
 }
 
-/// Has so many workers go over the board and then make the text of a sheaf's lines: the calling thread is one of
-/// them, and the others are threads of a pool. While they begin it writes the text of the window before. It waits for
-/// all of them, and gives the board and its own seat back. The formatters are then what each made of the text.
+/// Has workers go over the board and then make the text of a sheaf's lines: the calling thread is one of them, and
+/// the others are threads of a pool. While they begin it writes the pending text. It waits for all of them, and gives
+/// the board and its own seat back. The formatters are then what each made of the text.
 pub(crate) fn sweep<R: Wait, S: Sink>(
     rt: &R,
-    pool: &ThreadPool<Job>,
-    workers: usize,
-    gate: &Gate,
-    board: Board,
-    seat: Seat,
+    job: &WindowJob,
+    laid: (Board, Seat),
     sheaf: &mut Sheaf,
-    scribes: &mut Vec<TextFormatter>,
-    pending_text: &mut PendingText,
-    before: &Snapshot<S>,
+    writing: &mut Writing<S>,
     sink: &mut S,
 ) -> Result<(Board, Seat), AllocError>
-    requires board { IsOf board seat }
-    requires idle { HoldsNothing seat }
-    requires workers { workers ≤ 64 }
-    requires right { AreRight sheaf.old scribes.old.items }
+    requires board { IsOf laid.0 laid.1 }
+    requires idle { HoldsNothing laid.1 }
+    requires right { AreRight sheaf.old writing.old.text.formatters.items }
     requires fits { sheaf.old.first + length (merged sheaf.old).lines < 2 ^ 63 }
-    requires owes { Owes pending_text.old (S.contents before.now.value) (S.contents sink.old) (S.failures before.now.value) (S.failures sink.old) }
-    ensures same { IfOk result (λ r. r.0 ≡ board) }
+    requires owes { Owes writing.old.pending_text (S.contents writing.old.before.value) (S.contents sink.old) (S.failures writing.old.before.value) (S.failures sink.old) }
+    ensures same { IfOk result (λ r. r.0 ≡ laid.0) }
     ensures board { IfOk result (λ r. IsOf r.0 r.1) }
     ensures swept { IfOk result (λ r. IsSwept r.1) }
     ensures sheaf { sheaf.new ≡ sheaf.old }
-    ensures right { AreRight sheaf.new scribes.new.items }
-    ensures owes { Owes pending_text.new (S.contents before.now.value) (S.contents sink.new) (S.failures before.now.value) (S.failures sink.new) }
-    ensures rest { pending_text.new ≡ record pending_text.old { put = pending_text.new.put } }
+    ensures right { AreRight sheaf.new writing.new.text.formatters.items }
+    ensures owes { Owes writing.new.pending_text (S.contents writing.new.before.value) (S.contents sink.new) (S.failures writing.new.before.value) (S.failures sink.new) }
+    ensures pending { writing.new.pending_text ≡ record writing.old.pending_text { put = writing.new.pending_text.put } }
+    ensures rest { writing.new ≡ record writing.old { text = writing.new.text; pending_text = writing.new.pending_text } }
 {
-    let alloc = *scribes.allocator();
-    let (desk, ticket) = Desk::new(alloc, sheaf, workers)?;
-    let parts = Parts::new(sheaf, workers);
+    let (board, seat) = laid;
+    let alloc = job.alloc;
+    let (desk, ticket) = Desk::new(alloc, sheaf, job.workers)?;
+    let parts = Parts::new(sheaf, job.workers);
     let lent = replace(sheaf, Sheaf::new(alloc, 0));
     let tasks = match Arc::new(
         alloc,
@@ -158,19 +149,19 @@ pub(crate) fn sweep<R: Wait, S: Sink>(
             return Err(AllocError);
         }
     };
-    let mut made = replace(scribes, Vec::new(alloc));
-    let (seat, ticket) = give_orders(rt, pool, &tasks, workers, seat, ticket, &mut made);
+    let mut made = replace(&mut writing.text.formatters, Vec::new(alloc));
+    let (seat, ticket) = give_jobs(rt, job, &tasks, (seat, ticket), &mut made);
     tasks.parts.cut(&tasks.sheaf);
-    let _ = pending_text.put(before, sink);
+    let _ = writing.pending_text.put(&writing.before, sink);
     let begin = Begin {
         seat,
         ticket,
         place: 0,
-        workers,
+        workers: job.workers,
         formatter: take_formatter(&tasks.sheaf, &mut made),
     };
-    let seat = serve(&tasks, gate, begin);
-    end_jobs(rt, gate, pool, workers);
+    let seat = serve(&tasks, job.gate, begin);
+    end_jobs(rt, job);
     let Tasks {
         board,
         parts: _,
@@ -178,7 +169,7 @@ pub(crate) fn sweep<R: Wait, S: Sink>(
         desk,
     } = sole(rt, tasks);
     desk.clear(&mut made);
-    *scribes = made;
+    writing.text.formatters = made;
     *sheaf = lent;
     Ok((board, seat))
 }

@@ -9,21 +9,21 @@ use Rattle.window_engine.proofs.TooMany.{turn_full}
 use Rattle.window_engine.proofs.advance.finish.Goals as goal
 
 pub returns-clause-edge : goal.returns-clause-edge
-returns-clause-edge g c = turned_edge c.run_rest.new.window c.turn.new.window (g.L.Lines.reported c.turn.new.self) c.in_ok-run_rest.ensures.done.inside c.in_ok-turn.ensures.turned
+returns-clause-edge g c = turned_edge c.run_rest.new.window c.turn.new.window (g.L.LineTarget.reported c.turn.new.self) c.in_ok-run_rest.ensures.done.inside c.in_ok-turn.ensures.turned
 
 pub returns-clause-gone : goal.returns-clause-gone
 returns-clause-gone g c =
-    went_on c.args.before.now.value c.run_rest.new.window c.turn.new.window c.args.until (g.L.Lines.reported c.turn.new.self) c.requires.edge c.requires.is_window c.in_ok-run_rest.ensures.done
+    went_on c.args.before.now.value c.run_rest.new.window c.turn.new.window c.args.until (g.L.LineTarget.reported c.turn.new.self) c.requires.edge c.requires.is_window c.in_ok-run_rest.ensures.done
     c.in_ok-turn.ensures.turned c.in_ok-turn.ensures.run c.in_ok-turn.ensures.below
 
 pub returns-clause-early : goal.returns-clause-early
 returns-clause-early g c =
-    turned_below c.args.before.now.value c.run_rest.new.window c.turn.new.window c.args.until (g.L.Lines.reported c.turn.new.self) c.requires.edge c.requires.is_window c.in_ok-run_rest.ensures.done
+    turned_below c.args.before.now.value c.run_rest.new.window c.turn.new.window c.args.until (g.L.LineTarget.reported c.turn.new.self) c.requires.edge c.requires.is_window c.in_ok-run_rest.ensures.done
     c.in_ok-turn.ensures.turned c.in_ok-turn.ensures.run c.in_ok-turn.ensures.below
 
 pub returns-clause-none_left : goal.returns-clause-none_left
 returns-clause-none_left g c =
-    left_none c.args.before.now.value c.run_rest.new.window c.turn.new.window c.args.until (g.L.Lines.reported c.turn.new.self) c.requires.edge c.requires.is_window c.in_ok-run_rest.ensures.done
+    left_none c.args.before.now.value c.run_rest.new.window c.turn.new.window c.args.until (g.L.LineTarget.reported c.turn.new.self) c.requires.edge c.requires.is_window c.in_ok-run_rest.ensures.done
     c.in_ok-turn.ensures.turned c.in_ok-turn.ensures.run c.in_ok-turn.ensures.below
 
 pub returns-clause-some : goal.returns-clause-some
@@ -31,7 +31,7 @@ returns-clause-some g c time next =
     let v = c.args.before.now.value in
     let w = c.run_rest.new.window in
     let u = c.turn.new.window in
-    let lines = g.L.Lines.reported c.turn.new.self in
+    let lines = g.L.LineTarget.reported c.turn.new.self in
     let turned = c.in_ok-turn.ensures in
     let done = c.in_ok-run_rest.ensures.done in
     let is = c.requires.is_window in
@@ -39,21 +39,21 @@ returns-clause-some g c time next =
 
 pub returns-clause-stays : goal.returns-clause-stays
 returns-clause-stays g c =
-    stays_both c.args.before.now.value c.run_rest.new.window c.turn.new.window c.in_ok-run_rest.ensures.stays (turned_stays c.run_rest.new.window c.turn.new.window (g.L.Lines.reported c.turn.new.self) c.in_ok-turn.ensures.turned)
+    stays_both c.args.before.now.value c.run_rest.new.window c.turn.new.window c.in_ok-run_rest.ensures.stays (turned_stays c.run_rest.new.window c.turn.new.window (g.L.LineTarget.reported c.turn.new.self) c.in_ok-turn.ensures.turned)
 
 pub returns-in_err-run_rest-clause-fault : goal.returns-in_err-run_rest-clause-fault
 returns-in_err-run_rest-clause-fault g c =
     let many = HasTooMany (reached_in c.args.before.now.value) in
-    let some = c.requires.workers in
+    let some = c.args.workers.now.some in
     let p = err_from_is_err_and c.from_residual-in_err-run_rest.result c.from_residual-in_err-run_rest.ensures.1 in
     rw (p.1, p.2)
-    (meant_more 1 c.args._workers many many c.in_err-run_rest.field-0.0 (omega (arith, some)) (λ full. full) c.in_err-run_rest.ensures.fault)
+    (meant_more 1 c.args.workers.now.workers many many c.in_err-run_rest.field-0.0 (omega (arith, some)) (λ full. full) c.in_err-run_rest.ensures.fault)
 
 pub returns-in_err-turn-clause-fault : goal.returns-in_err-turn-clause-fault
 returns-in_err-turn-clause-fault g c =
     let v = c.args.before.now.value in
     let w = c.run_rest.new.window in
-    let some = c.requires.workers in
+    let some = c.args.workers.now.some in
     let p = err_from_is_err_and c.from_residual-in_err-turn.result c.from_residual-in_err-turn.ensures.1 in
     rw (p.1, p.2)
-    (meant_more 1 c.args._workers (RunsTooLong w) (HasTooMany (reached_in v)) c.in_err-turn.field-0.0 (omega (arith, some)) (λ long. turn_full v w c.args.until c.requires.edge c.requires.is_window c.in_ok-run_rest.ensures.done long) c.in_err-turn.ensures.fault)
+    (meant_more 1 c.args.workers.now.workers (RunsTooLong w) (HasTooMany (reached_in v)) c.in_err-turn.field-0.0 (omega (arith, some)) (λ long. turn_full v w c.args.until c.requires.edge c.requires.is_window c.in_ok-run_rest.ensures.done long) c.in_err-turn.ensures.fault)

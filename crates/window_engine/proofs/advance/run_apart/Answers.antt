@@ -39,6 +39,6 @@ returns-in_err-groups-clause-fault g c =
     let w = c.args.window.now in
     let p = err_from_is_err_and c.from_residual-in_err-groups.result c.from_residual-in_err-groups.ensures.1 in
     rw (p.1, p.2) (
-      of_pieces c.args.workers c.in_ok-pieces.pieces.items c.in_err-groups.field-0.0 c.requires.workers.0 c.in_err-groups.ensures.err,
+      of_pieces c.args.job.now.workers c.in_ok-pieces.pieces.items c.in_err-groups.field-0.0 c.args.job.now.several c.in_err-groups.ensures.err,
       λ is. pieces_full w c.end-end.result c.take_groups.result.items c.in_ok-pieces.pieces.items c.take_groups.ensures.groups c.end-end.ensures c.in_ok-pieces.ensures (c.in_err-groups.ensures.full is),
     )

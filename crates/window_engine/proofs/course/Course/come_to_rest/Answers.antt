@@ -14,34 +14,34 @@ pub put_made-requires-clause-fits : goal.put_made-requires-clause-fits
 put_made-requires-clause-fits g c =
     let b = c.requires.writing.behind in let at = b.gone.position in let few = b.few in let same = b.committed in omega (arith, same, at, few)
 
-pub overflow_add-written : goal.overflow_add-written
-overflow_add-written g c =
+pub overflow_add-writing : goal.overflow_add-writing
+overflow_add-writing g c =
     let w = c.requires.writing in
     let contents = g.S.Sink.contents in
-    let fits = more_fits c.args._until c.args._began.now.value c.args.self.now c.args.written.now (contents c.args._known.now.value) (contents c.args.sink.now) w (reached_in c.args.self.now.window) c.in-Ok.count (contents c.put_made.new.sink)
-    (c.in-Ok.ensures.wrote c.args._until w.net (reached_in c.args.self.now.window) w.early w.behind.gone) w.behind.few in
+    let fits = more_fits c.args.call.now.until c.args.call.now.began.value c.args.self.now c.args.writing.now.written (contents c.args.call.now.known.value) (contents c.args.sink.now) w (reached_in c.args.self.now.window) c.in-Ok.count (contents c.put_made.new.sink)
+    (c.in-Ok.ensures.wrote c.args.call.now.until w.net (reached_in c.args.self.now.window) w.early w.behind.gone) w.behind.few in
     omega (arith, fits)
 
 pub reported-requires : goal.reported-requires
 reported-requires g c =
     let w = c.requires.writing in
-    tells c.args._until c.args._began.now.value c.args.self.now c.args.written.now (g.S.Sink.contents c.args._known.now.value) (g.S.Sink.contents c.args.sink.now) w 1 c.put_made.new.self.position (g.S.Sink.contents c.put_made.new.sink) c.in-Err.fault
-    (c.in-Err.ensures.broke c.args._until w.net (reached_in c.args.self.now.window) w.early w.behind.gone w.behind.committed)
+    tells c.args.call.now.until c.args.call.now.began.value c.args.self.now c.args.writing.now.written (g.S.Sink.contents c.args.call.now.known.value) (g.S.Sink.contents c.args.sink.now) w 1 c.put_made.new.self.position (g.S.Sink.contents c.put_made.new.sink) c.in-Err.fault
+    (c.in-Err.ensures.broke c.args.call.now.until w.net (reached_in c.args.self.now.window) w.early w.behind.gone w.behind.committed)
 
 pub returns-in-Err-clause-ended : goal.returns-in-Err-clause-ended
 returns-in-Err-clause-ended g c =
     let w = c.requires.writing in
     let contents = g.S.Sink.contents in
     let failures = g.S.Sink.failures in
-    let some = c.requires.workers in
+    let some = c.args.call.now.workers.some in
     rw c.reported.ensures
-    (broken c.args._until c.args._began.now.value c.args.self.now c.args.written.now (contents c.args._known.now.value) (contents c.args.sink.now) w c.args._workers c.put_made.new.self (contents c.put_made.new.sink) c.in-Err.fault (failures c.args._known.now.value) (failures c.args.sink.now) (failures c.put_made.new.sink)
-    (broke_later 1 c.args._workers c.args._until c.args._until w.net c.put_made.new.self.position (contents c.args.sink.now) (contents c.put_made.new.sink) c.in-Err.fault (omega (arith, some)) (omega arith) (c.in-Err.ensures.broke c.args._until w.net (reached_in c.args.self.now.window) w.early w.behind.gone w.behind.committed))
+    (broken c.args.call.now.until c.args.call.now.began.value c.args.self.now c.args.writing.now.written (contents c.args.call.now.known.value) (contents c.args.sink.now) w c.args.call.now.workers.workers c.put_made.new.self (contents c.put_made.new.sink) c.in-Err.fault (failures c.args.call.now.known.value) (failures c.args.sink.now) (failures c.put_made.new.sink)
+    (broke_later 1 c.args.call.now.workers.workers c.args.call.now.until c.args.call.now.until w.net c.put_made.new.self.position (contents c.args.sink.now) (contents c.put_made.new.sink) c.in-Err.fault (omega (arith, some)) (omega arith) (c.in-Err.ensures.broke c.args.call.now.until w.net (reached_in c.args.self.now.window) w.early w.behind.gone w.behind.committed))
     (λ is. absurd (c.in-Err.ensures.not_full is)) c.requires.failures (c.put_made.ensures.failures ∙ ap (λ r. fails_after r (failures c.args.sink.now)) c.in-Err.is) (ap (λ (x : Course). x.groups) c.put_made.ensures.rest) (ap (λ (x : Course). x.ahead) c.put_made.ensures.rest))
 
 pub returns-in-Ok-clause-rests : goal.returns-in-Ok-clause-rests
 returns-in-Ok-clause-rests g c =
     let w = c.requires.writing in
     let contents = g.S.Sink.contents in
-    settled c.args._until c.args._began.now.value c.args.self.now c.args.written.now (contents c.args._known.now.value) (contents c.args.sink.now) w c.in-Ok.count c.put_made.new.self (contents c.put_made.new.sink)
-    (c.in-Ok.ensures.wrote c.args._until w.net (reached_in c.args.self.now.window) w.early w.behind.gone) c.put_made.ensures.rest c.in-Ok.ensures.position
+    settled c.args.call.now.until c.args.call.now.began.value c.args.self.now c.args.writing.now.written (contents c.args.call.now.known.value) (contents c.args.sink.now) w c.in-Ok.count c.put_made.new.self (contents c.put_made.new.sink)
+    (c.in-Ok.ensures.wrote c.args.call.now.until w.net (reached_in c.args.self.now.window) w.early w.behind.gone) c.put_made.ensures.rest c.in-Ok.ensures.position

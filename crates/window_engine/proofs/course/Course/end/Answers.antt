@@ -13,5 +13,5 @@ returns-in-Ok g c =
     let failures = g.S.Sink.failures in
     let rest = c.come_to_rest.new in
     let window = ap (λ (x : Course). x.window) c.come_to_rest.ensures.rest in
-    rested a.workers a.until a.began.now.value rest.self rest.written (contents a.known.now.value) (contents rest.sink) (failures a.known.now.value) (failures rest.sink) a.stop c.in-Ok.ensures.rests c.in-Ok.ensures.failures
-    (subst (λ (v : WindowValue). IsStop a.until (edge_of v) a.stop) (sym window) c.requires.stop)
+    rested a.call.now.workers.workers a.call.now.until a.call.now.began.value rest.self rest.writing.written (contents a.call.now.known.value) (contents rest.sink) (failures a.call.now.known.value) (failures rest.sink) a.stop c.in-Ok.ensures.rests c.in-Ok.ensures.failures
+    (subst (λ (v : WindowValue). IsStop a.call.now.until (edge_of v) a.stop) (sym window) c.requires.stop)

@@ -35,10 +35,10 @@ returns-in-Err-clause-ended g c =
     let contents = g.S.Sink.contents in
     let failures = g.S.Sink.failures in
     let put = c.write_some-put in
-    let upto : c.min-bound.result ≤ a.until = omega (arith, c.min-bound.ensures) in
+    let upto : c.min-bound.result ≤ a.call.now.until = omega (arith, c.min-bound.ensures) in
     rw c.reported.ensures
-    (broken_on a.until c.min-bound.result a._began.now.value a.self.now was.self was.single.net a.written.now was.written (contents a._known.now.value) (contents a.sink.now) (contents was.sink) c.requires.rests was.invariant.0 upto a._workers put.new.self (contents put.new.sink) c.in-Err.fault (failures a._known.now.value) (failures was.sink) (failures put.new.sink)
-    c.requires.workers c.in-Err.ensures.broke c.in-Err.ensures.full (was.invariant.1 ∙ c.requires.failures) (put.ensures.failures ∙ ap (λ r. fails_after r (failures was.sink)) c.in-Err.is) (ap (λ (x : Course). x.groups) put.ensures.rest) (ap (λ (x : Course). x.ahead) put.ensures.rest))
+    (broken_on a.call.now.until c.min-bound.result a.call.now.began.value a.self.now was.self was.single.net a.written.now was.written (contents a.call.now.known.value) (contents a.sink.now) (contents was.sink) c.requires.rests was.invariant.0 upto a.call.now.workers.workers put.new.self (contents put.new.sink) c.in-Err.fault (failures a.call.now.known.value) (failures was.sink) (failures put.new.sink)
+    a.call.now.workers.some c.in-Err.ensures.broke c.in-Err.ensures.full (was.invariant.1 ∙ c.requires.failures) (put.ensures.failures ∙ ap (λ r. fails_after r (failures was.sink)) c.in-Err.is) (ap (λ (x : Course). x.groups) put.ensures.rest) (ap (λ (x : Course). x.ahead) put.ensures.rest))
 
 pub loop-more-preserved : goal.loop-more-preserved
 loop-more-preserved g c =
@@ -47,9 +47,9 @@ loop-more-preserved g c =
     let contents = g.S.Sink.contents in
     let failures = g.S.Sink.failures in
     let put = c.write_some-put in
-    let now = record put.new.self { granularity = c.ticket.new.self } in
+    let now = record put.new.self { granularity = c.count_singly.new.self } in
     let at = c.in-Ok-put.ensures.committed in
-    let rest : now ≡ record was.self { position = put.new.single.net.position; granularity = c.ticket.new.self } = ap (λ (x : Course). record x { granularity = c.ticket.new.self }) put.ensures.rest ∙ ap (λ n. record was.self { position = n; granularity = c.ticket.new.self }) at in (
+    let rest : now ≡ record was.self { position = put.new.single.net.position; granularity = c.count_singly.new.self } = ap (λ (x : Course). record x { granularity = c.count_singly.new.self }) put.ensures.rest ∙ ap (λ n. record was.self { position = n; granularity = c.count_singly.new.self }) at in (
       on_more c.min-bound.result a.self.now was.self was.single.net a.written.now was.written (contents a.sink.now) (contents was.sink) was.invariant.0 now put.new.single.net c.in-Ok-put.count (was.written + c.in-Ok-put.count) (contents put.new.sink) c.in-Ok-put.ensures.wrote rest refl c.position-reached-in-loop-more.ensures.is_run.position_fits,
       put.ensures.failures ∙ ap (λ r. fails_after r (failures was.sink)) c.in-Ok-put.is ∙ was.invariant.1,
     )
@@ -59,25 +59,25 @@ take_up-requires-clause-runs g c =
     let a = c.args in
     let was = c.loop-more in
     let contents = g.S.Sink.contents in
-    let upto : c.min-bound.result ≤ a.until = omega (arith, c.min-bound.ensures) in
-    runs_there a.until c.min-bound.result a._began.now.value a.self.now was.self was.single.net a.written.now was.written (contents a._known.now.value) (contents a.sink.now) (contents was.sink) c.requires.rests was.invariant.0 upto
+    let upto : c.min-bound.result ≤ a.call.now.until = omega (arith, c.min-bound.ensures) in
+    runs_there a.call.now.until c.min-bound.result a.call.now.began.value a.self.now was.self was.single.net a.written.now was.written (contents a.call.now.known.value) (contents a.sink.now) (contents was.sink) c.requires.rests was.invariant.0 upto
 
 pub take_up-requires-clause-few : goal.take_up-requires-clause-few
 take_up-requires-clause-few g c =
     let a = c.args in
     let was = c.loop-more in
     let contents = g.S.Sink.contents in
-    let upto : c.min-bound.result ≤ a.until = omega (arith, c.min-bound.ensures) in
-    few_there a.until c.min-bound.result a._began.now.value a.self.now was.self was.single.net a.written.now was.written (contents a._known.now.value) (contents a.sink.now) (contents was.sink) c.requires.rests was.invariant.0 upto
+    let upto : c.min-bound.result ≤ a.call.now.until = omega (arith, c.min-bound.ensures) in
+    few_there a.call.now.until c.min-bound.result a.call.now.began.value a.self.now was.self was.single.net a.written.now was.written (contents a.call.now.known.value) (contents a.sink.now) (contents was.sink) c.requires.rests was.invariant.0 upto
 
 pub returns-in-Ok-take_up-clause-rests : goal.returns-in-Ok-take_up-clause-rests
 returns-in-Ok-take_up-clause-rests g c =
     let a = c.args in
     let was = c.loop-more in
     let contents = g.S.Sink.contents in
-    let upto : c.min-bound.result ≤ a.until = omega (arith, c.min-bound.ensures) in
+    let upto : c.min-bound.result ≤ a.call.now.until = omega (arith, c.min-bound.ensures) in
     let up = c.in-Ok-take_up.ensures in
-    taken_up a.until c.min-bound.result a._began.now.value a.self.now was.self was.single.net a.written.now was.written (contents a._known.now.value) (contents a.sink.now) (contents was.sink) c.requires.rests was.invariant.0 upto c.take_up.new.self up.edge up.net up.end up.apart c.take_up.ensures.rest
+    taken_up a.call.now.until c.min-bound.result a.call.now.began.value a.self.now was.self was.single.net a.written.now was.written (contents a.call.now.known.value) (contents a.sink.now) (contents was.sink) c.requires.rests was.invariant.0 upto c.take_up.new.self up.edge up.net up.end up.apart c.take_up.ensures.rest
 
 pub returns-clause-ended : goal.returns-clause-ended
 returns-clause-ended g c =
@@ -85,8 +85,8 @@ returns-clause-ended g c =
     let was = c.loop-more in
     let contents = g.S.Sink.contents in
     let failures = g.S.Sink.failures in
-    let upto : c.min-bound.result ≤ a.until = omega (arith, c.min-bound.ensures) in
+    let upto : c.min-bound.result ≤ a.call.now.until = omega (arith, c.min-bound.ensures) in
     let here = on_at c.min-bound.result a.self.now was.self was.single.net a.written.now was.written (contents a.sink.now) (contents was.sink) was.invariant.0 in
     let at = ap (λ (x : Course). x.position) c.take_up.ensures.rest ∙ here in
-    broken_on a.until c.min-bound.result a._began.now.value a.self.now was.self was.single.net a.written.now was.written (contents a._known.now.value) (contents a.sink.now) (contents was.sink) c.requires.rests was.invariant.0 upto a._workers c.take_up.new.self (contents was.sink) (Workers NoMemory) (failures a._known.now.value) (failures was.sink) (failures was.sink)
-    c.requires.workers (wrote_no_more c.min-bound.result was.single.net c.take_up.new.self.position (contents was.sink) at, tt) (λ is. absurd (cc)) (was.invariant.1 ∙ c.requires.failures) refl (ap (λ (x : Course). x.groups) c.take_up.ensures.rest) (ap (λ (x : Course). x.ahead) c.take_up.ensures.rest)
+    broken_on a.call.now.until c.min-bound.result a.call.now.began.value a.self.now was.self was.single.net a.written.now was.written (contents a.call.now.known.value) (contents a.sink.now) (contents was.sink) c.requires.rests was.invariant.0 upto a.call.now.workers.workers c.take_up.new.self (contents was.sink) (Workers NoMemory) (failures a.call.now.known.value) (failures was.sink) (failures was.sink)
+    a.call.now.workers.some (wrote_no_more c.min-bound.result was.single.net c.take_up.new.self.position (contents was.sink) at, tt) (λ is. absurd (cc)) (was.invariant.1 ∙ c.requires.failures) refl (ap (λ (x : Course). x.groups) c.take_up.ensures.rest) (ap (λ (x : Course). x.ahead) c.take_up.ensures.rest)

@@ -9,8 +9,8 @@ pub returns-in_default : goal.returns-in_default
 returns-in_default g c =
     let a = c.args in
     let new = c.settle.new in
-    let known = g.S.Sink.contents a.known.now.value in
+    let known = g.S.Sink.contents a.call.now.known.value in
     let contents = g.S.Sink.contents new.sink in
-    let window : c.of-now.result.value ≡ new.self.window = c.of-now.ensures ∙ sym (ap (λ (x : Course). x.window) c.settle.ensures.rest) in
-    let w = subst (λ (v : WindowValue). IsWriting a.until a.began.now.value (record new.self { window = v }) new.written known contents) window c.in_ok-settle.ensures.writing in
-    out_of_memory a.until a.began.now.value new.self new.written known contents w a.window_workers.now.workers (g.S.Sink.failures a.known.now.value) (g.S.Sink.failures new.sink) c.in_ok-settle.ensures.failures
+    let window : new.writing.window.value ≡ new.self.window = ap (λ x. x.window.value) c.settle.ensures.same ∙ c.of-now.ensures ∙ sym (ap (λ (x : Course). x.window) c.settle.ensures.rest) in
+    let w = subst (λ (v : WindowValue). IsWriting a.call.now.until a.call.now.began.value (record new.self { window = v }) new.writing.written known contents) window c.in_ok-settle.ensures.writing in
+    out_of_memory a.call.now.until a.call.now.began.value new.self new.writing.written known contents w a.call.now.workers.workers (g.S.Sink.failures a.call.now.known.value) (g.S.Sink.failures new.sink) c.in_ok-settle.ensures.failures

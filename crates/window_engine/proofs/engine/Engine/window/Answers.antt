@@ -1,17 +1,12 @@
-use Rattle.std.proofs.Common.{◌<◌, ℕ, ap, arith, length, min, refl, subst, sym}
+use Rattle.std.proofs.Common.{◌<◌, ℕ, length, min, refl, subst, sym}
 use Rattle.window_core.specs.Window.{WindowValue}
 use Rattle.window_engine.specs.Edges.{StaysNet, edge_of, reached_in}
 use Rattle.window_engine.specs.Engines.{EngineValue, GoesOn, IsNext, NoneBelow, window_end_by}
 use Rattle.window_core.specs.Full.{HasTooMany}
-use Rattle.window_core.specs.Sheaves.{SheafValue}
 use Rattle.window_core.specs.Windows.{AreBelow}
 use Rattle.window_engine.proofs.Between.{early_apart, left_apart, net_is}
 use Rattle.window_engine.proofs.Grouped.{ran_on}
-use Rattle.window_engine.proofs.Unwritten.{no_line}
 use Rattle.window_engine.proofs.engine.Engine.window.Goals as goal
-
-pub run_once-ran-requires-clause-fits : goal.run_once-ran-requires-clause-fits
-run_once-ran-requires-clause-fits g c = omega (arith, ap (λ (s : SheafValue). s.first) c.new-none.ensures, ap length (no_line c.new-none.result 1 c.new-none.ensures))
 
 pub returns-clause-none_left : goal.returns-clause-none_left
 returns-clause-none_left g c =

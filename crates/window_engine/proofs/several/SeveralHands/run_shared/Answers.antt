@@ -13,5 +13,5 @@ returns-in_err-run_apart-clause-fault g c =
     let v = c.args.window.now in let w = c.limit.new.self in
     let p = err_from_is_err_and c.from_residual.result c.from_residual.ensures.1 in
     rw (p.1, p.2)
-    (meant_more c.args.workers c.args.workers (HasFullGroup w) (HasTooMany (reached_in v)) c.in_err-run_apart.field-0.0 (omega arith)
+    (meant_more c.args.job.now.workers c.args.job.now.workers (HasFullGroup w) (HasTooMany (reached_in v)) c.in_err-run_apart.field-0.0 (omega arith)
     (λ full. group_full v w c.requires.edge c.position-began.ensures.is_window c.position-limited.ensures.is_window c.limit.ensures.from (ap (λ (x : WindowValue). x.position) c.limit.ensures.state) full) c.in_err-run_apart.ensures.fault)

@@ -1,5 +1,0 @@
-use Rattle.window_engine.specs.Parts.{IsRight}
-use Rattle.window_engine.proofs.formatter.TextFormatter.make_next.Given as goal
-
-abbrev pub invariant-loop : goal.invariant-loop
-invariant-loop l = IsRight l.sheaf l.self

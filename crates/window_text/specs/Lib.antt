@@ -1,0 +1,9 @@
+pub mod Failures
+pub mod Over
+pub mod Puts
+pub mod Text
+pub mod Parts
+pub mod PendingText
+pub mod Desks
+pub use Rattle.line_merge.specs.Merged
+pub use Rattle.line_merge.specs.Sheaves
