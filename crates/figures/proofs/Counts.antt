@@ -1,11 +1,10 @@
 -- Counts of values in classes, one value more, and one class more.
-use Rattle.std.proofs.Common.{◌≡◌, ◌≢◌, ◌<◌, ◌≤◌, ◌+◌, ℕ, zero, suc, Bool, true, false, cond, ◌==◌, List, [], ◌∷◌, ◌++◌, length, get_or, set, refl, sym, ap, ◌∙◌, arith, ⊎_elim}
+use Rattle.std.proofs.Common.{◌≡◌, ◌≢◌, ◌<◌, ◌≤◌, ◌+◌, ℕ, zero, suc, Bool, true, false, cond, ◌==◌, List, [], ◌∷◌, ◌++◌, get_or, refl, sym, ap, ◌∙◌, arith, ⊎_elim}
 use Rattle.std.specs.Prelude.{count_by, max, min, nat_le, nat_lt}
 use Rattle.std.proofs.lemmas.Bool.{cases_eq, cases_Bool, eq-eqb, eqb-true, lt-leb, le-leb}
 use Rattle.std.proofs.Math.Nat.{zero-add}
 use Rattle.std.proofs.lemmas.Bool.Decides.{nat_tests}
 use Rattle.std.proofs.lemmas.List.Sums.{sum_by-append, sum_by-cons}
-use Rattle.std.proofs.lemmas.List.{get_or-set_same, get_or-set_other}
 use Rattle.figures.specs.Classes.{class_of, in_class, least_from, greatest, upto, class_from, class_at}
 
 -- a count over values with one more at the end
@@ -29,14 +28,14 @@ pub test_no : (a b : ℕ) → a ≢ b → (a == b) ≡ false
 test_no a b apart = ⊎_elim (λ (e : (a == b) ≡ true). absurd (apart (eqb-true a b e))) (λ (e : (a == b) ≡ false). e) (cases_Bool (a == b))
 
 -- the counts of the classes, one value more
-pub class_more : (xs counts : List ℕ) (v class c : ℕ) → class ≡ class_of v → class < length counts → get_or counts c 0 ≡ in_class xs c → get_or (set counts class (get_or counts class 0 + 1)) c 0 ≡ in_class (xs ++ v ∷ []) c
-class_more xs counts v class c class_is within at =
+pub class_more : (xs old new : List ℕ) (v class c : ℕ) → class ≡ class_of v → get_or new class 0 ≡ get_or old class 0 + 1 → (c ≢ class → get_or new c 0 ≡ get_or old c 0) → get_or old c 0 ≡ in_class xs c → get_or new c 0 ≡ in_class (xs ++ v ∷ []) c
+class_more xs old new v class c class_is here others at =
     ⊎_elim
     (λ (same : c ≡ class).
-    ap (λ i. get_or (set counts class (get_or counts class 0 + 1)) i 0) same ∙ get_or-set_same counts class (get_or counts class 0 + 1) 0 within
-    ∙ ap (λ i. get_or counts i 0 + 1) (sym same) ∙ ap (λ n. n + 1) at ∙ ap (λ b. in_class xs c + cond b 1 0) (sym (eq-eqb (class_of v) c (sym class_is ∙ sym same))) ∙ sym (count_more (λ x. class_of x == c) xs v))
+    ap (λ i. get_or new i 0) same ∙ here ∙ ap (λ i. get_or old i 0 + 1) (sym same) ∙ ap (λ n. n + 1) at
+    ∙ ap (λ b. in_class xs c + cond b 1 0) (sym (eq-eqb (class_of v) c (sym class_is ∙ sym same))) ∙ sym (count_more (λ x. class_of x == c) xs v))
     (λ (other : c ≢ class).
-    get_or-set_other counts class c (get_or counts class 0 + 1) 0 other ∙ at ∙ add-zero' (in_class xs c) ∙ ap (λ b. in_class xs c + cond b 1 0) (sym (test_no (class_of v) c (λ e. other (sym e ∙ sym class_is)))) ∙ sym (count_more (λ x. class_of x == c) xs v))
+    others other ∙ at ∙ add-zero' (in_class xs c) ∙ ap (λ b. in_class xs c + cond b 1 0) (sym (test_no (class_of v) c (λ e. other (sym e ∙ sym class_is)))) ∙ sym (count_more (λ x. class_of x == c) xs v))
     (cases_eq c class)
   where
     add-zero' : (n : ℕ) → n ≡ n + 0

@@ -31,3 +31,4 @@ pub mod LinkLaws
 pub mod Delivered
 pub mod One
 pub mod AtOnce
+pub mod Trips

@@ -1,6 +1,6 @@
 -- What is said of percentiles, and of what is counted of every run.
-use Rattle.std.specs.Prelude.{◌≡◌, ◌≤◌, ◌<◌, ◌+◌, ◌*◌, ◌/◌, ◌^◌, ◌==◌, ℕ, nat_lt, nat_le, false, List, length, filter, count_by, All, Contains, IfSome, Some, None}
-use Rattle.std.specs.List.{slice_get}
+use Rattle.std.specs.Prelude.{◌≡◌, ◌≤◌, ◌<◌, ◌+◌, ◌*◌, ◌/◌, ◌^◌, ◌==◌, ℕ, nat_lt, nat_le, false, List, length, filter, count_by, All, Contains, Option, IfSome, Some, None}
+use Rattle.std.specs.List.{slice_get, fold}
 use Rattle.packet_chain.specs.declared.packet.Packet.{Packet}
 use Rattle.aqm.specs.DropTail.{is_full}
 use Rattle.aqm.specs.Queue.{fifo_of}
@@ -8,9 +8,12 @@ use Rattle.aqm.specs.declared.drop_reason.DropReason.TheVariants.{Lost, Full, Ta
 use Rattle.aqm.specs.declared.drop_reason.TakeDrop.TheVariants.{Codel}
 use Rattle.port.specs.Port.{PortState, with_packet}
 use Rattle.port.specs.Laws.{NothingWaitsWhereIdle}
+use Rattle.reno_sender.specs.declared.fields.SenderFields.{SenderFields}
+use Rattle.reno_sender.specs.Timer.{sampled}
 use Rattle.scenario_image.specs.declared.parts.FlowPart.{FlowPart}
 use Rattle.scenario_image.specs.declared.parts.ScenarioParts.{ScenarioParts}
 use Rattle.scenario_image.specs.Scenario.{IsScenario}
+use Rattle.node_core.specs.declared.role.Role.TheVariants.{Sends}
 use Rattle.node_core.specs.TraceLine.{TraceLine}
 use Rattle.table_run.specs.State.{State, part_at, initial, step}
 use Rattle.table_run.specs.Flow.{received_next}
@@ -84,3 +87,17 @@ abbrev pub ActsAreOfTheirLink : Type 0
 ActsAreOfTheirLink =
     (p : ScenarioParts) (n : ℕ) (lines : List TraceLine) (s : State) → IsScenario p → ComesTo p n lines s → (line : TraceLine) (t : State) → step s ≡ Some (line, t) →
     (node index : ℕ) → index < length (part_at s node).links → acts_at node index (record { before = s; line = line; after = t }) ≡ filter (λ act. link_of act == (port_at s node index).link) line.acts
+
+-- what a sender keeps of its round trip, srtt and rttvar, and what one sample more leaves of it (RFC 6298 section 2)
+abbrev pub trip_kept : SenderFields → Option ℕ × ℕ
+trip_kept f = (f.srtt, f.rttvar)
+
+abbrev pub smoothed : Option ℕ × ℕ → ℕ → Option ℕ × ℕ
+smoothed kept trip = let estimate = sampled kept.0 kept.1 trip in (Some estimate.srtt, estimate.rttvar)
+
+-- in each state of a run the table of a flow's sender has taken the samples that are counted: it keeps what they leave, one after another, from no srtt and an rttvar of 0 on
+abbrev pub TripsAreTakenByTheTable : Type 0
+TripsAreTakenByTheTable =
+    (p : ScenarioParts) (n : ℕ) (lines : List TraceLine) (s : State) → IsScenario p → ComesTo p n lines s →
+    (number : ℕ) (flow : FlowPart) → slice_get p.flows number ≡ Some flow → (f : SenderFields) → (part_at s flow.sender).role ≡ Sends number f →
+    trip_kept f ≡ fold smoothed (None, 0) (trips_of (turns_at flow.sender (moments (initial p) n)))

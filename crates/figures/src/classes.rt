@@ -1,5 +1,5 @@
 //! Classes of values: one for each value below 64, and 32 for each doubling from there on.
-ghost use Rattle.std.specs.Prelude.{◌≡◌, ◌<◌, ◌^◌, ℕ, List, length, slice_index};
+ghost use Rattle.std.specs.Prelude.{◌≡◌, ◌<◌, ◌^◌, ℕ, List, slice_index};
 ghost use Rattle.figures.specs.Classes.{class_of as class_is, top_of as top_is, class_at as class_at_rank, in_class};
 
 /// How many classes there are of values below 2^50.
@@ -25,15 +25,24 @@ pub fn top_of(class: usize) -> u64
     (((class - 32 * halvings + 1) as u64) << halvings) - 1
 }
 
+// How many values are of a class: none of one past those that are counted.
+fn count_of(counts: &[u64], class: usize) -> u64
+    ensures { result ≡ slice_index counts.now class }
+{
+    match counts.get(class) {
+        Some(count) => *count,
+        None => 0,
+    }
+}
+
 /// The class in which the value of a rank lies, counted from 1, by how many values are of each class.
 pub fn class_at(counts: &[u64], rank: u64) -> usize
-    requires { length counts.now ≡ 1472 }
     ensures class { (xs : List ℕ) → ((c : ℕ) → c < 1472 → slice_index counts.now c ≡ in_class xs c) → result ≡ class_at_rank xs rank }
     ensures within { result < 1472 }
 {
     let mut left = rank;
     for class in 0..CLASSES - 1 {
-        let count = counts[class];
+        let count = count_of(counts, class);
         if left <= count {
             return class;
         }

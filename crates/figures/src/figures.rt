@@ -88,8 +88,8 @@ fn sender_at(nodes: &[Node], place: usize) -> Option<&Sender>
 }
 
 // Nothing is counted yet of a node's sender, if it has one, behind what has completed its flow, if anything has.
-fn begun(alloc: Global, node: &Node, completed: Option<Time>) -> Result<SenderFigures, AllocError>
-    ensures { IfOk result (IsBegun completed node.now.part.role) }
+fn begun(alloc: Global, node: &Node, completed: Option<Time>) -> SenderFigures
+    ensures { IsBegun completed node.now.part.role result }
 {
     match node.sender() {
         Some((_, sender)) => SenderFigures::new(alloc, sender, completed),
@@ -122,7 +122,7 @@ fn all_begun(
     let mut all = Vec::new(alloc);
     for place in 0..nodes.len() {
         let node = &nodes[place];
-        all.push(begun(alloc, node, completed_at(earlier, place))?)?;
+        all.push(begun(alloc, node, completed_at(earlier, place)))?;
     }
     Ok(all)
 }

@@ -1,6 +1,6 @@
 //! What holds of all figures. Each function is a law: its contract is the statement, and its body is
 //! empty.
-ghost use Rattle.figures.specs.Laws.{PercentilesAreNear, PercentilesRise, SentAgainIsSent, OfferedArePlaced, EachSentHasItsWait, SentAsOffered, DeliveredIsOfTheFlow, EachDoublingHas32Classes, CountedLieBelow, ActsAreOfTheirLink};
+ghost use Rattle.figures.specs.Laws.{PercentilesAreNear, PercentilesRise, SentAgainIsSent, OfferedArePlaced, EachSentHasItsWait, SentAsOffered, DeliveredIsOfTheFlow, EachDoublingHas32Classes, CountedLieBelow, ActsAreOfTheirLink, TripsAreTakenByTheTable};
 
 /// A percentile that is answered is no less than the exact one, and at most a 32nd above it.
 #[tactic(auto, using(crate::proofs::Near::percentiles_near))]
@@ -67,4 +67,11 @@ pub fn what_is_counted_lies_below_2_to_the_50th()
 #[tactic(auto, using(crate::proofs::OwnActs::acts_are_of_their_link))]
 pub fn acts_are_counted_of_their_link()
     ensures { ActsAreOfTheirLink }
+{}
+
+/// In each state of each run of a scenario the samples of a round trip that are counted are those that the sender's
+/// table has taken: its srtt and rttvar are what they leave, one after another (RFC 6298 section 2).
+#[tactic(auto, using(crate::proofs::Trips::trips_are_taken))]
+pub fn trips_are_those_of_the_senders_table()
+    ensures { TripsAreTakenByTheTable }
 {}

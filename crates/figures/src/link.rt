@@ -1,42 +1,42 @@
 //! What is counted of a link.
-ghost use Rattle.std.specs.Prelude.{◌≡◌, ◌≢◌, ◌+◌, ◌-◌, ◌*◌, ◌<◌, ◌≤◌, ◌^◌, [], List, false, max, IfOk, Some, None, if◌then◌else◌};
+ghost use Rattle.std.specs.Prelude.{◌≡◌, ◌≢◌, ◌+◌, ◌-◌, ◌*◌, ◌<◌, ◌≤◌, ◌^◌, [], List, false, length, max, Some, None, if◌then◌else◌};
 
 use crate::reported::{frees, is_at, reported_by, sent_alone, wait_by};
 use crate::tally::Tally;
-use crate::waits::next_entry;
+use crate::waits::{next_entry, note_entry};
 use node_core::{Act, Line};
 use port::Port;
 use sim_time::Time;
-use std::alloc::{AllocError, Global};
+use std::alloc::Global;
 
 /// What is counted of a link.
 #[derive(Drop)]
 pub struct LinkFigures {
     /// How many packets were offered to it.
     pub offered: u128,
+    /// How many packets waited, times for how many nanoseconds, up to when that was read last.
+    pub waited: u128,
     /// How many packets wait at it.
     pub waiting: usize,
     /// When these were read last, in nanoseconds.
     pub since: Time,
-    /// How many packets waited, times for how many nanoseconds, up to then.
-    pub waited: u128,
     /// For how many nanoseconds it was busy, up to then.
     pub busy_for: u64,
     /// When the packet entered its queue, in nanoseconds, that it is given once it is free, if it is given one.
     pub next_entry: Time,
     /// The longest queue so far, in packets.
     pub longest: usize,
+    /// How many events were run at its node.
+    pub turns: u64,
     /// Whether it is busy.
     pub busy: bool,
+    /// For how long each packet waited that began to be sent, in nanoseconds: 0 where it was sent
+    /// as it was offered.
+    pub waits: Tally,
     /// How many packets began to be sent.
     pub sent: u128,
     /// The bytes of the packets that began to be sent.
     pub bytes: u128,
-    /// How many events were run at its node.
-    pub turns: u64,
-    /// For how long each packet waited that began to be sent, in nanoseconds: 0 where it was sent
-    /// as it was offered.
-    pub waits: Tally,
     /// How many packets were offered to it before it was counted.
     pub first: u128,
     /// How many packets were dropped, as the list of lost packets names them.
@@ -110,13 +110,14 @@ impl LinkFigures {
     ghost use Rattle.sim_time.specs.Moment.{IsMoment};
     ghost use Rattle.node_core.specs.TraceLine.{shown};
     ghost use Rattle.port.specs.declared.acts.Act.{Act};
+    ghost use Rattle.figures.specs.Classes.{class_of};
     ghost use Rattle.figures.specs.Links.{acts_between, is_free, tx_in, IsSentAlone, IsCountedOf, IsPassed, IsLinkCounted, IsLinkBegun, IsLinkAfter};
 
     /// Nothing is counted yet of a link, which is from a moment on.
-    pub fn new(alloc: Global, port: &Port, since: Time) -> Result<LinkFigures, AllocError>
-        ensures { IfOk result (IsLinkBegun since port.now) }
+    pub fn new(alloc: Global, port: &Port, since: Time) -> LinkFigures
+        ensures { IsLinkBegun since port.now result }
     {
-        Ok(LinkFigures {
+        LinkFigures {
             offered: port.offered(),
             waiting: port.queue().len(),
             since,
@@ -128,12 +129,12 @@ impl LinkFigures {
             sent: 0,
             bytes: 0,
             turns: 0,
-            waits: Tally::new(alloc)?,
+            waits: Tally::new(alloc),
             first: port.offered(),
             lost: 0,
             full: 0,
             codel: 0,
-        })
+        }
     }
 
     // One more event was run at its node, with these acts at it; answers how many packets began to be sent.
@@ -179,8 +180,8 @@ impl LinkFigures {
         self.offered = port.offered();
         self.waiting = port.queue().len();
         self.busy = port.next_free().is_some();
-        self.next_entry = next_entry(port);
         note_longest(&mut self.longest, self.waiting);
+        note_entry(&mut self.next_entry, port);
     }
 
     // One more event was run at its node at a moment, which did nothing at it, and it is `port` now.
@@ -202,12 +203,13 @@ impl LinkFigures {
         requires moment { IsMoment now }
         requires order { self.old.since ≤ now }
         requires wait { wait < 2 ^ 50 }
+        requires known { class_of wait < length self.old.waits.counts.items }
         ensures { (acts : List Act) → IsSentAlone acts bytes → IsLinkCounted self.old port.now now acts (Some wait) self.new }
     {
         self.turns += 1;
         self.sent += 1;
         self.bytes += u128::from(bytes);
-        self.waits.note(wait);
+        self.waits.note_known(wait);
         self.pass(port, now);
     }
 
@@ -243,8 +245,10 @@ impl LinkFigures {
             }
             if let Some(bytes) = sent_alone(acts) {
                 let wait = line.key.time.saturating_sub(self.next_entry);
-                self.count_sent(port, line.key.time, bytes, wait);
-                return;
+                if self.waits.has_count(wait) {
+                    self.count_sent(port, line.key.time, bytes, wait);
+                    return;
+                }
             }
         }
         self.after(port, line);
@@ -266,8 +270,10 @@ impl LinkFigures {
             return;
         }
         if let Some(bytes) = sent_alone(acts) {
-            self.count_sent(port, line.key.time, bytes, 0);
-            return;
+            if self.waits.has_count(0) {
+                self.count_sent(port, line.key.time, bytes, 0);
+                return;
+            }
         }
         self.after(port, line);
     }

@@ -30,7 +30,7 @@ fn links_begun(alloc: Global, links: &[Link], since: Time) -> Result<Vec<LinkFig
 {
     let mut all = Vec::new(alloc);
     for link in links {
-        all.push(LinkFigures::new(alloc, link.port(), since)?)?;
+        all.push(LinkFigures::new(alloc, link.port(), since))?;
     }
     Ok(all)
 }

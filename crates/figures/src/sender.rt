@@ -1,5 +1,5 @@
 //! What is counted of a sender.
-ghost use Rattle.std.specs.Prelude.{◌≡◌, ◌+◌, ◌*◌, ◌<◌, ◌≤◌, ◌^◌, ◌++◌, ◌∷◌, [], ℕ, List, Option, Some, None, IfOk, IfSome, if◌then◌else◌};
+ghost use Rattle.std.specs.Prelude.{◌≡◌, ◌+◌, ◌*◌, ◌<◌, ◌≤◌, ◌^◌, ◌++◌, ◌∷◌, [], ℕ, List, Option, Some, None, IfSome, if◌then◌else◌};
 ghost use Rattle.std.specs.Option.{option_or};
 ghost use Rattle.figures.specs.Turns.{trip_of as trip_is, sample_by as sample_is, recovers as recovers_is, is_timeout as timeout_is, is_complete as complete_is};
 ghost use Rattle.reno_sender.specs.Fields.{IsSound};
@@ -8,7 +8,7 @@ use crate::tally::Tally;
 use crate::turn::{Cause, KeptSender, kept_of, sent_by};
 use reno_sender::{Sender, SenderFields, Timing};
 use sim_time::Time;
-use std::alloc::{AllocError, Global};
+use std::alloc::Global;
 
 /// What is counted of a sender.
 #[derive(Drop)]
@@ -123,25 +123,21 @@ impl SenderFigures {
 
     /// Nothing is counted yet of a sender that keeps these fields, behind turns by which all bytes of its
     /// flow were acknowledged at a moment, or not yet.
-    pub fn new(
-        alloc: Global,
-        kept: &Sender,
-        completed: Option<Time>,
-    ) -> Result<SenderFigures, AllocError>
-        ensures figures { (before : List Turn) → completed ≡ completed_of before → IfOk result (AreOfTurns before []) }
-        ensures kept { IfOk result (λ f. Keeps f.kept kept.now) }
-        ensures turns { IfOk result (λ f. f.turns ≡ 0) }
+    pub fn new(alloc: Global, kept: &Sender, completed: Option<Time>) -> SenderFigures
+        ensures figures { (before : List Turn) → completed ≡ completed_of before → AreOfTurns before [] result }
+        ensures kept { Keeps result.kept kept.now }
+        ensures turns { result.turns ≡ 0 }
     {
-        Ok(SenderFigures {
+        SenderFigures {
             kept: kept_of(kept.as_fields()),
             completed,
             sent: 0,
             again_in_recovery: 0,
             again_otherwise: 0,
             timeouts: 0,
-            trips: Tally::new(alloc)?,
+            trips: Tally::new(alloc),
             turns: 0,
-        })
+        }
     }
 
     /// The sender has acted, and keeps `new` from then on.

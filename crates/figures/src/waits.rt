@@ -26,7 +26,6 @@ fn entry_by_wait(queue: &Queue, now: Time) -> Time
 
 // When the packet entered the queue that a busy link is given once it is free, whose queue may drop others before;
 // 0 where it is given none.
-#[inline(never)]
 fn entry_behind_drops(port: &Port) -> Time
     ensures { IsNextEntry port.now result }
 {
@@ -34,6 +33,14 @@ fn entry_behind_drops(port: &Port) -> Time
         Some(free) if free <= LAST_MOMENT => entry_by_wait(port.queue(), free),
         _ => 0,
     }
+}
+
+// The same, noted.
+#[inline(never)]
+fn note_behind_drops(entry: &mut Time, port: &Port)
+    ensures { IsNextEntry port.now entry.new }
+{
+    *entry = entry_behind_drops(port);
 }
 
 // When the packet at the head of a queue entered it; 0 where none waits.
@@ -47,16 +54,25 @@ fn entry_at_head(queue: &Queue) -> Time
     }
 }
 
-/// When the packet entered the queue that a busy link is given once it is free, if it is given one and the queue
-/// stays as it is; else any moment.
+/// Notes when the packet entered the queue that a busy link is given once it is free, if it is given one and the queue
+/// stays as it is; else any moment. Called last, it keeps nothing on the stack.
 #[inline(always)]
-pub fn next_entry(port: &Port) -> Time
-    ensures { IsNextEntry port.now result }
+pub fn note_entry(entry: &mut Time, port: &Port)
+    ensures { IsNextEntry port.now entry.new }
 {
     let queue = port.queue();
     if queue.may_drop() {
-        entry_behind_drops(port)
+        note_behind_drops(entry, port);
     } else {
-        entry_at_head(queue)
+        *entry = entry_at_head(queue);
     }
+}
+
+/// When that is.
+pub fn next_entry(port: &Port) -> Time
+    ensures { IsNextEntry port.now result }
+{
+    let mut entry = 0;
+    note_entry(&mut entry, port);
+    entry
 }

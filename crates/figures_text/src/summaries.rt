@@ -53,12 +53,17 @@ fn next_before(received: &[u64], place: usize) -> u64
 
 /// What is said of a flow that starts at a moment, whose receiver got so many bytes, and of whose sender this was
 /// counted.
-fn of_sender(start: Time, delivered: u64, counted: &SenderFigures) -> FlowSummary
+fn of_sender(
+    start: Time,
+    delivered: u64,
+    counted: &SenderFigures,
+) -> Result<FlowSummary, AllocError>
     requires few { counted.now.trips.count < 2 ^ 57 }
-    ensures { (before ts : List Turn) → AreOfTurns before ts counted.now → result ≡ summary_of_turns start delivered before ts }
+    ensures { (before ts : List Turn) → AreOfTurns before ts counted.now → IfOk result (λ said. said ≡ summary_of_turns start delivered before ts) }
 {
     let trips = &counted.trips;
-    FlowSummary {
+    trips.is_whole()?;
+    Ok(FlowSummary {
         start,
         delivered,
         completed: counted.completed,
@@ -72,14 +77,18 @@ fn of_sender(start: Time, delivered: u64, counted: &SenderFigures) -> FlowSummar
         high: trips.percentile(95),
         highest: trips.percentile(99),
         greatest: trips.greatest(),
-    }
+    })
 }
 
 /// What is said of a flow of a run.
-fn flow_summary(figures: &Figures, nodes: &[Node], flow: &FlowPart) -> FlowSummary
+fn flow_summary(
+    figures: &Figures,
+    nodes: &[Node],
+    flow: &FlowPart,
+) -> Result<FlowSummary, AllocError>
     requires sender { flow.now.sender < length figures.now.senders.items }
     requires few { figures.now.events ≤ 1000000000000000 }
-    ensures { (b : Base) (ms : List Moment) (s : State) → parts_of nodes.now ≡ s.parts → slice_index_or figures.now.received.items flow.now.receiver 0 ≡ next_of_role (part_at b.state flow.now.receiver).role → ((other : SenderFigures) → AreOfTurns (turns_at flow.now.sender b.earlier) (turns_at flow.now.sender ms) (slice_index_or figures.now.senders.items flow.now.sender other)) → result ≡ flow_is b ms s flow.now }
+    ensures { (b : Base) (ms : List Moment) (s : State) → parts_of nodes.now ≡ s.parts → slice_index_or figures.now.received.items flow.now.receiver 0 ≡ next_of_role (part_at b.state flow.now.receiver).role → ((other : SenderFigures) → AreOfTurns (turns_at flow.now.sender b.earlier) (turns_at flow.now.sender ms) (slice_index_or figures.now.senders.items flow.now.sender other)) → IfOk result (λ said. said ≡ flow_is b ms s flow.now) }
 {
     let next = next_at(nodes, usize::from(flow.receiver));
     let before = next_before(&figures.received, usize::from(flow.receiver));
@@ -103,7 +112,7 @@ pub(crate) fn flow_summaries(
     let nodes = net.nodes();
     let mut all = Vec::new(alloc);
     for number in 0..flows.len() {
-        all.push(flow_summary(figures, nodes, &flows[number]))?;
+        all.push(flow_summary(figures, nodes, &flows[number])?)?;
     }
     Ok(all)
 }
@@ -122,19 +131,20 @@ struct Delays {
 }
 
 /// The delays in the queue of a link of which this was counted.
-fn delays_of(counted: &LinkFigures) -> Delays
+fn delays_of(counted: &LinkFigures) -> Result<Delays, AllocError>
     requires few { counted.now.turns ≤ 1000000000000000 }
-    ensures median { (b : Base) (ms : List Moment) (s : State) (node index : ℕ) → AreOfLink b ms s node index counted.now → result.median ≡ percentile 50 (waits_of node index ms) }
-    ensures high { (b : Base) (ms : List Moment) (s : State) (node index : ℕ) → AreOfLink b ms s node index counted.now → result.high ≡ percentile 95 (waits_of node index ms) }
-    ensures highest { (b : Base) (ms : List Moment) (s : State) (node index : ℕ) → AreOfLink b ms s node index counted.now → result.highest ≡ percentile 99 (waits_of node index ms) }
-    ensures greatest { (b : Base) (ms : List Moment) (s : State) (node index : ℕ) → AreOfLink b ms s node index counted.now → result.greatest ≡ greatest_of (waits_of node index ms) }
+    ensures median { (b : Base) (ms : List Moment) (s : State) (node index : ℕ) → AreOfLink b ms s node index counted.now → IfOk result (λ delays. delays.median ≡ percentile 50 (waits_of node index ms)) }
+    ensures high { (b : Base) (ms : List Moment) (s : State) (node index : ℕ) → AreOfLink b ms s node index counted.now → IfOk result (λ delays. delays.high ≡ percentile 95 (waits_of node index ms)) }
+    ensures highest { (b : Base) (ms : List Moment) (s : State) (node index : ℕ) → AreOfLink b ms s node index counted.now → IfOk result (λ delays. delays.highest ≡ percentile 99 (waits_of node index ms)) }
+    ensures greatest { (b : Base) (ms : List Moment) (s : State) (node index : ℕ) → AreOfLink b ms s node index counted.now → IfOk result (λ delays. delays.greatest ≡ greatest_of (waits_of node index ms)) }
 {
-    Delays {
+    counted.waits.is_whole()?;
+    Ok(Delays {
         median: counted.waits.percentile(50),
         high: counted.waits.percentile(95),
         highest: counted.waits.percentile(99),
         greatest: counted.waits.greatest(),
-    }
+    })
 }
 
 /// How long a link was busy up to the end of a run whose last event was at a moment.
@@ -165,15 +175,15 @@ fn waited_to_end(counted: &LinkFigures, last: Time, end: Time) -> u128
 }
 
 /// What is said of a link of which this was counted, of a run whose last event was at a moment.
-fn of_exit(counted: &LinkFigures, last: Time, end: Time) -> LinkSummary
+fn of_exit(counted: &LinkFigures, last: Time, end: Time) -> Result<LinkSummary, AllocError>
     requires few { counted.now.turns ≤ 1000000000000000 }
     requires moment { IsMoment last }
     requires order { counted.now.since ≤ last }
     requires end { IsMoment end }
-    ensures { (b : Base) (ms : List Moment) (s : State) (node index : ℕ) → AreOfLink b ms s node index counted.now → last_from b.since ms ≡ last → result ≡ summary_of_exit node index end b ms s }
+    ensures { (b : Base) (ms : List Moment) (s : State) (node index : ℕ) → AreOfLink b ms s node index counted.now → last_from b.since ms ≡ last → IfOk result (λ said. said ≡ summary_of_exit node index end b ms s) }
 {
-    let delays = delays_of(counted);
-    LinkSummary {
+    let delays = delays_of(counted)?;
+    Ok(LinkSummary {
         offered: counted.offered.saturating_sub(counted.first),
         lost: counted.lost,
         full: counted.full,
@@ -187,7 +197,7 @@ fn of_exit(counted: &LinkFigures, last: Time, end: Time) -> LinkSummary
         high: delays.high,
         highest: delays.highest,
         greatest: delays.greatest,
-    }
+    })
 }
 
 /// Which of the links of its node a link is: as many before it leave the same node.
@@ -206,7 +216,12 @@ fn exit_of(links: &[LinkPart], number: usize) -> usize
 }
 
 /// What is said of a link of a run.
-fn link_summary(figures: &Figures, links: &[LinkPart], end: Time, number: usize) -> LinkSummary
+fn link_summary(
+    figures: &Figures,
+    links: &[LinkPart],
+    end: Time,
+    number: usize,
+) -> Result<LinkSummary, AllocError>
     requires number { number < length links.now }
     requires node { from_of links.now number < length figures.now.links.items }
     requires index { (other : NodeLinks) → exit_is links.now number < length (slice_index_or figures.now.links.items (from_of links.now number) other).figures.items }
@@ -214,7 +229,7 @@ fn link_summary(figures: &Figures, links: &[LinkPart], end: Time, number: usize)
     requires moment { IsMoment figures.now.last }
     requires order { (other : NodeLinks) (link : LinkFigures) → (slice_index_or (slice_index_or figures.now.links.items (from_of links.now number) other).figures.items (exit_is links.now number) link).since ≤ figures.now.last }
     requires end { IsMoment end }
-    ensures { (b : Base) (ms : List Moment) (s : State) → ((other : NodeLinks) (link : LinkFigures) → AreOfLink b ms s (from_of links.now number) (exit_is links.now number) (slice_index_or (slice_index_or figures.now.links.items (from_of links.now number) other).figures.items (exit_is links.now number) link)) → last_from b.since ms ≡ figures.now.last → result ≡ summary_of_exit (from_of links.now number) (exit_is links.now number) end b ms s }
+    ensures { (b : Base) (ms : List Moment) (s : State) → ((other : NodeLinks) (link : LinkFigures) → AreOfLink b ms s (from_of links.now number) (exit_is links.now number) (slice_index_or (slice_index_or figures.now.links.items (from_of links.now number) other).figures.items (exit_is links.now number) link)) → last_from b.since ms ≡ figures.now.last → IfOk result (λ said. said ≡ summary_of_exit (from_of links.now number) (exit_is links.now number) end b ms s) }
 {
     let node = &figures.links[usize::from(links[number].from)];
     let counted = &node.figures[exit_of(links, number)];
@@ -238,7 +253,7 @@ pub(crate) fn link_summaries(
     let links = scenario.parts().links.as_slice();
     let mut all = Vec::new(alloc);
     for number in 0..links.len() {
-        all.push(link_summary(figures, links, end, number))?;
+        all.push(link_summary(figures, links, end, number)?)?;
     }
     Ok(all)
 }

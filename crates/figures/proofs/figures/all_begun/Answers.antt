@@ -11,11 +11,11 @@ pub loop-place-preserved : goal.loop-place-preserved
 loop-place-preserved c =
     let so_far = c.loop-place.all.items in
     let at = c.loop-place.place in
-    let begun : SenderFigures = c.in_ok-begun.field-0 in
+    let begun : SenderFigures = c.begun.result in
     let items : c.push.new.self.items ≡ so_far ++ begun ∷ [] = c.in_ok-push.ensures.items in
     let node : c.index-nodes-place.result ≡ node_at c.args.nodes.now at = get_or_read c.args.nodes.now at c.index-nodes-place.result c.loop-place-test.true c.index-nodes-place.is no_node in
     let here : IsBegun (completed_in c.args.earlier.now at) (node_at c.args.nodes.now at).part.role begun =
-    subst (λ (o : Option ℕ). IsBegun o (node_at c.args.nodes.now at).part.role begun) c.completed_at.ensures (subst (λ (n : NodeState). IsBegun c.completed_at.result n.part.role begun) node c.in_ok-begun.ensures) in
+    subst (λ (o : Option ℕ). IsBegun o (node_at c.args.nodes.now at).part.role begun) c.completed_at.ensures (subst (λ (n : NodeState). IsBegun c.completed_at.result n.part.role begun) node c.begun.ensures) in
     record {
       size = ap length items ∙ length_push so_far begun ∙ ap (λ n. n + 1) c.loop-place.invariant.size;
       figures = λ place other under. subst (λ all. IsBegun (completed_in c.args.earlier.now place) (node_at c.args.nodes.now place).part.role (get_or all place other)) (sym items)

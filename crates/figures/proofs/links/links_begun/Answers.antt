@@ -12,11 +12,11 @@ loop-link-preserved c =
     let so_far = c.loop-link.all.items in
     let at = c.loop-link.link-index in
     let since = c.args.since in
-    let begun : LinkFigures = c.in_ok-new.field-0 in
+    let begun : LinkFigures = c.new.result in
     let items : c.push.new.self.items ≡ so_far ++ begun ∷ [] = c.in_ok-push.ensures.items in
     let link : c.link-item.result ≡ link_at c.args.links.now at = get_or_read c.args.links.now at c.link-item.result c.loop-link-test.true c.link-item.is no_link in
     let here : IsLinkBegun since (link_at c.args.links.now at).port begun =
-    subst (λ (l : LinkState). IsLinkBegun since l.port begun) link (subst (λ (q : PortState). IsLinkBegun since q begun) c.port.ensures.value c.in_ok-new.ensures) in
+    subst (λ (l : LinkState). IsLinkBegun since l.port begun) link (subst (λ (q : PortState). IsLinkBegun since q begun) c.port.ensures.value c.new.ensures) in
     record {
       size = ap length items ∙ length_push so_far begun ∙ ap (λ n. n + 1) c.loop-link.invariant.size;
       figures = λ place other under. subst (λ all. IsLinkBegun since (link_at c.args.links.now place).port (get_or all place other)) (sym items)

@@ -34,11 +34,11 @@ loop-number-preserved c = λ b of.
     let all = flow_summaries p b ms r.state in
     let many = flows_many p b ms r.state in
     let inside : i < length all = subst (λ n. i < n) (sym many) under in
-    let it : FlowSummary = c.flow_summary.result in
+    let it : FlowSummary = c.in_ok-flow_summary.field-0 in
     let counted = flow_counted p b f r c.requires.scenario of i no_flow_part under in
     let turns = subst (λ (l : List FlowPart). (other : SenderFigures) → AreOfTurns (turns_at (get_or l i no_flow_part).sender b.earlier) (turns_at (get_or l i no_flow_part).sender ms) (get_or f.senders.items (get_or l i no_flow_part).sender other)) (sym same) counted.turns in
     let said : it ≡ get_or all i it =
-    c.flow_summary.ensures b ms r.state c.nodes-nodes.ensures.parts (of.figures.received (get_or flows i no_flow_part).receiver) turns
+    c.in_ok-flow_summary.ensures b ms r.state c.nodes-nodes.ensures.parts (of.figures.received (get_or flows i no_flow_part).receiver) turns
     ∙ ap (λ (l : List FlowPart). flow_summary b ms r.state (get_or l i no_flow_part)) same
     ∙ sym (flow_said p b ms r.state i no_flow_part it under) in
     c.in_ok-push.ensures.items

@@ -78,11 +78,11 @@ loop-number-preserved c = λ b of.
     let all = link_summaries to_end b ms r.state in
     let many = links_many to_end b ms r.state in
     let inside : i < length all = subst (λ n. i < n) (sym many) under in
-    let it : LinkSummary = c.link_summary.result in
+    let it : LinkSummary = c.in_ok-link_summary.field-0 in
     let counted = link_counted p b f r c.requires.scenario of i under in
     let link = subst (λ (l : List LinkPart). (other : NodeLinks) (link : LinkFigures) → AreOfLink b ms r.state (from_of l i) (exit_of l i) (get_or (get_or f.links.items (from_of l i) other).figures.items (exit_of l i) link)) (sym same) counted.link in
     let said : it ≡ get_or all i it =
-    c.link_summary.ensures b ms r.state link (sym of.figures.last)
+    c.in_ok-link_summary.ensures b ms r.state link (sym of.figures.last)
     ∙ ap (λ (l : List LinkPart). summary_of_exit (from_of l i) (exit_of l i) c.args.end b ms r.state) same
     ∙ sym (link_said to_end b ms r.state i it under) in
     c.in_ok-push.ensures.items

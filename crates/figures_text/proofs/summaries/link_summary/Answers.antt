@@ -2,6 +2,7 @@ use Rattle.std.proofs.Common.{◌≡◌, ◌<◌, ◌≤◌, ℕ, List, length, 
 use Rattle.std.proofs.lemmas.List.{get_or_read}
 use Rattle.scenario_image.specs.declared.parts.LinkPart.{LinkPart}
 use Rattle.net_machine.specs.Wiring.{from_of, exit_of, no_link_part}
+use Rattle.figures.specs.Links.{AreOfLink}
 use Rattle.figures.specs.declared.links.NodeLinks.{NodeLinks}
 use Rattle.figures.specs.declared.link.LinkFigures.{LinkFigures}
 use Rattle.figures_text.proofs.summaries.link_summary.Goals as goal
@@ -31,3 +32,12 @@ of_exit-requires-clause-order c =
     let is = found c.args.figures.now.links.items c.from.result (from_of links c.args.number) c.exit_of.result (exit_of links c.args.number) c.index-node.result.now c.index-counted.result.now at c.exit_of.ensures c.index-node.ensures
     c.index-counted.ensures in
     subst (λ (f : LinkFigures). f.since ≤ c.args.figures.now.last) (sym is) (c.requires.order c.index-node.result.now c.index-counted.result.now)
+
+pub returns : goal.returns
+returns c = λ b ms s each last.
+    let links = c.args.links.now in
+    let from = from_of links c.args.number in
+    let exit = exit_of links c.args.number in
+    let at = left links c.args.number c.from.result c.index-links-number.result c.requires.number c.index-links-number.is c.from.ensures in
+    let is = found c.args.figures.now.links.items c.from.result from c.exit_of.result exit c.index-node.result.now c.index-counted.result.now at c.exit_of.ensures c.index-node.ensures c.index-counted.ensures in
+    c.of_exit.ensures b ms s from exit (subst (AreOfLink b ms s from exit) (sym is) (each c.index-node.result.now c.index-counted.result.now)) last
