@@ -1,6 +1,6 @@
 -- A move by windows, whatever it looks for.
-use Rattle.std.proofs.Common.{◌≡◌, ℕ, ◌<◌, ◌≤◌, ⊎_elim, inl, inr, refl, List, Option, None, Some, arith}
-use Rattle.std.specs.Prelude.{IsSome, IfSome}
+use Rattle.std.proofs.Common.{◌≡◌, ℕ, ◌<◌, ◌≤◌, ⊎_elim, inl, inr, refl, sym, true≢false, Bool, true, false, ◌||◌, List, Option, None, Some, is_some, arith}
+use Rattle.std.specs.Prelude.{IsTrue, IfSome}
 use Rattle.table_run.specs.State.{State, step}
 use Rattle.net_machine.specs.Run.{Reached}
 use Rattle.window_core.specs.Batches.{BatchValue}
@@ -9,9 +9,13 @@ use Rattle.debugger.specs.declared.aim.Aim.{Aim}
 use Rattle.debugger.specs.declared.aim.Aim.TheVariants.{Hit, Moment}
 use Rattle.debugger.specs.Moves.{Passes, HasPosition, EndsAt, StopsBy, StopsAt, RunsTo, RunGoesTo}
 use Rattle.node_core.specs.TraceLine.{TraceLine}
+use Rattle.node_core.specs.declared.line.After.{After}
 use Rattle.debugger.specs.declared.breaks.Break.{Break}
 use Rattle.debugger.specs.declared.breaks.StallOf.{StallOf}
-use Rattle.debugger.specs.Breaks.{Stalls, IsHit, AsksStall}
+use Rattle.debugger.specs.declared.values.Values.{Values}
+use Rattle.debugger.specs.Breaks.{Stalls, IsHit, asks_unshown, AsksUnshown}
+use Rattle.debugger.specs.Values.{MeetsKept, asks_kept}
+use Rattle.debugger.specs.Seen.{MeetsStates, asks_states}
 use Rattle.debugger.specs.Courses.{HasNone}
 use Rattle.debugger.specs.Aims.{IsMet, LineHit, EndsIn, GoesTo}
 use Rattle.debugger.proofs.Walks.{NoneBy, none_by_yet, run_ended, SomeBefore, some_before_yet, until_ended}
@@ -47,20 +51,62 @@ module _ (start : State) (m : ℕ) (old : Reached) (batch : BatchValue) (new : R
   not_before (Hit breaks) p (index, is, at) = let first = gone.first in omega (arith, at, first)
   not_before (Moment time) p (index, is, at) = let first = gone.first in omega (arith, at, first)
 
--- where no stall is asked for, a breakpoint matches where its conditions on lines are met
-unasked : (b : Break) (before after : State) → (IsSome b.stall → ⊥) → IfSome b.stall (λ asked. Stalls asked before after)
-unasked b before after none = by b.stall none
-  where
-    by : (o : Option StallOf) → (IsSome o → ⊥) → IfSome o (λ asked. Stalls asked before after)
-    by None none = tt
-    by (Some asked) none = absurd (none refl)
+-- where no more is asked for than lines show, a breakpoint matches where its conditions on them are met
+no_stall : (before after : State) (o : Option StallOf) (rest : Bool) → (IsTrue (is_some o || rest) → ⊥) → IfSome o (λ asked. Stalls asked before after)
+no_stall before after None rest none = tt
+no_stall before after (Some asked) rest none = absurd (none refl)
 
-module _ (breaks : List Break) (none : AsksStall breaks → ⊥) (start : State) where
+not_asked : {A : Type 0} (P : A → Type 0) (o : Option A) → (IsTrue (is_some o) → ⊥) → IfSome o P
+not_asked P None none = tt
+not_asked P (Some asked) none = absurd (none refl)
+
+of_left : (a b : Bool) → (IsTrue (a || b) → ⊥) → IsTrue a → ⊥
+of_left true b none is = none refl
+of_left false b none is = true≢false (sym is)
+
+of_right : (a b : Bool) → (IsTrue (a || b) → ⊥) → IsTrue b → ⊥
+of_right true b none is = none refl
+of_right false b none is = none is
+
+none_kept : (v : Values) (after : After) → (IsTrue (asks_kept v) → ⊥) → MeetsKept v after
+none_kept v after none = record {
+  rto = not_asked _ v.rto (of_left (is_some v.rto) (is_some v.dups) none);
+  dups = not_asked _ v.dups (of_right (is_some v.rto) (is_some v.dups) none);
+}
+
+none_states : (v : Values) (before : State) (line : TraceLine) (after : State) → (IsTrue (asks_states v) → ⊥) → MeetsStates v before line after
+none_states v before line after none =
+    let first = of_left (is_some v.queue || is_some v.wait) (is_some v.count || is_some v.change) none in
+    let second = of_right (is_some v.queue || is_some v.wait) (is_some v.count || is_some v.change) none in
+    record {
+      links = record {
+        queue = not_asked _ v.queue (of_left (is_some v.queue) (is_some v.wait) first);
+        wait = not_asked _ v.wait (of_right (is_some v.queue) (is_some v.wait) first);
+        count = not_asked _ v.count (of_left (is_some v.count) (is_some v.change) second);
+      };
+      change = not_asked _ v.change (of_right (is_some v.count) (is_some v.change) second);
+    }
+
+module _ (breaks : List Break) (none : AsksUnshown breaks → ⊥) (start : State) where
   to_line : (before : State) (line : TraceLine) (after : State) → IsHit breaks before line after → LineHit breaks before line after
   to_line before line after h = (h.0, h.1, h.2, h.3, h.4.meets)
 
   of_line : (before : State) (line : TraceLine) (after : State) → LineHit breaks before line after → IsHit breaks before line after
-  of_line before line after h = (h.0, h.1, h.2, h.3, record { meets = h.4; stalls = unasked h.1 before after (λ some. none (h.0, h.1, h.2, h.3, some)) })
+  of_line before line after h =
+      let unasked : IsTrue (asks_unshown h.1) → ⊥ = λ some. none (h.0, h.1, h.2, h.3, some) in
+      let more = asks_kept h.1.values || asks_states h.1.values in
+      let no_more = of_right (is_some h.1.stall) more unasked in (
+        h.0,
+        h.1,
+        h.2,
+        h.3,
+        record {
+          meets = h.4;
+          kept = none_kept h.1.values line.after (of_left (asks_kept h.1.values) (asks_states h.1.values) no_more);
+          states = none_states h.1.values before line after (of_right (asks_kept h.1.values) (asks_states h.1.values) no_more);
+          stalls = no_stall before after h.1.stall more unasked;
+        },
+      )
 
   -- and so `run` goes where windows go
   pub by_lines : (m p : ℕ) → RunsTo (LineHit breaks) start m p → RunGoesTo start breaks m p

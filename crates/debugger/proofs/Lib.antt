@@ -5,12 +5,15 @@ pub mod Shown
 pub mod Faults
 pub mod Batches
 pub mod Aims
+pub mod Moments
 pub mod Alone
 pub mod TakenOut
 pub mod Between
 pub mod LastEvents
 mod Backward
 mod Judged
+mod NodeShown
+mod States
 mod Sent
 mod UnderWay
 mod Counting

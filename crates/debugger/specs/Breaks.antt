@@ -1,5 +1,5 @@
 -- Which lines of the trace a breakpoint matches, with the states before and after them.
-use Rattle.std.specs.Prelude.{◌≡◌, ◌==◌, ◌+◌, ℕ, Bool, true, false, IsTrue, IsSome, IsNone, List, ◌∷◌, ◌++◌, length, Any, Option, None, Some, IfSome}
+use Rattle.std.specs.Prelude.{◌≡◌, ◌==◌, ◌+◌, ℕ, Bool, true, false, ◌||◌, IsTrue, IsNone, is_some, List, ◌∷◌, ◌++◌, length, Any, Option, None, Some, IfSome}
 use Rattle.std.specs.List.{list_any}
 use Rattle.packet_chain.specs.declared.packet.Kind.{Kind}
 use Rattle.packet_chain.specs.declared.packet.Kind.TheVariants.{Data, Ack}
@@ -14,10 +14,12 @@ use Rattle.debugger.specs.declared.breaks.EventKind.{EventKind}
 use Rattle.debugger.specs.declared.breaks.EventKind.TheVariants.{Start as StartWord, Rto as RtoWord, DelAck as DelAckWord, Free as FreeWord, Data as DataWord, Ack as AckWord}
 use Rattle.debugger.specs.declared.breaks.Break.{Break}
 use Rattle.debugger.specs.declared.breaks.Condition.{Condition}
-use Rattle.debugger.specs.declared.breaks.Condition.TheVariants.{Node, Flow, Kind as OfKind, Drop, Link, Byte, Stall}
+use Rattle.debugger.specs.declared.breaks.Condition.TheVariants.{Node, Flow, Kind as OfKind, Drop, Link, Byte, Stall, Value}
 use Rattle.debugger.specs.declared.breaks.StallOf.{StallOf}
 use Rattle.debugger.specs.declared.breaks.StallOf.TheVariants.{Any as AnyFlow, Flow as OneFlow}
 use Rattle.debugger.specs.declared.breaks.Hit.{Hit}
+use Rattle.debugger.specs.Values.{no_values, asking_value, MeetsValues, MeetsKept, asks_kept}
+use Rattle.debugger.specs.Seen.{MeetsStates, asks_states, seen_in}
 
 -- the flow that an event names: none where a link becomes free
 abbrev pub flow_of : Event → Option ℕ
@@ -84,7 +86,7 @@ IsOfByte false byte line = byte_of line.event ≡ Some byte
 
 -- the breakpoint that every line matches
 abbrev pub asks_nothing : Break
-asks_nothing = record { node = None; flow = None; kind = None; drops = false; link = None; byte = None; stall = None }
+asks_nothing = record { node = None; flow = None; kind = None; drops = false; link = None; byte = None; stall = None; values = no_values }
 
 -- one condition more, in the place of another of its sort
 abbrev pub asking : Break → Condition → Break
@@ -95,8 +97,9 @@ asking b Drop = record b { drops = true }
 asking b (Link link) = record b { link = Some link }
 asking b (Byte byte) = record b { byte = Some byte }
 asking b (Stall asked) = record b { stall = Some asked }
+asking b (Value condition) = record b { values = asking_value b.values condition }
 
--- a line meets each condition that a breakpoint asks for, of those on lines
+-- a line meets each condition that a breakpoint asks for, of those on what lines show
 pub record MeetsLine (b : Break) (line : TraceLine) : Type 0 where
   pub node : IfSome b.node (λ node. line.key.node ≡ node)
   pub flow : IfSome b.flow (λ flow. flow_of line.event ≡ Some flow)
@@ -104,27 +107,31 @@ pub record MeetsLine (b : Break) (line : TraceLine) : Type 0 where
   pub drops : IsTrue b.drops → IsTrue (list_any is_drop line.acts)
   pub link : IfSome b.link (λ link. IsTrue (list_any (is_at_link link) line.acts))
   pub byte : IfSome b.byte (λ byte. IsOfByte b.drops byte line)
+  pub values : MeetsValues b.values line
 
 -- the flow that is asked for, or some flow, is stalled in a state, and was not in the one before
 abbrev pub Stalls : StallOf → State → State → Type 0
 Stalls AnyFlow before after = (flow : ℕ) × (becomes_stalled flow before after ≡ true)
 Stalls (OneFlow flow) before after = becomes_stalled flow before after ≡ true
 
--- a breakpoint matches a line of a run, from the state before it to that after it: the line meets each condition, and by it a flow becomes stalled, where that is asked for
+-- a breakpoint matches a line of a run, from the state before it to that after it: the line meets each condition, what the sender keeps and the states before and after it do, and by it a flow becomes stalled, where that is asked for
 pub record Matches (b : Break) (before : State) (line : TraceLine) (after : State) : Type 0 where
   pub meets : MeetsLine b line
+  pub kept : MeetsKept b.values line.after
+  pub states : MeetsStates b.values before line after
   pub stalls : IfSome b.stall (λ asked. Stalls asked before after)
 
 -- one of the breakpoints matches
 abbrev pub IsHit : List Break → State → TraceLine → State → Type 0
 IsHit breaks before line after = Any (λ b. Matches b before line after) breaks
 
--- a breakpoint is the first that matches
+-- a breakpoint is the first that matches; where it asks for a change, the value was this before
 pub record HitsFirst (breaks : List Break) (old : State) (line : TraceLine) (new : State) (hit : Hit) : Type 0 where
   pub before : List Break
   pub after : List Break
   pub parted : breaks ≡ before ++ hit.breakpoint ∷ after
   pub at : hit.number ≡ length before + 1
+  pub was : hit.was ≡ (seen_in old hit.breakpoint.values).change
   pub missed : ¬ IsHit before old line new
   pub matches : Matches hit.breakpoint old line new
 
@@ -133,11 +140,14 @@ abbrev pub IsFirstHit : List Break → State → TraceLine → State → Option 
 IsFirstHit breaks old line new None = ¬ IsHit breaks old line new
 IsFirstHit breaks old line new (Some hit) = HitsFirst breaks old line new hit
 
--- a breakpoint asks for a stall
-abbrev pub AsksStall : List Break → Type 0
-AsksStall breaks = Any (λ b. IsSome b.stall) breaks
+-- a breakpoint asks for what lines do not show: a stall, what a sender keeps besides, a link's values, or a change
+abbrev pub asks_unshown : Break → Bool
+asks_unshown b = is_some b.stall || (asks_kept b.values || asks_states b.values)
 
--- a line meets the conditions of one of the breakpoints: where none asks for a stall, that one matches
+abbrev pub AsksUnshown : List Break → Type 0
+AsksUnshown breaks = Any (λ b. IsTrue (asks_unshown b)) breaks
+
+-- a line meets the conditions of one of the breakpoints: where none asks for more, that one matches
 abbrev pub IsLineHit : List Break → TraceLine → Type 0
 IsLineHit breaks line = Any (λ b. MeetsLine b line) breaks
 

@@ -1,3 +1,5 @@
+pub mod Values
+pub mod Seen
 pub mod Breaks
 pub mod Faults
 pub mod Moves

@@ -48,6 +48,17 @@ pub record NonePendingBefore (start : State) (time : ℕ) (p : ℕ) : Type 0 whe
   pub passes : Passes start (record { state = state; position = p })
   pub none : EachEvent (λ (k : Key) (v : Event). k.time < time → state.end ≤ k.time) state.pending
 
+-- an event is due, and it is before a time
+pub record IsDueBefore (time : ℕ) (s : State) : Type 0 where
+  pub key : Key
+  pub event : Event
+  pub due_is : due s ≡ Some (key, event)
+  pub early : key.time < time
+
+-- at each position before one some event before a time is pending below the end
+abbrev pub SomeUpto : State → ℕ → ℕ → Type 0
+SomeUpto start time p = (q : ℕ) → q < p → NonePendingBefore start time q → ⊥
+
 -- the least number with a property
 pub record IsLeast (P : ℕ → Type 0) (p : ℕ) : Type 0 where
   pub holds : P p

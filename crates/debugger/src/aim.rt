@@ -12,7 +12,7 @@ use window_core::Batch;
 /// What a move by windows looks for.
 #[derive(Clone, Copy)]
 pub(crate) enum Aim<'a> {
-    /// The position behind the next line that meets the conditions of a breakpoint, a stall aside.
+    /// The position behind the next line that meets the conditions of a breakpoint, of those on what lines show.
     Hit(&'a Breaks),
     /// The position before the next line at a moment, in nanoseconds, or past it.
     Moment(Time),

@@ -7,6 +7,7 @@ use crate::breaks::Breaks;
 use crate::checkpoints::Checkpoints;
 use crate::fault::MoveFault;
 use crate::reached::net_at;
+use crate::seen::see_all;
 use crate::to_stop::Stops;
 use crate::under_way::counts_of;
 use crate::walk::reach_watched;
@@ -40,9 +41,11 @@ fn last_stop(
     ensures same { checkpoints.new ≡ checkpoints.old }
 {
     let _count = net.position();
+    let seen = see_all(breaks.allocator(), breaks.as_slice(), net)?;
     let mut stops = Stops {
         breaks,
         counts: counts_of(breaks.allocator(), net),
+        seen,
         first: false,
         found: None,
         refused: false,

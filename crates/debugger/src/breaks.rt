@@ -4,8 +4,12 @@ ghost use Rattle.std.specs.List.{list_any};
 ghost use Rattle.node_core.specs.TraceLine.{shown};
 ghost use Rattle.net_machine.specs.Run.{Reached, IsRun, Stepped};
 ghost use Rattle.flow_waits.specs.Stalled.{becomes_stalled as becomes_stalled_by};
-ghost use Rattle.debugger.specs.Breaks.{flow_of, kind_of, byte_of, is_drop, is_drop_of_byte, link_of_act, is_at_link, is_sent_of, sends_own, asking, asks_nothing, IsOfByte, MeetsLine, Stalls, Matches, MayMatch, IsHit, IsFirstHit, AsksStall, IsLineHit, IsMayHit, IsTakenOut};
+ghost use Rattle.debugger.specs.Breaks.{flow_of, kind_of, byte_of, is_drop, is_drop_of_byte, link_of_act, is_at_link, is_sent_of, sends_own, asking, asks_nothing, IsOfByte, MeetsLine, Stalls, Matches, MayMatch, IsHit, IsFirstHit, asks_unshown, AsksUnshown, IsLineHit, IsMayHit, IsTakenOut};
+ghost use Rattle.debugger.specs.Values.{MeetsKept};
+ghost use Rattle.debugger.specs.Seen.{MeetsStates, seen_in, AreSeen};
 
+use crate::seen::Seen;
+use crate::values::{ValueCondition, Values, are_same_values};
 use flow_waits::{becomes_stalled, some_becomes_stalled};
 use net_machine::Net;
 use node_core::{Event, Line};
@@ -61,6 +65,8 @@ pub enum Condition {
     Byte(u64),
     /// A flow is stalled after the event, and was not before it.
     Stall(StallOf),
+    /// A value is so after the event.
+    Value(ValueCondition),
 }
 
 /// What a run stops at: an event that meets each condition that is asked for.
@@ -81,6 +87,8 @@ pub struct Break {
     pub byte: Option<u64>,
     /// The flow that is stalled after the event, and was not before it.
     pub stall: Option<StallOf>,
+    /// What values are after the event.
+    pub values: Values,
 }
 
 /// A breakpoint that matches, among those that are set.
@@ -90,6 +98,8 @@ pub struct Hit {
     pub number: u64,
     /// The breakpoint.
     pub breakpoint: Break,
+    /// What the value was before the event whose change it asks for.
+    pub was: Option<u64>,
 }
 
 /// Why a breakpoint was not set.
@@ -296,6 +306,7 @@ impl Break {
             link: None,
             byte: None,
             stall: None,
+            values: Values::none(),
         };
         none.and(condition)
     }
@@ -313,11 +324,12 @@ impl Break {
             Condition::Link(link) => b.link = Some(link),
             Condition::Byte(byte) => b.byte = Some(byte),
             Condition::Stall(asked) => b.stall = Some(asked),
+            Condition::Value(condition) => b.values = b.values.and(condition),
         }
         b
     }
 
-    /// Whether a line meets each condition that this breakpoint asks for, a stall aside.
+    /// Whether a line meets each condition that this breakpoint asks for, of those on what lines show.
     pub fn meets_line(&self, line: &Line) -> bool
         ensures { IsTrue result ↔ MeetsLine self.now (shown line.now) }
     {
@@ -327,6 +339,14 @@ impl Break {
             && drops_as_asked(self.drops, line.acts.as_slice())
             && goes_by_link(self.link, line.acts.as_slice())
             && has_byte(self.byte, self.drops, line)
+            && self.values.meets_line(line)
+    }
+
+    /// Whether this breakpoint asks for what lines do not show.
+    fn asks_unshown(&self) -> bool
+        ensures { result ≡ asks_unshown self.now }
+    {
+        self.stall.is_some() || (self.values.asks_kept() || self.values.asks_states())
     }
 
     /// Whether this breakpoint may match a line, by which no flow becomes stalled where that is quiet.
@@ -340,11 +360,34 @@ impl Break {
         }
     }
 
-    /// Whether this breakpoint matches a line, after which a net stands.
-    pub fn matches(&self, alloc: Global, net: &Net, line: &Line) -> Result<bool, AllocError>
-        ensures { (before : Reached) → IsRun before → Stepped before (Some (shown line.now)) net.now → IfOk result (λ found. IsTrue found ↔ Matches self.now before.state (shown line.now) net.now.state) }
+    /// Whether this breakpoint matches a line, after which a net stands, with what it saw of the state before it.
+    pub fn matches(
+        &self,
+        was: &Seen,
+        alloc: Global,
+        net: &Net,
+        line: &Line,
+    ) -> Result<bool, AllocError>
+        ensures { (before : Reached) → IsRun before → Stepped before (Some (shown line.now)) net.now → was.now ≡ seen_in before.state self.now.values → IfOk result (λ found. IsTrue found ↔ Matches self.now before.state (shown line.now) net.now.state) }
     {
         if self.meets_line(line) {
+            self.meets_more(was, alloc, net, line)
+        } else {
+            Ok(false)
+        }
+    }
+
+    /// Whether what lines do not show is as asked after a line, after which a net stands.
+    fn meets_more(
+        &self,
+        was: &Seen,
+        alloc: Global,
+        net: &Net,
+        line: &Line,
+    ) -> Result<bool, AllocError>
+        ensures { (before : Reached) → IsRun before → Stepped before (Some (shown line.now)) net.now → was.now ≡ seen_in before.state self.now.values → IfOk result (λ found. IsTrue found ↔ ((MeetsKept self.now.values line.now.after × MeetsStates self.now.values before.state (shown line.now) net.now.state) × IfSome self.now.stall (λ flow. Stalls flow before.state net.now.state))) }
+    {
+        if self.values.meets_after(was, net, line) {
             stalls_as_asked(self.stall, alloc, net, line)
         } else {
             Ok(false)
@@ -413,12 +456,23 @@ fn is_same_event(a: &Break, b: &Break) -> bool
     a.kind == b.kind && a.drops == b.drops && a.byte == b.byte && a.stall == b.stall
 }
 
+/// Whether they ask for the same of an event and of values.
+fn is_same_demand(a: &Break, b: &Break) -> bool
+    ensures { IsTrue result ↔ ((a.now.kind ≡ b.now.kind) × (a.now.drops ≡ b.now.drops) × (a.now.byte ≡ b.now.byte) × (a.now.stall ≡ b.now.stall) × (a.now.values ≡ b.now.values)) }
+{
+    if is_same_event(a, b) {
+        are_same_values(&a.values, &b.values)
+    } else {
+        false
+    }
+}
+
 /// Whether two breakpoints ask for the same.
 fn is_same(a: &Break, b: &Break) -> bool
     ensures { IsTrue result ↔ (a.now ≡ b.now) }
 {
     if is_same_place(a, b) {
-        is_same_event(a, b)
+        is_same_demand(a, b)
     } else {
         false
     }
@@ -445,22 +499,35 @@ pub fn is_among(breaks: &[Break], b: Break) -> bool
     false
 }
 
-/// The first of these breakpoints that matches a line, after which a net stands.
+/// What the breakpoint at an index saw.
+fn seen_at(seen: &[Seen], index: usize) -> Seen
+    requires { index < length seen.now }
+    ensures { (other : Seen) → slice_index_or seen.now index other ≡ result }
+{
+    seen[index]
+}
+
+/// The first of these breakpoints that matches a line, after which a net stands, with what they saw of the state
+/// before it.
 fn first_of(
     breaks: &[Break],
+    seen: &[Seen],
     alloc: Global,
     net: &Net,
     line: &Line,
 ) -> Result<Option<Hit>, AllocError>
-    ensures { (before : Reached) → IsRun before → Stepped before (Some (shown line.now)) net.now → IfOk result (IsFirstHit breaks.now before.state (shown line.now) net.now.state) }
+    requires { length seen.now ≡ length breaks.now }
+    ensures { (before : Reached) → IsRun before → Stepped before (Some (shown line.now)) net.now → AreSeen breaks.now before.state seen.now → IfOk result (IsFirstHit breaks.now before.state (shown line.now) net.now.state) }
 {
     for index in 0..breaks.len() {
         let breakpoint = break_at(breaks, index);
-        match breakpoint.matches(alloc, net, line) {
+        let was = seen_at(seen, index);
+        match breakpoint.matches(&was, alloc, net, line) {
             Ok(true) => {
                 return Ok(Some(Hit {
                     number: index as u64 + 1,
                     breakpoint,
+                    was: was.change,
                 }));
             }
             Ok(false) => {}
@@ -564,19 +631,32 @@ impl Breaks {
         self.items.clear();
     }
 
-    /// The first of them that matches a line, after which a net stands.
-    pub fn first_hit(&self, net: &Net, line: &Line) -> Result<Option<Hit>, AllocError>
-        ensures { (before : Reached) → IsRun before → Stepped before (Some (shown line.now)) net.now → IfOk result (IsFirstHit self.now before.state (shown line.now) net.now.state) }
+    /// The first of them that matches a line, after which a net stands, with what they saw of the state before it.
+    pub fn first_hit(
+        &self,
+        seen: &[Seen],
+        net: &Net,
+        line: &Line,
+    ) -> Result<Option<Hit>, AllocError>
+        requires { length seen.now ≡ length self.now }
+        ensures { (before : Reached) → IsRun before → Stepped before (Some (shown line.now)) net.now → AreSeen self.now before.state seen.now → IfOk result (IsFirstHit self.now before.state (shown line.now) net.now.state) }
     {
-        first_of(self.items.as_slice(), *self.items.allocator(), net, line)
+        first_of(
+            self.items.as_slice(),
+            seen,
+            *self.items.allocator(),
+            net,
+            line,
+        )
     }
 
-    /// Whether one of them matches a line, after which a net stands.
+    /// Whether one of them matches a line, after which a net stands, with what they saw of the state before it.
     #[tactic(none)]
-    pub fn hits(&self, net: &Net, line: &Line) -> Result<bool, AllocError>
-        ensures { (before : Reached) → IsRun before → Stepped before (Some (shown line.now)) net.now → IfOk result (λ found. IsTrue found ↔ IsHit self.now before.state (shown line.now) net.now.state) }
+    pub fn hits(&self, seen: &[Seen], net: &Net, line: &Line) -> Result<bool, AllocError>
+        requires { length seen.now ≡ length self.now }
+        ensures { (before : Reached) → IsRun before → Stepped before (Some (shown line.now)) net.now → AreSeen self.now before.state seen.now → IfOk result (λ found. IsTrue found ↔ IsHit self.now before.state (shown line.now) net.now.state) }
     {
-        match self.first_hit(net, line) {
+        match self.first_hit(seen, net, line) {
             Ok(hit) => Ok(hit.is_some()),
             Err(fault) => Err(fault),
         }
@@ -599,7 +679,7 @@ impl Breaks {
         *self.items.allocator()
     }
 
-    /// Whether a line meets the conditions of one of them, a stall aside.
+    /// Whether a line meets the conditions of one of them, of those on what lines show.
     pub fn hits_line(&self, line: &Line) -> bool
         ensures { IsTrue result ↔ IsLineHit self.now (shown line.now) }
     {
@@ -611,12 +691,12 @@ impl Breaks {
         false
     }
 
-    /// Whether one of them asks for a stall.
-    pub fn asks_stall(&self) -> bool
-        ensures { IsTrue result ↔ AsksStall self.now }
+    /// Whether one of them asks for what lines do not show.
+    pub fn asks_unshown(&self) -> bool
+        ensures { IsTrue result ↔ AsksUnshown self.now }
     {
         for b in &self.items {
-            if b.stall.is_some() {
+            if b.asks_unshown() {
                 return true;
             }
         }

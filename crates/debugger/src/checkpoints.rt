@@ -1,10 +1,11 @@
 //! States on the way of a run, saved so that going back need not begin at the initial state.
-ghost use Rattle.std.specs.Prelude.{◌≡◌, ◌≤◌, ◌++◌, [], ◌∷◌, if◌then◌else◌, Bool, All, Contains, IfOk};
-ghost use Rattle.debugger.specs.Moves.{Passes};
+ghost use Rattle.std.specs.Prelude.{◌≡◌, ◌≤◌, ◌++◌, [], ◌∷◌, if◌then◌else◌, Bool, All, Contains, IsTrue, IfOk};
+ghost use Rattle.debugger.specs.Moves.{Passes, IsDueBefore, SomeUpto};
 
 use net_machine::{Due, Net};
 use net_watch::Watch;
 use node_core::{Line, Node};
+use sim_time::Time;
 use std::alloc::{AllocError, Global};
 use std::marker::Model;
 use std::snapshot::Snapshot;
@@ -108,6 +109,23 @@ fn put_copy(nets: &mut Vec<Net>, most: usize, net: &Net)
     }
 }
 
+// Whether an event before a time is due.
+fn is_due_before(net: &Net, time: Time) -> bool
+    ensures { IsTrue result → IsDueBefore time net.now.state }
+{
+    match net.next_due() {
+        Some(due) => due.time < time,
+        None => false,
+    }
+}
+
+// Whether a net is further than the best so far, and an event before a time is due at it.
+fn is_better(best: &Net, net: &Net, time: Time) -> bool
+    ensures { IsTrue result → IsDueBefore time net.now.state }
+{
+    best.position() < net.position() && is_due_before(net, time)
+}
+
 impl Checkpoints {
     /// Only the initial state.
     pub fn new(alloc: Global, initial: Net) -> Checkpoints
@@ -157,6 +175,26 @@ impl Checkpoints {
             }
         }
         if present.position() <= target && best.position() < present.position() {
+            best = present;
+        }
+        best.copy()
+    }
+
+    /// A copy of the saved state, or of the one that is present, that has the greatest position of those at which an
+    /// event before a time is due; of the initial one where there is no such.
+    pub fn nearest_before(&self, time: Time, present: &Net) -> Result<Net, AllocError>
+        requires { Passes self.now present.now }
+        ensures on_run { IfOk result (λ net. Passes self.now net) }
+        ensures some { IfOk result (λ net. SomeUpto self.now time net.position) }
+    {
+        let _count = self.initial.position();
+        let mut best = &self.initial;
+        for net in &self.later {
+            if is_better(best, net, time) {
+                best = net;
+            }
+        }
+        if is_better(best, present, time) {
             best = present;
         }
         best.copy()

@@ -10,8 +10,10 @@ mod fault;
 pub mod moves;
 mod passed;
 pub mod reached;
+pub mod seen;
 mod to_stop;
 mod under_way;
+pub mod values;
 pub mod walk;
 mod window_settings;
 
@@ -19,3 +21,7 @@ pub use breaks::{Break, BreakFault, Breaks, Condition, EventKind, Hit, StallOf, 
 pub use fault::MoveFault;
 pub use moves::Debugger;
 pub use passed::{LastEvent, LineOrder, Stretch};
+pub use seen::Seen;
+pub use values::{
+    Bound, FlowValue, LinkBound, Phase, SenderValue, Sign, ValueCondition, ValueOf, Values,
+};

@@ -169,7 +169,7 @@ impl Debugger {
     }
 
     /// At the next position whose line a breakpoint matches, or at the run's end. By one worker, or where one of them
-    /// asks for a stall, the calling thread runs one event after another, and no windows are made.
+    /// asks for what lines do not show, the calling thread runs one event after another, and no windows are made.
     pub fn run<H: Hands>(&mut self, hands: &H, gate: &Gate) -> Result<u64, MoveFault>
         requires ready { H.ready hands.now }
         ensures moved { IfOk result (HasMoved self.old self.new) }
@@ -180,7 +180,7 @@ impl Debugger {
         if self.window_settings.is_alone() {
             return self.run_singly();
         }
-        if self.breaks.asks_stall() {
+        if self.breaks.asks_unshown() {
             return self.run_singly();
         }
         let aim = &Aim::Hit(&self.breaks);
@@ -195,7 +195,7 @@ impl Debugger {
         self.show(found)
     }
 
-    // What `run` does by one worker, or where a stall is asked for: one event after another, without windows.
+    // What `run` does by one worker, or where more is asked for than lines show: one event after another, without windows.
     fn run_singly(&mut self) -> Result<u64, MoveFault>
         ensures moved { IfOk result (HasMoved self.old self.new) }
         ensures goes { IfOk result (RunGoesTo self.old.start self.old.breaks self.old.shown.position) }
@@ -225,6 +225,30 @@ impl Debugger {
             gate,
             &self.net,
             aim,
+            &mut self.checkpoints,
+            &mut self.line,
+        );
+        self.show(found)
+    }
+
+    /// At the first position where all events before a time are run, forwards or backwards.
+    pub fn goto_moment<H: Hands>(
+        &mut self,
+        hands: &H,
+        gate: &Gate,
+        time: Time,
+    ) -> Result<u64, MoveFault>
+        requires ready { H.ready hands.now }
+        ensures moved { IfOk result (HasMoved self.old self.new) }
+        ensures goes { IfOk result (UntilGoesTo self.old.start time 0) }
+        ensures full { IfErr result (λ fault. fault ≡ MoveFault.CountFull → IsTooLong self.old.start) }
+        ensures err { OnErr result (self.new ≡ self.old) }
+    {
+        let found = self.window_settings.find_moment(
+            hands,
+            gate,
+            &self.net,
+            time,
             &mut self.checkpoints,
             &mut self.line,
         );

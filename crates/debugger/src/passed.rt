@@ -5,6 +5,7 @@ ghost use Rattle.node_core.specs.TraceLine.{shown};
 ghost use Rattle.net_machine.specs.Run.{Reached, IsRun, Stepped};
 ghost use Rattle.trace_text.specs.Line.{line_bytes};
 ghost use Rattle.debugger.specs.Breaks.{IsFirstHit};
+ghost use Rattle.debugger.specs.Seen.{AreSeen};
 ghost use Rattle.debugger.specs.LastEvents.{IsLastEvent};
 ghost use Rattle.debugger.specs.Moves.{Passes, HasPosition};
 ghost use Rattle.debugger.specs.Passed.{beside, stretch_texts};
@@ -13,6 +14,7 @@ use crate::breaks::{Breaks, Hit};
 use crate::checkpoints::Checkpoints;
 use crate::fault::MoveFault;
 use crate::reached::net_at;
+use crate::seen::{Seen, see_again, see_all};
 use crate::walk::reach_watched;
 use net_machine::{Due, Net};
 use net_watch::{Watch, run_by_two};
@@ -198,11 +200,17 @@ pub(crate) fn append_stretch(
 /// What an event was, of which `line` tells and after which a net stands, and which of the breakpoints
 /// stops at it.
 #[tactic(none)]
-fn event_reported(net: &Net, line: &Line, breaks: &Breaks) -> Result<LastEvent, MoveFault>
+fn event_reported(
+    net: &Net,
+    line: &Line,
+    breaks: &Breaks,
+    seen: &[Seen],
+) -> Result<LastEvent, MoveFault>
+    requires { length seen.now ≡ length breaks.now }
     ensures time { IfOk result (λ event. event.time ≡ line.now.key.time) }
-    ensures first { (before : Reached) → IsRun before → Stepped before (Some (shown line.now)) net.now → IfOk result (λ event. IsFirstHit breaks.now before.state (shown line.now) net.now.state event.hit) }
+    ensures first { (before : Reached) → IsRun before → Stepped before (Some (shown line.now)) net.now → AreSeen breaks.now before.state seen.now → IfOk result (λ event. IsFirstHit breaks.now before.state (shown line.now) net.now.state event.hit) }
 {
-    match breaks.first_hit(net, line) {
+    match breaks.first_hit(seen, net, line) {
         Ok(hit) => Ok(LastEvent {
             time: line.key.time,
             hit,
@@ -216,6 +224,8 @@ fn event_reported(net: &Net, line: &Line, breaks: &Breaks) -> Result<LastEvent, 
 struct OneEvent<'a> {
     /// The breakpoints.
     breaks: &'a Breaks,
+    /// What each of them sees of the state before the event.
+    seen: Vec<Seen>,
     /// What is told; no memory, before the event.
     reported: Result<LastEvent, MoveFault>,
 }
@@ -226,10 +236,11 @@ impl Watch for OneEvent<'_> {
     ghost use Rattle.net_machine.specs.Run.{IsRun};
     ghost use Rattle.debugger.specs.Moves.{Passes};
     ghost use Rattle.debugger.specs.LastEvents.{IsReportedOf};
+    ghost use Rattle.debugger.specs.Seen.{AreSeen};
 
     type Note = ();
 
-    ghost fits = { λ _ at. IsRun at };
+    ghost fits = { λ w at. IsRun at × AreSeen w.breaks.now at.state w.seen.items };
 
     ghost has = { λ began from w at goes_on. (w.breaks.now ≡ began.breaks.now) × ((start : State) → Passes start from → IfOk began.reported (λ _. ⊥) → IsReportedOf start began.breaks.now from.position at.position w.reported goes_on) };
 
@@ -241,7 +252,10 @@ impl Watch for OneEvent<'_> {
 
     fn see(&mut self, _note: (), _before: &Snapshot<Net>, after: &Net, line: &Line) -> bool {
         let _count = after.position();
-        self.reported = event_reported(after, line, self.breaks);
+        let seen = self.seen.as_slice();
+        self.reported = event_reported(after, line, self.breaks, seen);
+        let breaks = self.breaks.as_slice();
+        see_again(&mut self.seen, breaks, after);
         false
     }
 }
@@ -262,8 +276,10 @@ pub(crate) fn event_at(
 {
     let mut net = net_at(present, position - 1, checkpoints, line)?;
     let _before = net.position();
+    let seen = see_all(breaks.allocator(), breaks.as_slice(), &net)?;
     let mut event = OneEvent {
         breaks,
+        seen,
         reported: Err(MoveFault::NoMemory),
     };
     match run_by_two(&mut net, checkpoints, &mut event, line) {

@@ -1,14 +1,16 @@
 //! Lines of a run that a breakpoint matches, one event after another, and on to the next.
-ghost use Rattle.std.specs.Prelude.{◌≡◌, ◌↔◌, Some, IsTrue, IfOk, IfErr, OnOk};
+ghost use Rattle.std.specs.Prelude.{◌≡◌, ◌↔◌, Some, IsTrue, IfOk, IfErr, OnOk, length};
 ghost use Rattle.node_core.specs.TraceLine.{shown};
 ghost use Rattle.net_machine.specs.Run.{Reached, IsRun, Stepped};
 ghost use Rattle.debugger.specs.Breaks.{IsHit};
+ghost use Rattle.debugger.specs.Seen.{AreSeen};
 ghost use Rattle.debugger.specs.UnderWay.{AreUnderWay};
 ghost use Rattle.debugger.specs.Moves.{Passes, RunGoesTo, IsTooLong};
 
 use crate::breaks::Breaks;
 use crate::checkpoints::Checkpoints;
 use crate::fault::MoveFault;
+use crate::seen::{Seen, see_again, see_all};
 use crate::under_way::{count_on, counts_of, leaves_moving};
 use net_machine::{Due, Net};
 use net_watch::{Watch, run_by_two};
@@ -22,14 +24,16 @@ use std::snapshot::Snapshot;
 pub(crate) fn is_stop(
     breaks: &Breaks,
     counts: &[u64],
+    seen: &[Seen],
     net: &Net,
     line: &Line,
 ) -> Result<bool, AllocError>
-    ensures { (before : Reached) → IsRun before → Stepped before (Some (shown line.now)) net.now → AreUnderWay counts.now net.now.state → IfOk result (λ found. IsTrue found ↔ IsHit breaks.now before.state (shown line.now) net.now.state) }
+    requires { length seen.now ≡ length breaks.now }
+    ensures { (before : Reached) → IsRun before → Stepped before (Some (shown line.now)) net.now → AreUnderWay counts.now net.now.state → AreSeen breaks.now before.state seen.now → IfOk result (λ found. IsTrue found ↔ IsHit breaks.now before.state (shown line.now) net.now.state) }
 {
     let quiet = leaves_moving(counts, line);
     if breaks.may_hit(quiet, line) {
-        breaks.hits(net, line)
+        breaks.hits(seen, net, line)
     } else {
         Ok(false)
     }
@@ -42,6 +46,8 @@ pub(crate) struct Stops<'a> {
     pub breaks: &'a Breaks,
     /// Of each flow how many packets are known to be under way.
     pub counts: Vec<u64>,
+    /// What each breakpoint sees of the state at which the run is.
+    pub seen: Vec<Seen>,
     /// Whether the first that is found ends the run.
     pub first: bool,
     /// The position behind the last that was found.
@@ -57,10 +63,11 @@ impl Watch for Stops<'_> {
     ghost use Rattle.debugger.specs.Moves.{Passes};
     ghost use Rattle.debugger.specs.Stops.{HasSought, none_sought};
     ghost use Rattle.debugger.specs.UnderWay.{AreUnderWay};
+    ghost use Rattle.debugger.specs.Seen.{AreSeen};
 
     type Note = ();
 
-    ghost fits = { λ w at. IsRun at × AreUnderWay w.counts.items at.state };
+    ghost fits = { λ w at. IsRun at × AreUnderWay w.counts.items at.state × AreSeen w.breaks.now at.state w.seen.items };
 
     ghost has = { λ began from w at goes_on. (w.breaks.now ≡ began.breaks.now) × (w.first ≡ began.first) × ((start : State) → Passes start from → began.found ≡ None → HasSought start began.breaks.now from.position at.position began.first w.found began.refused w.refused goes_on) };
 
@@ -73,7 +80,12 @@ impl Watch for Stops<'_> {
     fn see(&mut self, _note: (), _before: &Snapshot<Net>, after: &Net, line: &Line) -> bool {
         let position = after.position();
         count_on(&mut self.counts, line);
-        match is_stop(self.breaks, self.counts.as_slice(), after, line) {
+        let counts = self.counts.as_slice();
+        let seen = self.seen.as_slice();
+        let found = is_stop(self.breaks, counts, seen, after, line);
+        let breaks = self.breaks.as_slice();
+        see_again(&mut self.seen, breaks, after);
+        match found {
             Ok(true) => {
                 self.found = Some(position);
                 !self.first
@@ -101,9 +113,11 @@ fn run_to_stop(
     ensures same { checkpoints.new ≡ checkpoints.old }
 {
     let _count = net.position();
+    let seen = see_all(breaks.allocator(), breaks.as_slice(), net)?;
     let mut stops = Stops {
         breaks,
         counts: counts_of(breaks.allocator(), net),
+        seen,
         first: true,
         found: None,
         refused: false,

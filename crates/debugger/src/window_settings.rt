@@ -1,6 +1,6 @@
 //! Moves by windows, which workers run, or the calling thread alone.
 ghost use Rattle.std.specs.Prelude.{◌≡◌, ◌<◌, ◌≤◌, false, length, IfOk, IfErr};
-ghost use Rattle.debugger.specs.Moves.{Passes, IsTooLong};
+ghost use Rattle.debugger.specs.Moves.{Passes, UntilGoesTo, IsTooLong};
 ghost use Rattle.debugger.specs.Aims.{GoesTo, IsSought};
 
 use crate::aim::Aim;
@@ -9,6 +9,7 @@ use crate::course::WindowedNet;
 use crate::fault::MoveFault;
 use net_machine::Net;
 use node_core::Line;
+use sim_time::Time;
 use std::alloc::Global;
 use window_core::Partition;
 use window_engine::{Gate, Hands};
@@ -58,6 +59,30 @@ impl WindowSettings {
                 drop(course);
                 Err(fault)
             }
+        }
+    }
+
+    /// The net at the first position where all events before a time are run, wherever it lies.
+    pub(crate) fn find_moment<H: Hands>(
+        &self,
+        hands: &H,
+        gate: &Gate,
+        present: &Net,
+        time: Time,
+        checkpoints: &mut Checkpoints,
+        line: &mut Line,
+    ) -> Result<Net, MoveFault>
+        requires ready { H.ready hands.now }
+        requires on_run { Passes checkpoints.old present.now }
+        requires nodes { length self.now.partition ≡ length present.now.state.parts }
+        ensures on_run { IfOk result (Passes checkpoints.old) }
+        ensures goes { IfOk result (λ net. UntilGoesTo checkpoints.old time 0 net.position) }
+        ensures full { IfErr result (λ fault. fault ≡ MoveFault.CountFull → IsTooLong checkpoints.old) }
+        ensures same { checkpoints.new ≡ checkpoints.old }
+    {
+        match checkpoints.nearest_before(time, present) {
+            Ok(near) => self.find(hands, gate, &near, &Aim::Moment(time), checkpoints, line),
+            Err(_) => Err(MoveFault::NoMemory),
         }
     }
 

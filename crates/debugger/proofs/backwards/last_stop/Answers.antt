@@ -1,8 +1,15 @@
 use Rattle.std.proofs.Common.{false, Ok, refl}
 use Rattle.net_watch.specs.Watched.{goes_on}
-use Rattle.debugger.proofs.Faults.{full_from_step, full_from_memory, alone_from_step, memory_alone}
+use Rattle.debugger.proofs.Faults.{full_from_step, full_from_memory, full_of_memory, alone_from_step, alone_of_memory, memory_alone}
+use Rattle.debugger.specs.Moves.{IsTooLong}
 use Rattle.debugger.proofs.Watched.{last_found}
 use Rattle.debugger.proofs.backwards.last_stop.Goals as goal
+
+pub returns-in_err-seen-clause-full : goal.returns-in_err-seen-clause-full
+returns-in_err-seen-clause-full c = full_of_memory c.from_residual.result (IsTooLong c.args.checkpoints.now) c.from_residual.ensures
+
+pub returns-in_err-seen-clause-no_worker : goal.returns-in_err-seen-clause-no_worker
+returns-in_err-seen-clause-no_worker c = alone_of_memory c.from_residual.result c.from_residual.ensures
 
 pub returns-in-Ok-clause-full : goal.returns-in-Ok-clause-full
 returns-in-Ok-clause-full c = full_from_memory

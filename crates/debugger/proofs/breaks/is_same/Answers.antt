@@ -6,9 +6,9 @@ pub returns-then-is_same_place : goal.returns-then-is_same_place
 returns-then-is_same_place c = (
   λ same.
       let place = c.is_same_place.ensures.0 c.if-is_same_place.true in
-      let event = c.is_same_event.ensures.0 same in
-      λ i. record { node = place.0 i; flow = place.1 i; kind = event.0 i; drops = event.1 i; link = place.2 i; byte = event.2 i; stall = event.3 i },
-  λ (e : c.args.a.now ≡ c.args.b.now). c.is_same_event.ensures.1 (ap (λ (b : Break). b.kind) e, ap (λ (b : Break). b.drops) e, ap (λ (b : Break). b.byte) e, ap (λ (b : Break). b.stall) e),
+      let event = c.is_same_demand.ensures.0 same in
+      λ i. record { node = place.0 i; flow = place.1 i; kind = event.0 i; drops = event.1 i; link = place.2 i; byte = event.2 i; stall = event.3 i; values = event.4 i },
+  λ (e : c.args.a.now ≡ c.args.b.now). c.is_same_demand.ensures.1 (ap (λ (b : Break). b.kind) e, ap (λ (b : Break). b.drops) e, ap (λ (b : Break). b.byte) e, ap (λ (b : Break). b.stall) e, ap (λ (b : Break). b.values) e),
 )
 
 pub returns-else-is_same_place : goal.returns-else-is_same_place

@@ -4,14 +4,17 @@ use Rattle.node_core.specs.TraceLine.{shown}
 use Rattle.debugger.specs.Breaks.{IsFirstHit}
 use Rattle.debugger.proofs.passed.event_reported.Goals as goal
 
+pub first_hit-requires : goal.first_hit-requires
+first_hit-requires c = c.requires
+
 pub returns-in-Ok-clause-time : goal.returns-in-Ok-clause-time
 returns-in-Ok-clause-time c = refl
 
 pub returns-in-Ok-clause-first : goal.returns-in-Ok-clause-first
-returns-in-Ok-clause-first c = λ before is stepped. IfOk-at_ok (IsFirstHit c.args.breaks.now before.state (shown c.args.line.now) c.args.net.now.state) c.in-Ok.is (c.first_hit.ensures before is stepped)
+returns-in-Ok-clause-first c = λ before is stepped are. IfOk-at_ok (IsFirstHit c.args.breaks.now before.state (shown c.args.line.now) c.args.net.now.state) c.in-Ok.is (c.first_hit.ensures before is stepped are)
 
 pub returns-in-Err-clause-time : goal.returns-in-Err-clause-time
 returns-in-Err-clause-time c = tt
 
 pub returns-in-Err-clause-first : goal.returns-in-Err-clause-first
-returns-in-Err-clause-first c = λ before is stepped. tt
+returns-in-Err-clause-first c = λ before is stepped are. tt

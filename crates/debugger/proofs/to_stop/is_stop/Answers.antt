@@ -6,11 +6,14 @@ use Rattle.debugger.specs.Breaks.{Matches, IsHit, IsMayHit}
 use Rattle.debugger.proofs.Passing.{none_becomes_stalled, asks_none}
 use Rattle.debugger.proofs.to_stop.is_stop.Goals as goal
 
+pub hits-requires : goal.hits-requires
+hits-requires c = c.requires
+
 pub returns-then-may_hit : goal.returns-then-may_hit
-returns-then-may_hit c = λ before is stepped counted. c.hits.ensures before is stepped
+returns-then-may_hit c = λ before is stepped counted are. c.hits.ensures before is stepped are
 
 pub returns-else-may_hit : goal.returns-else-may_hit
-returns-else-may_hit c = λ before is stepped counted.
+returns-else-may_hit c = λ before is stepped counted are.
     let line = shown c.args.line.now in
     let after = c.args.net.now.state in
     let not_asked : (b : Break) → Matches b before.state line after → IsTrue c.leaves_moving-quiet.result → IsNone b.stall = λ b hit quiet.

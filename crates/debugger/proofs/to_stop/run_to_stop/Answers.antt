@@ -1,10 +1,13 @@
 use Rattle.std.proofs.Common.{true, false, refl, subst}
 use Rattle.table_run.specs.State.{State}
 use Rattle.net_watch.proofs.Alone.{second_alone}
-use Rattle.debugger.specs.Moves.{Passes}
-use Rattle.debugger.proofs.Faults.{full_from_step, full_from_memory}
+use Rattle.debugger.specs.Moves.{Passes, IsTooLong}
+use Rattle.debugger.proofs.Faults.{full_from_step, full_from_memory, full_of_memory}
 use Rattle.debugger.proofs.Watched.{stop_found, too_long_there}
 use Rattle.debugger.proofs.to_stop.run_to_stop.Goals as goal
+
+pub returns-in_err-seen-clause-full : goal.returns-in_err-seen-clause-full
+returns-in_err-seen-clause-full c = full_of_memory c.from_residual.result (IsTooLong c.args.checkpoints.now) c.from_residual.ensures
 
 pub returns-in-Ok-clause-full : goal.returns-in-Ok-clause-full
 returns-in-Ok-clause-full c = full_from_memory

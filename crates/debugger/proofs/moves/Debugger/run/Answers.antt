@@ -4,7 +4,7 @@ use Rattle.table_run.specs.State.{State}
 use Rattle.debugger.specs.declared.fault.MoveFault.{MoveFault}
 use Rattle.debugger.specs.declared.fault.MoveFault.TheVariants.{CountFull}
 use Rattle.debugger.specs.Moves.{Passes, RunsTo, RunGoesTo, IsTooLong}
-use Rattle.debugger.specs.Breaks.{AsksStall}
+use Rattle.debugger.specs.Breaks.{AsksUnshown}
 use Rattle.debugger.specs.Aims.{LineHit}
 use Rattle.debugger.specs.Debugging.{Debugging, HasMoved}
 use Rattle.debugger.specs.DebuggerOf.{IsDebugger}
@@ -44,7 +44,7 @@ returns-clause-goes g c =
     let start = c.self.inside.checkpoints in
     let breaks = c.self.inside.breaks in
     let from = c.self.inside.net.position in
-    let none : AsksStall breaks → ⊥ = λ asked. true≢false (sym (c.asks_stall.ensures.1 asked) ∙ c.if-asks_stall.false) in
+    let none : AsksUnshown breaks → ⊥ = λ asked. true≢false (sym (c.asks_unshown.ensures.1 asked) ∙ c.if-asks_unshown.false) in
     let lines = ok_shown (RunsTo (LineHit breaks) start from) c.find-found.result c.show.result c.show.ensures.answer c.find-found.ensures.goes in
     let here = IfOk-weaker c.show.result (RunsTo (LineHit breaks) start from) (RunGoesTo start breaks from) (λ p. by_lines breaks none start from p) lines in
     subst (λ (d : Debugging). IfOk c.show.result (RunGoesTo d.start d.breaks d.shown.position)) c.self.view_is here
@@ -73,20 +73,20 @@ returns-then-is_alone-clause-full g c = c.run_singly.ensures.full
 pub returns-then-is_alone-clause-err : goal.returns-then-is_alone-clause-err
 returns-then-is_alone-clause-err g c = c.run_singly.ensures.err
 
-pub returns-then-asks_stall-clause-moved : goal.returns-then-asks_stall-clause-moved
-returns-then-asks_stall-clause-moved g c = c.run_singly-then-asks_stall.ensures.moved
+pub returns-then-asks_unshown-clause-moved : goal.returns-then-asks_unshown-clause-moved
+returns-then-asks_unshown-clause-moved g c = c.run_singly-then-asks_unshown.ensures.moved
 
-pub returns-then-asks_stall-clause-goes : goal.returns-then-asks_stall-clause-goes
-returns-then-asks_stall-clause-goes g c = c.run_singly-then-asks_stall.ensures.goes
+pub returns-then-asks_unshown-clause-goes : goal.returns-then-asks_unshown-clause-goes
+returns-then-asks_unshown-clause-goes g c = c.run_singly-then-asks_unshown.ensures.goes
 
-pub returns-then-asks_stall-clause-full : goal.returns-then-asks_stall-clause-full
-returns-then-asks_stall-clause-full g c = c.run_singly-then-asks_stall.ensures.full
+pub returns-then-asks_unshown-clause-full : goal.returns-then-asks_unshown-clause-full
+returns-then-asks_unshown-clause-full g c = c.run_singly-then-asks_unshown.ensures.full
 
-pub returns-then-asks_stall-clause-err : goal.returns-then-asks_stall-clause-err
-returns-then-asks_stall-clause-err g c = c.run_singly-then-asks_stall.ensures.err
+pub returns-then-asks_unshown-clause-err : goal.returns-then-asks_unshown-clause-err
+returns-then-asks_unshown-clause-err g c = c.run_singly-then-asks_unshown.ensures.err
 
 pub same-self : goal.same-self
 same-self g c = refl
 
-pub same-self-then-asks_stall : goal.same-self-then-asks_stall
-same-self-then-asks_stall g c = refl
+pub same-self-then-asks_unshown : goal.same-self-then-asks_unshown
+same-self-then-asks_unshown g c = refl

@@ -1,11 +1,19 @@
-use Rattle.std.proofs.Common.{List, ◌∙◌, subst, arith}
+use Rattle.std.proofs.Common.{List, length, ◌∙◌, sym, ap, subst, arith}
 use Rattle.node_core.specs.TraceLine.{shown}
 use Rattle.debugger.specs.declared.breaks.Break.{Break}
 use Rattle.debugger.specs.Breaks.{IsHit}
+use Rattle.debugger.specs.Seen.{AreSeen}
+use Rattle.debugger.proofs.States.{as_many}
 use Rattle.debugger.proofs.Judged.{was_found, was_not}
 use Rattle.debugger.proofs.UnderWay.{counted_next}
 use Rattle.debugger.proofs.Watched.{passes_on, sought_next, missed_next}
 use Rattle.debugger.proofs.to_stop.StopsWatch.see.Goals as goal
+
+pub is_stop-found-requires : goal.is_stop-found-requires
+is_stop-found-requires c = as_many c.args.self.now.breaks.now c.args._before.now.value.state c.as_slice-seen.result.now (c.as_slice-seen.ensures.value ∙ c.requires.fits.2)
+
+pub see_again-requires : goal.see_again-requires
+see_again-requires c = as_many c.args.self.now.breaks.now c.args._before.now.value.state c.args.self.now.seen.items c.requires.fits.2 ∙ ap length (sym c.as_slice-breaks.ensures.value)
 
 pub returns-in-Ok-true-clause-has : goal.returns-in-Ok-true-clause-has
 returns-in-Ok-true-clause-has c began from runs was = (
@@ -17,8 +25,8 @@ returns-in-Ok-true-clause-has c began from runs was = (
       let self = c.args.self.now in
       let line = shown c.args.line.now in
       let fits = c.requires.fits in
-      let counted = counted_next old new line self.counts.items c.as_slice.result.now fits.0 c.requires.stepped fits.1 (c.as_slice.ensures.value ∙ c.count_on.ensures) in
-      let hit = was_found (IsHit self.breaks.now old.state line new.state) c.is_stop.result c.in-Ok-true.field-0 c.in-Ok-true.is c.in-Ok-true.field-0-test (c.is_stop.ensures old fits.0 c.requires.stepped counted) in
+      let counted = counted_next old new line self.counts.items c.as_slice-counts.result.now fits.0 c.requires.stepped fits.1 (c.as_slice-counts.ensures.value ∙ c.count_on.ensures) in
+      let hit = was_found (IsHit self.breaks.now old.state line new.state) c.is_stop-found.result c.in-Ok-true.field-0 c.in-Ok-true.is c.in-Ok-true.field-0-test (c.is_stop-found.ensures old fits.0 c.requires.stepped counted (c.as_slice-seen.ensures.value ∙ fits.2)) in
       sought_next start began.breaks.now from.position old new line began.first self.first self.found c.position-position.result began.refused self.refused was.1 c.position-position.ensures.count (let far = runs.position in omega (arith, far)) (passes_on start from old at runs)
       c.requires.stepped (was.2 start at none) (subst (λ (breaks : List Break). IsHit breaks old.state line new.state) was.0 hit),
 )
@@ -33,8 +41,8 @@ returns-in-Ok-false-clause-has c began from runs was = (
       let self = c.args.self.now in
       let line = shown c.args.line.now in
       let fits = c.requires.fits in
-      let counted = counted_next old new line self.counts.items c.as_slice.result.now fits.0 c.requires.stepped fits.1 (c.as_slice.ensures.value ∙ c.count_on.ensures) in
-      let missed = was_not (IsHit self.breaks.now old.state line new.state) c.is_stop.result c.in-Ok-false.field-0 c.in-Ok-false.is c.in-Ok-false.field-0-test (c.is_stop.ensures old fits.0 c.requires.stepped counted) in
+      let counted = counted_next old new line self.counts.items c.as_slice-counts.result.now fits.0 c.requires.stepped fits.1 (c.as_slice-counts.ensures.value ∙ c.count_on.ensures) in
+      let missed = was_not (IsHit self.breaks.now old.state line new.state) c.is_stop-found.result c.in-Ok-false.field-0 c.in-Ok-false.is c.in-Ok-false.field-0-test (c.is_stop-found.ensures old fits.0 c.requires.stepped counted (c.as_slice-seen.ensures.value ∙ fits.2)) in
       missed_next start began.breaks.now from.position old new line began.first self.found began.refused self.refused (passes_on start from old at runs) c.requires.stepped (was.2 start at none) (subst (λ (breaks : List Break). IsHit breaks old.state line new.state → ⊥) was.0 missed),
 )
 
@@ -42,16 +50,19 @@ pub returns-in-Ok-true-clause-fits : goal.returns-in-Ok-true-clause-fits
 returns-in-Ok-true-clause-fits c = (
   c.position-position.ensures.is_run,
   counted_next c.args._before.now.value c.args.after.now (shown c.args.line.now) c.args.self.now.counts.items c.count_on.new.counts.items c.requires.fits.0 c.requires.stepped c.requires.fits.1 c.count_on.ensures,
+  subst (λ (breaks : List Break). AreSeen breaks c.args.after.now.state c.see_again.new.seen.items) c.as_slice-breaks.ensures.value c.see_again.ensures,
 )
 
 pub returns-in-Ok-false-clause-fits : goal.returns-in-Ok-false-clause-fits
 returns-in-Ok-false-clause-fits c = (
   c.position-position.ensures.is_run,
   counted_next c.args._before.now.value c.args.after.now (shown c.args.line.now) c.args.self.now.counts.items c.count_on.new.counts.items c.requires.fits.0 c.requires.stepped c.requires.fits.1 c.count_on.ensures,
+  subst (λ (breaks : List Break). AreSeen breaks c.args.after.now.state c.see_again.new.seen.items) c.as_slice-breaks.ensures.value c.see_again.ensures,
 )
 
 pub returns-in-Err-clause-fits : goal.returns-in-Err-clause-fits
 returns-in-Err-clause-fits c = (
   c.position-position.ensures.is_run,
   counted_next c.args._before.now.value c.args.after.now (shown c.args.line.now) c.args.self.now.counts.items c.count_on.new.counts.items c.requires.fits.0 c.requires.stepped c.requires.fits.1 c.count_on.ensures,
+  subst (λ (breaks : List Break). AreSeen breaks c.args.after.now.state c.see_again.new.seen.items) c.as_slice-breaks.ensures.value c.see_again.ensures,
 )
