@@ -1,26 +1,26 @@
 -- What follows where a line that is typed was read.
 use Rattle.std.proofs.Common.{◌≡◌, [], List, ℕ, Option, Some, None, Ok, Err, refl, sym, subst}
 use Rattle.table_run.specs.State.{State}
-use Rattle.debug_session.specs.declared.command.Limits.{Limits}
 use Rattle.debug_session.specs.declared.command.Typed.{Typed}
+use Rattle.debug_session.specs.declared.naming.Naming.{Naming}
 use Rattle.debug_session.specs.declared.refusal.Refusal.{Refusal}
 use Rattle.debug_session.specs.Answers.{refusal_line}
 use Rattle.debug_session.specs.Prompt.{AtPrompt, ObeysAtPrompt, MovesAgain, FollowsTyped, AnswersTyped}
 use Rattle.debug_session.specs.TypedGrammar.{TypedReading, typed_reading}
 
-pub nothing_again : (start : State) (old : AtPrompt) (out : List ℕ) → old.memo.last ≡ None → out ≡ [] → MovesAgain start old.memo.last old old out
-nothing_again start old out none reported = subst (λ (m : Option Typed). MovesAgain start m old old out) (sym none) (record { same = refl; reported = reported })
+pub nothing_again : (naming : Naming) (start : State) (old : AtPrompt) (out : List ℕ) → old.memo.last ≡ None → out ≡ [] → MovesAgain naming start old.memo.last old old out
+nothing_again naming start old out none reported = subst (λ (m : Option Typed). MovesAgain naming start m old old out) (sym none) (record { same = refl; reported = reported })
 
-pub done_again : (start : State) (old new : AtPrompt) (out : List ℕ) (move : Typed) → old.memo.last ≡ Some move → ObeysAtPrompt start move old new out → MovesAgain start old.memo.last old new out
-done_again start old new out move is obeys = subst (λ (m : Option Typed). MovesAgain start m old new out) (sym is) obeys
+pub done_again : (naming : Naming) (start : State) (old new : AtPrompt) (out : List ℕ) (move : Typed) → old.memo.last ≡ Some move → ObeysAtPrompt naming start move old new out → MovesAgain naming start old.memo.last old new out
+done_again naming start old new out move is obeys = subst (λ (m : Option Typed). MovesAgain naming start m old new out) (sym is) obeys
 
-module _ (limits : Limits) (start : State) (line : List ℕ) (old new : AtPrompt) (out : List ℕ) where
-  pub is_again : None ≡ typed_reading limits line → MovesAgain start old.memo.last old new out → AnswersTyped limits start line old new out
-  is_again read again = subst (λ (r : Option TypedReading). FollowsTyped start r old new out) read again
+module _ (naming : Naming) (start : State) (line : List ℕ) (old new : AtPrompt) (out : List ℕ) where
+  pub is_again : None ≡ typed_reading naming line → MovesAgain naming start old.memo.last old new out → AnswersTyped naming start line old new out
+  is_again read again = subst (λ (r : Option TypedReading). FollowsTyped naming start r old new out) read again
 
-  pub is_obeyed : (asked : Typed) → Some (Ok asked) ≡ typed_reading limits line → ObeysAtPrompt start asked old new out → AnswersTyped limits start line old new out
-  is_obeyed asked read obeys = subst (λ (r : Option TypedReading). FollowsTyped start r old new out) read obeys
+  pub is_obeyed : (asked : Typed) → Some (Ok asked) ≡ typed_reading naming line → ObeysAtPrompt naming start asked old new out → AnswersTyped naming start line old new out
+  is_obeyed asked read obeys = subst (λ (r : Option TypedReading). FollowsTyped naming start r old new out) read obeys
 
-pub is_refused : (limits : Limits) (start : State) (line : List ℕ) (old : AtPrompt) (out : List ℕ) (refusal : Refusal) → Some (Err refusal) ≡ typed_reading limits line → out ≡ refusal_line refusal
-    → AnswersTyped limits start line old old out
-is_refused limits start line old out refusal read reported = subst (λ (r : Option TypedReading). FollowsTyped start r old old out) read (record { same = refl; reported = reported })
+pub is_refused : (naming : Naming) (start : State) (line : List ℕ) (old : AtPrompt) (out : List ℕ) (refusal : Refusal) → Some (Err refusal) ≡ typed_reading naming line → out ≡ refusal_line refusal
+    → AnswersTyped naming start line old old out
+is_refused naming start line old out refusal read reported = subst (λ (r : Option TypedReading). FollowsTyped naming start r old old out) read (record { same = refl; reported = reported })

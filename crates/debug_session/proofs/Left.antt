@@ -8,6 +8,7 @@ use Rattle.debug_session.specs.declared.command.Limits.{Limits}
 use Rattle.debug_session.specs.declared.command.Typed.{Typed}
 use Rattle.debug_session.specs.declared.command.Typed.TheVariants.{Plain}
 use Rattle.debug_session.specs.declared.dialogue.Dialogue.{Dialogue}
+use Rattle.debug_session.specs.declared.naming.Naming.{Naming}
 use Rattle.debug_session.specs.declared.refusal.Refusal.TheVariants.{B2}
 use Rattle.debug_session.specs.declared.window_move.WindowMove.{WindowMove}
 use Rattle.debug_session.specs.declared.window_move.WindowMove.TheVariants.{Run, Until}
@@ -41,34 +42,34 @@ line_obeyed limits line command old new (Some left) out read move = record {
 }
 
 -- so at a prompt
-pub typed_obeyed : (asked : Typed) (old new : Dialogue) (r : Option WindowMove) (out : List ℕ) → new.memo ≡ memo_after asked (at_prompt old)
-    → MatchOption r (ObeysTyped old.debugger.start (knowing new.memo.known asked) (standing old.debugger) (standing new.debugger) out) (IsTyped (knowing new.memo.known asked) old.debugger new.debugger)
-    → MatchOption r (ObeysAtPrompt old.debugger.start asked (at_prompt old) (at_prompt new) out) (IsTypedLeft old new (ObeysAtPrompt old.debugger.start asked (at_prompt old)))
-typed_obeyed asked old new None out memo obeys = record { obeyed = obeys; memo = memo }
-typed_obeyed asked old new (Some left) out memo move = record {
+pub typed_obeyed : (naming : Naming) (asked : Typed) (old new : Dialogue) (r : Option WindowMove) (out : List ℕ) → new.memo ≡ memo_after asked (at_prompt old)
+    → MatchOption r (ObeysTyped naming old.debugger.start (knowing new.memo.known asked) (standing old.debugger) (standing new.debugger) out) (IsTyped (knowing new.memo.known asked) old.debugger new.debugger)
+    → MatchOption r (ObeysAtPrompt naming old.debugger.start asked (at_prompt old) (at_prompt new) out) (IsTypedLeft naming old new (ObeysAtPrompt naming old.debugger.start asked (at_prompt old)))
+typed_obeyed naming asked old new None out memo obeys = record { obeyed = obeys; memo = memo }
+typed_obeyed naming asked old new (Some left) out memo move = record {
   same = move.1;
   answers = λ at said obeys.
-      record { obeyed = subst (λ (k : Typed). ObeysTyped old.debugger.start k (standing old.debugger) at said) (sym move.0) obeys; memo = memo };
+      record { obeyed = subst (λ (k : Typed). ObeysTyped naming old.debugger.start k (standing old.debugger) at said) (sym move.0) obeys; memo = memo };
 }
 
 -- what is done or left comes to what follows of it
-pub typed_as : (old new : Dialogue) (P Q : AtPrompt → List ℕ → Type 0) (r : Option WindowMove) (out : List ℕ) → ((at : AtPrompt) (said : List ℕ) → P at said → Q at said)
-    → MatchOption r (P (at_prompt new) out) (IsTypedLeft old new P) → MatchOption r (Q (at_prompt new) out) (IsTypedLeft old new Q)
-typed_as old new P Q None out says is = says (at_prompt new) out is
-typed_as old new P Q (Some left) out says is = record { same = is.same; answers = λ at said obeys. says (record { standing = at; memo = new.memo }) said (is.answers at said obeys) }
+pub typed_as : (naming : Naming) (old new : Dialogue) (P Q : AtPrompt → List ℕ → Type 0) (r : Option WindowMove) (out : List ℕ) → ((at : AtPrompt) (said : List ℕ) → P at said → Q at said)
+    → MatchOption r (P (at_prompt new) out) (IsTypedLeft naming old new P) → MatchOption r (Q (at_prompt new) out) (IsTypedLeft naming old new Q)
+typed_as naming old new P Q None out says is = says (at_prompt new) out is
+typed_as naming old new P Q (Some left) out says is = record { same = is.same; answers = λ at said obeys. says (record { standing = at; memo = new.memo }) said (is.answers at said obeys) }
 
-module _ (limits : Limits) (start : State) (line : List ℕ) (old new : AtPrompt) (out : List ℕ) where
+module _ (naming : Naming) (start : State) (line : List ℕ) (old new : AtPrompt) (out : List ℕ) where
   abbrev Short : Type 0
-  Short = MatchBool (is_quit line) (Rests old new out []) (AnswersTyped limits start line old new out)
+  Short = MatchBool (is_quit line) (Rests old new out []) (AnswersTyped naming start line old new out)
 
   -- a line that is too long is refused
-  pub long_refused : is_long line ≡ true → Rests old new out (refusal_line B2) → TypedAnswers limits start line old new out
+  pub long_refused : is_long line ≡ true → Rests old new out (refusal_line B2) → TypedAnswers naming start line old new out
   long_refused long rests = subst (λ (b : Bool). MatchBool b (Rests old new out (refusal_line B2)) Short) (sym long) rests
 
   -- any other that doesn't end the session is followed
-  pub short_followed : is_long line ≡ false → is_quit line ≡ false → AnswersTyped limits start line old new out → TypedAnswers limits start line old new out
+  pub short_followed : is_long line ≡ false → is_quit line ≡ false → AnswersTyped naming start line old new out → TypedAnswers naming start line old new out
   short_followed short goes_on follows =
-      let here : Short = subst (λ (b : Bool). MatchBool b (Rests old new out []) (AnswersTyped limits start line old new out)) (sym goes_on) follows in
+      let here : Short = subst (λ (b : Bool). MatchBool b (Rests old new out []) (AnswersTyped naming start line old new out)) (sym goes_on) follows in
       subst (λ (b : Bool). MatchBool b (Rests old new out (refusal_line B2)) Short) (sym short) here
 
 -- the move was made and told, and so its command was obeyed
@@ -76,16 +77,16 @@ move_obeyed : (left : WindowMove) (old new : Debugging) (out : List ℕ) → Gon
 move_obeyed Run old new out gone = gone.went
 move_obeyed (Until time) old new out gone = gone.went
 
-typed_move_obeyed : (left : WindowMove) (old new : Debugging) (out : List ℕ) → GonePast (report_of left old.shown.position) (MoveGoesTo left old) old new out → ObeysTyped old.start (Plain (command_of left)) (standing old) (standing new) out
-typed_move_obeyed Run old new out gone = gone.went
-typed_move_obeyed (Until time) old new out gone = gone.went
+typed_move_obeyed : (naming : Naming) (left : WindowMove) (old new : Debugging) (out : List ℕ) → GonePast (report_of left old.shown.position) (MoveGoesTo left old) old new out → ObeysTyped naming old.start (Plain (command_of left)) (standing old) (standing new) out
+typed_move_obeyed naming Run old new out gone = gone.went
+typed_move_obeyed naming (Until time) old new out gone = gone.went
 
 -- and the line was answered
 pub left_answered : (old here new : Debugging) (IsAnswer : Standing → List ℕ → Type 0) (left : WindowMove) (out : List ℕ) → IsLeft old here IsAnswer left → Gone (MoveGoesTo left here) here new out → IsAnswer (standing new) out
 left_answered old here new IsAnswer left out is gone =
     is.answers (standing new) out (move_obeyed left old new out (subst (λ (d : Debugging). Gone (MoveGoesTo left d) d new out) is.same gone))
 
-pub typed_left_answered : (old here : Dialogue) (new : Debugging) (IsAnswer : AtPrompt → List ℕ → Type 0) (left : WindowMove) (out : List ℕ) → IsTypedLeft old here IsAnswer left
+pub typed_left_answered : (naming : Naming) (old here : Dialogue) (new : Debugging) (IsAnswer : AtPrompt → List ℕ → Type 0) (left : WindowMove) (out : List ℕ) → IsTypedLeft naming old here IsAnswer left
     → GonePast (report_of left here.debugger.shown.position) (MoveGoesTo left here.debugger) here.debugger new out → IsAnswer (record { standing = standing new; memo = here.memo }) out
-typed_left_answered old here new IsAnswer left out is gone =
-    is.answers (standing new) out (typed_move_obeyed left old.debugger new out (subst (λ (d : Debugging). GonePast (report_of left d.shown.position) (MoveGoesTo left d) d new out) is.same gone))
+typed_left_answered naming old here new IsAnswer left out is gone =
+    is.answers (standing new) out (typed_move_obeyed naming left old.debugger new out (subst (λ (d : Debugging). GonePast (report_of left d.shown.position) (MoveGoesTo left d) d new out) is.same gone))

@@ -1,4 +1,5 @@
 pub mod Words
+pub mod Placed
 pub mod Times
 pub mod Followed
 pub mod Gathering

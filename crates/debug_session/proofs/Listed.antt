@@ -1,9 +1,12 @@
 -- Breakpoints in their order: a line for each, and the number of one.
-use Rattle.std.proofs.Common.{◌≡◌, ◌<◌, ◌≤◌, ◌+◌, ◌∙◌, ⊎_elim, ℕ, List, ◌∷◌, ◌++◌, length, take, drop, get_or, sym, ap, subst, arith, append_assoc, append-nil}
+use Rattle.std.proofs.Common.{◌≡◌, ◌<◌, ◌≤◌, ◌+◌, ◌∙◌, ⊎_elim, ℕ, List, [], ◌∷◌, ◌++◌, length, decimal, take, drop, get_or, sym, ap, subst, arith, append_assoc, append-nil}
 use Rattle.std.proofs.lemmas.Bool.{cases_lt}
 use Rattle.std.proofs.lemmas.List.{length-take-le, take-append-drop, drop_all, drop_more, get_or-take, take_all}
 use Rattle.std.specs.List.{Contains, flat_map}
 use Rattle.debugger.specs.declared.breaks.Break.{Break}
+use Rattle.trace_text.specs.Words.{line_of_words}
+use Rattle.debug_session.specs.Grammar.{Word}
+use Rattle.debug_session.specs.NamesReported.{names_from}
 use Rattle.debug_session.specs.Numbered.{IsNumber, lines_from, set_line}
 
 -- one line more
@@ -15,6 +18,18 @@ listed_more out made all i breaks b within is appended so_far =
 
 pub listed_all : (out all : List ℕ) (i n : ℕ) (breaks : List Break) → length breaks ≤ i → out ++ lines_from n (drop i breaks) ≡ all → out ≡ all
 listed_all out all i n breaks past so_far = sym (append-nil out) ∙ ap (λ bs. out ++ lines_from n bs) (sym (drop_all i breaks past)) ∙ so_far
+
+-- so of names
+pub named_more : (sort out made all : List ℕ) (i : ℕ) (names : List Word) (name : Word) → i < length names → name ≡ get_or names i [] → made ≡ out ++ line_of_words (sort ∷ decimal i ∷ name ∷ [])
+    → out ++ names_from sort i (drop i names) ≡ all → made ++ names_from sort (i + 1) (drop (i + 1) names) ≡ all
+named_more sort out made all i names name within is appended so_far =
+    let line = line_of_words (sort ∷ decimal i ∷ name ∷ []) in
+    let rest = names_from sort (i + 1) (drop (i + 1) names) in
+    let next : drop i names ≡ name ∷ drop (i + 1) names = drop_more names i [] within ∙ ap (λ x. x ∷ drop (i + 1) names) (sym is) in
+    ap (λ l. l ++ rest) appended ∙ append_assoc out line rest ∙ ap (λ ns. out ++ names_from sort i ns) (sym next) ∙ so_far
+
+pub named_all : (sort out all : List ℕ) (i n : ℕ) (names : List Word) → length names ≤ i → out ++ names_from sort n (drop i names) ≡ all → out ≡ all
+named_all sort out all i n names past so_far = sym (append-nil out) ∙ ap (λ ns. out ++ names_from sort n ns) (sym (drop_all i names past)) ∙ so_far
 
 -- the same of texts of other things
 pub reported_more : {A : Type 0} (text : A → List ℕ) (out made all : List ℕ) (i : ℕ) (xs : List A) (x : A) → i < length xs → x ≡ get_or xs i x → made ≡ out ++ text x

@@ -8,13 +8,15 @@ use Rattle.debugger.specs.declared.breaks.EventKind.TheVariants.{Start}
 use Rattle.debugger.specs.declared.breaks.StallOf.TheVariants.{Any, Flow as OneFlow}
 use Rattle.debugger.specs.Breaks.{asking, asks_nothing}
 use Rattle.debug_session.specs.declared.command.Command.TheVariants.{SetBreak}
-use Rattle.debug_session.specs.declared.command.Limits.{Limits}
 use Rattle.debug_session.specs.declared.conditions.Gathered.{Gathered}
 use Rattle.debug_session.specs.declared.conditions.Sort.{Sort}
 use Rattle.debug_session.specs.declared.conditions.Sort.TheVariants.{Node, Flow, Kind, Drop, Link, Byte}
+use Rattle.debug_session.specs.declared.naming.Naming.{Naming}
+use Rattle.debug_session.specs.declared.naming.PartSort.TheVariants as part
 use Rattle.debug_session.specs.declared.refusal.Refusal.{Refusal}
 use Rattle.debug_session.specs.declared.refusal.Refusal.TheVariants.{B1, B2, B3}
-use Rattle.debug_session.specs.Grammar.{Word, Reading, number_below, one_number, with_number, kind_named, sets}
+use Rattle.debug_session.specs.Grammar.{Word, Reading, number_below, with_number, kind_named, sets}
+use Rattle.debug_session.specs.Namings.{part_meant, one_part}
 
 abbrev pub sort_named : Word → Option Sort
 sort_named word =
@@ -36,13 +38,13 @@ has_sort b Link = is_some b.link
 has_sort b Byte = is_some b.byte
 
 -- the condition of a sort that a word is the value of: a byte is at most 9 * 10^12, the bytes of the greatest flow
-abbrev pub condition_of : Limits → Sort → Word → Option Condition
-condition_of limits Node word = option_map (λ n. condition.Node n) (number_below limits.nodes word)
-condition_of limits Flow word = option_map (λ n. condition.Flow n) (number_below limits.flows word)
-condition_of limits Kind word = option_map (λ k. condition.Kind k) (kind_named word)
-condition_of limits Drop word = None
-condition_of limits Link word = option_map (λ n. condition.Link n) (number_below limits.links word)
-condition_of limits Byte word = option_map (λ n. condition.Byte n) (number_below 9000000000001 word)
+abbrev pub condition_of : Naming → Sort → Word → Option Condition
+condition_of naming Node word = option_map (λ n. condition.Node n) (part_meant naming part.Node word)
+condition_of naming Flow word = option_map (λ n. condition.Flow n) (part_meant naming part.Flow word)
+condition_of naming Kind word = option_map (λ k. condition.Kind k) (kind_named word)
+condition_of naming Drop word = None
+condition_of naming Link word = option_map (λ n. condition.Link n) (part_meant naming part.Link word)
+condition_of naming Byte word = option_map (λ n. condition.Byte n) (number_below 9000000000001 word)
 
 -- one of a sort, for the place of a wrong one
 abbrev pub stand_in : Sort → Condition
@@ -81,15 +83,15 @@ with_sort g None = Err B1
 with_sort g (Some sort) = if has_sort g.breakpoint sort then Err B2 else Ok (begin g sort)
 
 -- the next word: a sort, or the value that a sort awaits
-abbrev pub with_word : Limits → Gathered → Option Sort → Word → Result Gathered Refusal
-with_word limits g None word = with_sort g (sort_named word)
-with_word limits g (Some sort) word = Ok (gather g sort (condition_of limits sort word))
+abbrev pub with_word : Naming → Gathered → Option Sort → Word → Result Gathered Refusal
+with_word naming g None word = with_sort g (sort_named word)
+with_word naming g (Some sort) word = Ok (gather g sort (condition_of naming sort word))
 
 -- the words one after another: the first refusal stays
-abbrev pub gathering : Limits → Result Gathered Refusal → List Word → Result Gathered Refusal
-gathering limits r [] = r
-gathering limits (Err refusal) (word ∷ words) = Err refusal
-gathering limits (Ok g) (word ∷ words) = gathering limits (with_word limits g g.awaits word) words
+abbrev pub gathering : Naming → Result Gathered Refusal → List Word → Result Gathered Refusal
+gathering naming r [] = r
+gathering naming (Err refusal) (word ∷ words) = Err refusal
+gathering naming (Ok g) (word ∷ words) = gathering naming (with_word naming g g.awaits word) words
 
 -- no value is still awaited, and none was wrong
 abbrev pub ended : Gathered → Option Sort → Reading
@@ -101,16 +103,16 @@ gathered (Err refusal) = Err refusal
 gathered (Ok g) = ended g g.awaits
 
 -- one condition at least
-abbrev pub conditions : Limits → List Word → Reading
-conditions limits [] = Err B2
-conditions limits (word ∷ words) = gathered (gathering limits (Ok none_gathered) (word ∷ words))
+abbrev pub conditions : Naming → List Word → Reading
+conditions naming [] = Err B2
+conditions naming (word ∷ words) = gathered (gathering naming (Ok none_gathered) (word ∷ words))
 
--- the words behind `stall`: none for any flow, or a flow's number
-abbrev pub stall_asked : Limits → List Word → Reading
-stall_asked limits [] = Ok (sets (condition.Stall Any))
-stall_asked limits (word ∷ words) = with_number (λ n. sets (condition.Stall (OneFlow n))) (one_number limits.flows (word ∷ words))
+-- the words behind `stall`: none for any flow, or one flow
+abbrev pub stall_asked : Naming → List Word → Reading
+stall_asked naming [] = Ok (sets (condition.Stall Any))
+stall_asked naming (word ∷ words) = with_number (λ n. sets (condition.Stall (OneFlow n))) (one_part naming part.Flow (word ∷ words))
 
 -- the words behind `break`: a stall stands alone
-abbrev pub break_asked : Limits → List Word → Reading
-break_asked limits [] = Err B2
-break_asked limits (word ∷ words) = if bytes_eq word (codes "stall") then stall_asked limits words else conditions limits (word ∷ words)
+abbrev pub break_asked : Naming → List Word → Reading
+break_asked naming [] = Err B2
+break_asked naming (word ∷ words) = if bytes_eq word (codes "stall") then stall_asked naming words else conditions naming (word ∷ words)

@@ -2,7 +2,7 @@
 use Rattle.std.specs.Prelude.{ℕ, List, [], ◌∷◌, ◌++◌, codes}
 use Rattle.std.specs.List.{flat_map}
 use Rattle.debug_session.specs.declared.name.CommandName.{CommandName}
-use Rattle.debug_session.specs.declared.name.CommandName.TheVariants.{Step, Back, Break, Breaks, Run, Reverse, Until, Goto, Where, State, Delete, Clear, Lines, Why, Help, Quit}
+use Rattle.debug_session.specs.declared.name.CommandName.TheVariants.{Step, Back, Break, Breaks, Run, Reverse, Until, Goto, Where, State, Delete, Clear, Lines, Why, Names, Help, Quit}
 use Rattle.debug_session.specs.declared.topic.Topic.{Topic}
 use Rattle.debug_session.specs.declared.topic.Topic.TheVariants.{Command, Numbers, Trace, Kinds, Stall}
 
@@ -22,6 +22,7 @@ usage Delete = codes "delete I     take breakpoint I away\n"
 usage Clear = codes "clear        take all breakpoints away\n"
 usage Lines = codes "lines [K]    show the last K lines of the trace (10)\n"
 usage Why = codes "why F        tell what flow F waits for\n"
+usage Names = codes "names        list the names of nodes, links and flows with their numbers\n"
 usage Help = codes "help [NAME]  show this, or more of NAME: a command, numbers, trace, kinds or stall\n"
 usage Quit = codes "quit         end the session\n"
 
@@ -36,9 +37,9 @@ more Goto = codes "N is how many events were run there, as the first number of a
 more Where = codes "The next event is shown by the line that it gives. A run is known to go to where the session was.\n"
 more State =
     codes "node N and link L show one line each, flow F all that there is of a flow: both of its ends, the links\n"
-    ++ codes "where its packets wait, and its events to come. N, L and F are numbers from 0: help numbers\n"
+    ++ codes "where its packets wait, and its events to come. N, L and F are names or numbers: help numbers\n"
 more Break =
-    codes "node N       the event happens at node N (N, L and F are numbers from 0: help numbers)\n"
+    codes "node N       the event happens at node N (N, L and F are names or numbers: help numbers)\n"
     ++ codes "flow F       the event is of flow F; a free is of none\n"
     ++ codes "kind K       start, rto, delack, free, data or ack: help kinds\n"
     ++ codes "drop         a packet is dropped\n"
@@ -50,8 +51,9 @@ more Delete = codes "I is its number, as breaks lists it.\n"
 more Clear = codes ""
 more Lines = codes "K is 1000 at most. What stands in a line: help trace\n"
 more Why =
-    codes "F is a number, not a name: the first flow line of the text is flow 0, the next one flow 1.\n"
+    codes "F is the name of a flow, or its number: the first flow line of the text is flow 0, the next one flow 1.\n"
     ++ codes "It tells how the flow stands, where its packets are, and when its alarms are due.\n"
+more Names = codes "A name can stand wherever a number of a node, a link or a flow can: help numbers. An image has none.\n"
 more Help = codes "NAME can be cut short, as a command can. In the shell, tcpsim explain B3 tells more of refused B3.\n"
 more Quit = codes "The end of input (Ctrl-D) does so too.\n"
 
@@ -70,17 +72,18 @@ example Delete = codes "delete 1\n"
 example Clear = codes "clear\n"
 example Lines = codes "lines 20\n"
 example Why = codes "why 0\n"
+example Names = codes "names\n"
 example Help = codes "help until\n"
 example Quit = codes "quit\n"
 
 abbrev pub all_names : List CommandName
-all_names = Step ∷ Back ∷ Run ∷ Reverse ∷ Until ∷ Goto ∷ Where ∷ State ∷ Break ∷ Breaks ∷ Delete ∷ Clear ∷ Lines ∷ Why ∷ Help ∷ Quit ∷ []
+all_names = Step ∷ Back ∷ Run ∷ Reverse ∷ Until ∷ Goto ∷ Where ∷ State ∷ Break ∷ Breaks ∷ Delete ∷ Clear ∷ Lines ∷ Why ∷ Names ∷ Help ∷ Quit ∷ []
 
 -- one line a command, one on numbers, and one on the empty line
 abbrev pub help_text : List ℕ
 help_text =
     flat_map usage all_names
-    ++ (codes "(nodes N, links L and flows F are numbers from 0, in the order of the text: help numbers)\n"
+    ++ (codes "(nodes N, links L and flows F go by their names, or by numbers from 0: help numbers)\n"
     ++ codes "(an empty line does the last move again)\n")
 
 abbrev pub help_on_command : CommandName → List ℕ
@@ -90,11 +93,11 @@ help_on_command name = usage name ++ (more name ++ example name)
 abbrev pub help_on : Topic → List ℕ
 help_on (Command name) = help_on_command name
 help_on Numbers =
-    codes "Nodes, links and flows go by numbers, not by the names of the text: each sort is counted from 0, in the\n"
-    ++ codes "order of its lines there. So the first flow line is flow 0, the second one flow 1. Lines of the trace and\n"
-    ++ codes "answers have the same numbers. In the shell, tcpsim dis FILE names all by them: n0, l0, f0.\n"
-    ++ codes "Bytes of a flow are counted from 0 too, breakpoints from 1.\n"
-    ++ codes "why 0\n"
+    codes "A node, a link or a flow goes by its name in the text, or by its number. Each sort is counted from 0, in the\n"
+    ++ codes "order of its lines there. So the first flow line is flow 0, the second one flow 1. An image has no names.\n"
+    ++ codes "Lines of the trace and answers have the numbers, and names lists both. In the shell, tcpsim dis FILE names\n"
+    ++ codes "all by their numbers: n0, l0, f0. Bytes of a flow are counted from 0 too, breakpoints from 1.\n"
+    ++ codes "names\n"
 help_on Trace =
     codes "A line of the trace: n time node source number KIND AFTER ACTS\n"
     ++ codes "n            which event it is, counted from 1\n"

@@ -1,5 +1,7 @@
 pub mod Input
 pub mod Grammar
+pub mod Namings
+pub mod NamesReported
 pub mod Conditions
 pub mod Answers
 pub mod Sessions

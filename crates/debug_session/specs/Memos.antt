@@ -2,7 +2,7 @@
 use Rattle.std.specs.Prelude.{max, false, ◌||◌, is_none, None}
 use Rattle.table_run.specs.State.{due}
 use Rattle.debug_session.specs.declared.command.Typed.{Typed}
-use Rattle.debug_session.specs.declared.command.Typed.TheVariants.{Plain, Reverse, Goto, Part, Why, Breaks, Delete, Lines, Where, Help, HelpOn}
+use Rattle.debug_session.specs.declared.command.Typed.TheVariants.{Plain, Reverse, Goto, Part, Why, Breaks, Delete, Lines, Where, Names, Help, HelpOn}
 use Rattle.debug_session.specs.declared.memo.Extent.{Extent}
 use Rattle.debug_session.specs.declared.memo.Memo.{Memo}
 use Rattle.debug_session.specs.Answers.{Standing}
@@ -30,5 +30,6 @@ knowing known Breaks = Breaks
 knowing known (Delete i) = Delete i
 knowing known (Lines count) = Lines count
 knowing known (Where before) = Where known
+knowing known Names = Names
 knowing known Help = Help
 knowing known (HelpOn topic) = HelpOn topic

@@ -2,7 +2,7 @@
 use Rattle.std.specs.Prelude.{ℕ, nat_eq, Bool, if◌then◌else◌, List, codes, Option, None, Some}
 use Rattle.std.specs.List.{starts_with}
 use Rattle.debug_session.specs.declared.name.CommandName.{CommandName}
-use Rattle.debug_session.specs.declared.name.CommandName.TheVariants.{Step, Back, Break, Breaks, Run, Reverse, Until, State, Lines, Delete, Clear, Help, Quit, Why, Goto, Where}
+use Rattle.debug_session.specs.declared.name.CommandName.TheVariants.{Step, Back, Break, Breaks, Run, Reverse, Until, State, Lines, Delete, Clear, Help, Quit, Why, Goto, Where, Names}
 
 -- a word is the beginning of a name, or all of it
 abbrev pub begins : List ℕ → List ℕ → Bool
@@ -27,4 +27,5 @@ name_of word =
     else (if begins word (codes "why") then Some Why
     else (if begins word (codes "goto") then Some Goto
     else (if begins word (codes "where") then Some Where
-    else None)))))))))))))))
+    else (if begins word (codes "names") then Some Names
+    else None))))))))))))))))

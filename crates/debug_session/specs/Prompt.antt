@@ -2,10 +2,10 @@
 use Rattle.std.specs.Prelude.{◌≡◌, ◌⊎◌, ℕ, nat_lt, nat_eq, Bool, true, false, not, MatchBool, if◌then◌else◌, List, [], ◌∷◌, ◌++◌, length, map, codes, Option, None, Some, Ok, Err}
 use Rattle.std.specs.List.{list_all, starts_with}
 use Rattle.table_run.specs.State.{State}
-use Rattle.debug_session.specs.declared.command.Limits.{Limits}
 use Rattle.debug_session.specs.declared.command.Typed.{Typed as TypedCommand}
 use Rattle.debug_session.specs.declared.dialogue.Dialogue.{Dialogue}
 use Rattle.debug_session.specs.declared.memo.Memo.{Memo}
+use Rattle.debug_session.specs.declared.naming.Naming.{Naming}
 use Rattle.debug_session.specs.declared.refusal.Refusal.TheVariants.{B2}
 use Rattle.debug_session.specs.Answers.{Standing, standing, refusal_line}
 use Rattle.debug_session.specs.Input.{words_in}
@@ -51,28 +51,28 @@ abbrev pub memo_after : TypedCommand → AtPrompt → Memo
 memo_after asked at = record { last = last_after asked at.memo.last; known = known_after at.memo.known at.standing }
 
 -- a command is done, or refused for want of memory or of workers; a move is the last one either way
-pub record ObeysAtPrompt (start : State) (asked : TypedCommand) (old new : AtPrompt) (out : List ℕ) : Type 0 where
-  pub obeyed : ObeysTyped start (knowing new.memo.known asked) old.standing new.standing out
+pub record ObeysAtPrompt (naming : Naming) (start : State) (asked : TypedCommand) (old new : AtPrompt) (out : List ℕ) : Type 0 where
+  pub obeyed : ObeysTyped naming start (knowing new.memo.known asked) old.standing new.standing out
   pub memo : new.memo ≡ memo_after asked old
 
 -- the last move is done again, where there was one
-abbrev pub MovesAgain : State → Option TypedCommand → AtPrompt → AtPrompt → List ℕ → Type 0
-MovesAgain start None old new out = Rests old new out []
-MovesAgain start (Some move) old new out = ObeysAtPrompt start move old new out
+abbrev pub MovesAgain : Naming → State → Option TypedCommand → AtPrompt → AtPrompt → List ℕ → Type 0
+MovesAgain naming start None old new out = Rests old new out []
+MovesAgain naming start (Some move) old new out = ObeysAtPrompt naming start move old new out
 
-abbrev pub FollowsTyped : State → Option TypedReading → AtPrompt → AtPrompt → List ℕ → Type 0
-FollowsTyped start None old new out = MovesAgain start old.memo.last old new out
-FollowsTyped start (Some (Err refusal)) old new out = Rests old new out (refusal_line refusal)
-FollowsTyped start (Some (Ok asked)) old new out = ObeysAtPrompt start asked old new out
+abbrev pub FollowsTyped : Naming → State → Option TypedReading → AtPrompt → AtPrompt → List ℕ → Type 0
+FollowsTyped naming start None old new out = MovesAgain naming start old.memo.last old new out
+FollowsTyped naming start (Some (Err refusal)) old new out = Rests old new out (refusal_line refusal)
+FollowsTyped naming start (Some (Ok asked)) old new out = ObeysAtPrompt naming start asked old new out
 
 -- what a line says that is typed is followed; a line of no words does the last move again
-abbrev pub AnswersTyped : Limits → State → List ℕ → AtPrompt → AtPrompt → List ℕ → Type 0
-AnswersTyped limits start line old new out = FollowsTyped start (typed_reading limits line) old new out
+abbrev pub AnswersTyped : Naming → State → List ℕ → AtPrompt → AtPrompt → List ℕ → Type 0
+AnswersTyped naming start line old new out = FollowsTyped naming start (typed_reading naming line) old new out
 
 -- how a line is answered: one that is too long has no command, `quit` is answered by nothing, and what any other line says is followed
-abbrev pub TypedAnswers : Limits → State → List ℕ → AtPrompt → AtPrompt → List ℕ → Type 0
-TypedAnswers limits start line old new said =
-    MatchBool (is_long line) (Rests old new said (refusal_line B2)) (MatchBool (is_quit line) (Rests old new said []) (AnswersTyped limits start line old new said))
+abbrev pub TypedAnswers : Naming → State → List ℕ → AtPrompt → AtPrompt → List ℕ → Type 0
+TypedAnswers naming start line old new said =
+    MatchBool (is_long line) (Rests old new said (refusal_line B2)) (MatchBool (is_quit line) (Rests old new said []) (AnswersTyped naming start line old new said))
 
 -- the answer is that the line is refused
 abbrev pub is_refusal : List ℕ → Bool
@@ -83,18 +83,18 @@ abbrev pub answer_out : List ℕ → List ℕ
 answer_out said = if is_refusal said then [] else said
 
 -- the lines are answered one after another, from where the session stands
-abbrev pub TypedRan : Limits → State → List (List ℕ) → AtPrompt → AtPrompt → List ℕ → Type 0
-TypedRan limits start [] old new out = Rests old new out []
-TypedRan limits start (line ∷ lines) old new out =
-    (between : AtPrompt) × (said rest : List ℕ) × TypedAnswers limits start line old between said × TypedRan limits start lines between new rest × (out ≡ answer_out said ++ rest)
+abbrev pub TypedRan : Naming → State → List (List ℕ) → AtPrompt → AtPrompt → List ℕ → Type 0
+TypedRan naming start [] old new out = Rests old new out []
+TypedRan naming start (line ∷ lines) old new out =
+    (between : AtPrompt) × (said rest : List ℕ) × TypedAnswers naming start line old between said × TypedRan naming start lines between new rest × (out ≡ answer_out said ++ rest)
 
 -- these lines give this output, wherever the session stands in the end
-abbrev pub TypedOutput : Limits → State → List (List ℕ) → AtPrompt → List ℕ → Type 0
-TypedOutput limits start lines old out = (new : AtPrompt) × TypedRan limits start lines old new out
+abbrev pub TypedOutput : Naming → State → List (List ℕ) → AtPrompt → List ℕ → Type 0
+TypedOutput naming start lines old out = (new : AtPrompt) × TypedRan naming start lines old new out
 
 -- a sink that held the first bytes holds the answers to the lines so far beside them now, and nothing else
-abbrev pub IsSoFar : Limits → State → AtPrompt → List (List ℕ) → Option (List ℕ) → Option (List ℕ) → Type 0
-IsSoFar limits start old lines first now = Takes (TypedOutput limits start lines old) first now
+abbrev pub IsSoFar : Naming → State → AtPrompt → List (List ℕ) → Option (List ℕ) → Option (List ℕ) → Type 0
+IsSoFar naming start old lines first now = Takes (TypedOutput naming start lines old) first now
 
 -- a line that was asked for, and what the sink held at that moment, where that is known
 pub record Ask : Type 0 where
@@ -105,9 +105,9 @@ abbrev pub lines_in : List Ask → List (List ℕ)
 lines_in asks = map (λ (ask : Ask). ask.line) asks
 
 -- whenever a line was asked for, the lines before it were answered: `done`, and those of the asks before it
-abbrev pub AreInTime : Limits → State → AtPrompt → Option (List ℕ) → List (List ℕ) → List Ask → Type 0
-AreInTime limits start old first done [] = Unit {0}
-AreInTime limits start old first done (ask ∷ asks) = IsSoFar limits start old done first ask.seen × AreInTime limits start old first (done ++ ask.line ∷ []) asks
+abbrev pub AreInTime : Naming → State → AtPrompt → Option (List ℕ) → List (List ℕ) → List Ask → Type 0
+AreInTime naming start old first done [] = Unit {0}
+AreInTime naming start old first done (ask ∷ asks) = IsSoFar naming start old done first ask.seen × AreInTime naming start old first (done ++ ask.line ∷ []) asks
 
 -- what is known of who types: the lines that were asked for, and those that are still to come
 pub record Typing : Type 0 where

@@ -7,9 +7,12 @@ use Rattle.debugger.specs.declared.breaks.Hit.{Hit}
 use Rattle.debugger.specs.declared.passed.LineOrder.TheVariants.{Rising, Falling}
 use Rattle.debugger.specs.declared.passed.Stretch.{Stretch}
 use Rattle.debugger.specs.Debugging.{Debugging}
+use Rattle.debug_session.specs.declared.command.Typed.{Typed}
+use Rattle.debug_session.specs.declared.naming.Naming.{Naming}
 use Rattle.debug_session.specs.declared.refusal.Refusal.TheVariants.{M}
 use Rattle.debug_session.specs.declared.report.Report.{Report}
 use Rattle.debug_session.specs.Answers.{Standing, standing, refusal_line}
+use Rattle.debug_session.specs.TypedAnswers.{ObeysTyped}
 use Rattle.debug_session.specs.TypedMoves.{where_line, onwards, TellsMatch, TellsPast}
 
 -- the state that the last move left is shown again
@@ -48,3 +51,7 @@ passed_count m low p = if nat_lt m p then p - m else m - low
 abbrev pub shown_stretch : ℕ → ℕ → ℕ → Stretch
 shown_stretch m low p =
     if nat_lt m p then record { from = p - min (p - m) 10; count = min (p - m) 10; order = Rising } else record { from = low; count = min (m - low) 10; order = Falling }
+
+-- a command is obeyed whatever the nodes, links and flows are called
+abbrev pub ObeysUnnamed : NetState → Typed → Standing → Standing → List ℕ → Type 0
+ObeysUnnamed start asked old new out = (naming : Naming) → ObeysTyped naming start asked old new out

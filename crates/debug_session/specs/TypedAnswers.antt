@@ -8,10 +8,12 @@ use Rattle.debugger.specs.Breaks.{IsTakenOut}
 use Rattle.debugger.specs.Moves.{StepGoesTo, RunGoesTo, ReverseGoesTo, UntilGoesTo}
 use Rattle.debug_session.specs.declared.command.Command.TheVariants.{Step, Back, Until, Run, State, SetBreak, Clear}
 use Rattle.debug_session.specs.declared.command.Typed.{Typed}
-use Rattle.debug_session.specs.declared.command.Typed.TheVariants.{Plain, Reverse, Goto, Part, Why, Breaks, Delete, Lines, Where, Help, HelpOn}
+use Rattle.debug_session.specs.declared.command.Typed.TheVariants.{Plain, Reverse, Goto, Part, Why, Breaks, Delete, Lines, Where, Names, Help, HelpOn}
+use Rattle.debug_session.specs.declared.naming.Naming.{Naming}
 use Rattle.debug_session.specs.declared.refusal.Refusal.TheVariants.{B4, B5, M}
 use Rattle.debug_session.specs.Answers.{Standing, Stays, Does, CanBeRefused, refusal_line}
 use Rattle.debug_session.specs.Help.{help_text, help_on}
+use Rattle.debug_session.specs.NamesReported.{names_text}
 use Rattle.debug_session.specs.Numbered.{IsNumber, HasNumber, set_line, deleted_line, listing}
 use Rattle.debug_session.specs.TypedMoves.{MovesPast, Moves, back_to_break, until_report, last_lines, where_text}
 
@@ -41,25 +43,26 @@ pub record TakesAway (i : ℕ) (old new : Standing) (out : List ℕ) : Type 0 wh
 abbrev pub Deletes : ℕ → Standing → Standing → List ℕ → Type 0
 Deletes i old new out = TakesAway i old new out ⊎ (¬ HasNumber old.breaks i × Stays old new out (refusal_line B5))
 
--- a command is done: moves go where they go in a session whose lines are all there, `goto` where `step` goes from the beginning, and `state` and `clear` are answered as there
-abbrev pub DoesTyped : NetState → Typed → Standing → Standing → List ℕ → Type 0
-DoesTyped start (Plain (Step count)) old new out = Moves start (StepGoesTo start old.shown.position count) old new out
-DoesTyped start (Plain (Back count)) old new out = Moves start (λ p. p ≡ old.shown.position - count) old new out
-DoesTyped start (Plain (Until time)) old new out = MovesPast start (until_report time old.shown.position) (UntilGoesTo start time old.shown.position) old new out
-DoesTyped start (Plain Run) old new out = Moves start (RunGoesTo start old.breaks old.shown.position) old new out
-DoesTyped start (Plain State) old new out = Does start State old new out
-DoesTyped start (Plain (SetBreak b)) old new out = SetsNumbered b old new out
-DoesTyped start (Plain Clear) old new out = Does start Clear old new out
-DoesTyped start Reverse old new out = MovesPast start back_to_break (ReverseGoesTo start old.breaks old.shown.position) old new out
-DoesTyped start (Goto target) old new out = Moves start (StepGoesTo start 0 target) old new out
-DoesTyped start (Part part) old new out = Stays old new out (part_bytes part old.shown)
-DoesTyped start (Why flow) old new out = Stays old new out (waits_bytes flow old.shown.state)
-DoesTyped start Breaks old new out = Stays old new out (listing old.breaks)
-DoesTyped start (Delete i) old new out = Deletes i old new out
-DoesTyped start (Lines count) old new out = Stays old new out (last_lines start old.shown.position count)
-DoesTyped start (Where known) old new out = Stays old new out (where_text start old.shown known)
-DoesTyped start Help old new out = Stays old new out help_text
-DoesTyped start (HelpOn topic) old new out = Stays old new out (help_on topic)
+-- a command is done, where the nodes, links and flows are called so: moves go where they go in a session whose lines are all there, `goto` where `step` goes from the beginning, and `state` and `clear` are answered as there
+abbrev pub DoesTyped : Naming → NetState → Typed → Standing → Standing → List ℕ → Type 0
+DoesTyped naming start (Plain (Step count)) old new out = Moves start (StepGoesTo start old.shown.position count) old new out
+DoesTyped naming start (Plain (Back count)) old new out = Moves start (λ p. p ≡ old.shown.position - count) old new out
+DoesTyped naming start (Plain (Until time)) old new out = MovesPast start (until_report time old.shown.position) (UntilGoesTo start time old.shown.position) old new out
+DoesTyped naming start (Plain Run) old new out = Moves start (RunGoesTo start old.breaks old.shown.position) old new out
+DoesTyped naming start (Plain State) old new out = Does start State old new out
+DoesTyped naming start (Plain (SetBreak b)) old new out = SetsNumbered b old new out
+DoesTyped naming start (Plain Clear) old new out = Does start Clear old new out
+DoesTyped naming start Reverse old new out = MovesPast start back_to_break (ReverseGoesTo start old.breaks old.shown.position) old new out
+DoesTyped naming start (Goto target) old new out = Moves start (StepGoesTo start 0 target) old new out
+DoesTyped naming start (Part part) old new out = Stays old new out (part_bytes part old.shown)
+DoesTyped naming start (Why flow) old new out = Stays old new out (waits_bytes flow old.shown.state)
+DoesTyped naming start Breaks old new out = Stays old new out (listing old.breaks)
+DoesTyped naming start (Delete i) old new out = Deletes i old new out
+DoesTyped naming start (Lines count) old new out = Stays old new out (last_lines start old.shown.position count)
+DoesTyped naming start (Where known) old new out = Stays old new out (where_text start old.shown known)
+DoesTyped naming start Names old new out = Stays old new out (names_text naming)
+DoesTyped naming start Help old new out = Stays old new out help_text
+DoesTyped naming start (HelpOn topic) old new out = Stays old new out (help_on topic)
 
 -- the command can be refused for want of memory or of workers, or as too many events were run
 abbrev pub TypedCanBeRefused : Typed → Standing → Type 0
@@ -72,12 +75,13 @@ TypedCanBeRefused (Delete i) old = ⊥
 TypedCanBeRefused Breaks old = 0 < length old.breaks
 TypedCanBeRefused (Lines count) old = Unit {0}
 TypedCanBeRefused (Where known) old = Unit {0}
+TypedCanBeRefused Names old = Unit {0}
 TypedCanBeRefused Help old = Unit {0}
 TypedCanBeRefused (HelpOn topic) old = Unit {0}
 
 -- a command is done, or refused for want of memory or of workers
-abbrev pub ObeysTyped : NetState → Typed → Standing → Standing → List ℕ → Type 0
-ObeysTyped start asked old new out = DoesTyped start asked old new out ⊎ (TypedCanBeRefused asked old × Stays old new out (refusal_line M))
+abbrev pub ObeysTyped : Naming → NetState → Typed → Standing → Standing → List ℕ → Type 0
+ObeysTyped naming start asked old new out = DoesTyped naming start asked old new out ⊎ (TypedCanBeRefused asked old × Stays old new out (refusal_line M))
 
 -- the last move, once a command was read
 abbrev pub last_after : Typed → Option Typed → Option Typed
@@ -96,5 +100,6 @@ last_after Breaks last = last
 last_after (Delete i) last = last
 last_after (Lines count) last = last
 last_after (Where known) last = last
+last_after Names last = last
 last_after Help last = last
 last_after (HelpOn name) last = last

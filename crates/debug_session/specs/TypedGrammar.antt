@@ -5,11 +5,12 @@ use Rattle.scenario_asm.specs.Numbers.{is_numeral}
 use Rattle.trace_text.specs.declared.dump.DumpPart.{DumpPart}
 use Rattle.trace_text.specs.declared.dump.DumpPart.TheVariants as part
 use Rattle.debug_session.specs.declared.command.Command.TheVariants.{Step, Back, Until, Run, State, Clear}
-use Rattle.debug_session.specs.declared.command.Limits.{Limits}
 use Rattle.debug_session.specs.declared.command.Typed.{Typed}
-use Rattle.debug_session.specs.declared.command.Typed.TheVariants.{Plain, Reverse, Goto, Part, Why, Breaks, Delete, Lines, Where, Help, HelpOn}
+use Rattle.debug_session.specs.declared.command.Typed.TheVariants.{Plain, Reverse, Goto, Part, Why, Breaks, Delete, Lines, Where, Names, Help, HelpOn}
 use Rattle.debug_session.specs.declared.name.CommandName.{CommandName}
 use Rattle.debug_session.specs.declared.name.CommandName.TheVariants as name
+use Rattle.debug_session.specs.declared.naming.Naming.{Naming}
+use Rattle.debug_session.specs.declared.naming.PartSort.TheVariants.{Node, Link, Flow}
 use Rattle.debug_session.specs.declared.refusal.Refusal.{Refusal}
 use Rattle.debug_session.specs.declared.refusal.Refusal.TheVariants.{B1, B2, B3, B5}
 use Rattle.debug_session.specs.declared.topic.Topic.{Topic}
@@ -18,6 +19,7 @@ use Rattle.debug_session.specs.Grammar.{Word, Reading, number_below, one_number,
 use Rattle.debug_session.specs.Input.{words_in}
 use Rattle.debug_session.specs.Memos.{nothing_known}
 use Rattle.debug_session.specs.Names.{name_of}
+use Rattle.debug_session.specs.Namings.{one_part}
 use Rattle.debug_session.specs.Times.{moment_in}
 use Rattle.debug_session.specs.Topics.{topic_of}
 
@@ -58,27 +60,27 @@ abbrev pub tells_part : (ℕ → DumpPart) → Result ℕ Refusal → TypedReadi
 tells_part make (Ok n) = Ok (Part (make n))
 tells_part make (Err refusal) = Err refusal
 
--- a sort of part, and the number that is the only word behind it
-abbrev pub part_asked : Limits → Word → List Word → TypedReading
-part_asked limits sort words =
-    if bytes_eq sort (codes "node") then tells_part part.Node (one_number limits.nodes words)
-    else (if bytes_eq sort (codes "link") then tells_part part.Link (one_number limits.links words)
-    else (if bytes_eq sort (codes "flow") then tells_part part.Flow (one_number limits.flows words)
+-- a sort of part, and the one that the only word behind it means
+abbrev pub part_asked : Naming → Word → List Word → TypedReading
+part_asked naming sort words =
+    if bytes_eq sort (codes "node") then tells_part part.Node (one_part naming Node words)
+    else (if bytes_eq sort (codes "link") then tells_part part.Link (one_part naming Link words)
+    else (if bytes_eq sort (codes "flow") then tells_part part.Flow (one_part naming Flow words)
     else Err B1))
 
 -- the words behind `state`: none, or a part of it
-abbrev pub state_asked : Limits → List Word → TypedReading
-state_asked limits [] = Ok (Plain State)
-state_asked limits (sort ∷ words) = part_asked limits sort words
+abbrev pub state_asked : Naming → List Word → TypedReading
+state_asked naming [] = Ok (Plain State)
+state_asked naming (sort ∷ words) = part_asked naming sort words
 
 -- of `why`: the flow
 abbrev pub asks_why : Result ℕ Refusal → TypedReading
 asks_why (Ok flow) = Ok (Why flow)
 asks_why (Err refusal) = Err refusal
 
--- the number of a flow, which is the only word behind `why`
-abbrev pub why_asked : Limits → List Word → TypedReading
-why_asked limits words = asks_why (one_number limits.flows words)
+-- the flow that the only word behind `why` means
+abbrev pub why_asked : Naming → List Word → TypedReading
+why_asked naming words = asks_why (one_part naming Flow words)
 
 -- of `lines`: how many
 abbrev pub lists : Result ℕ Refusal → TypedReading
@@ -109,30 +111,31 @@ help_asked [] = Ok Help
 help_asked (word ∷ words) = help_named (topic_of word) words
 
 -- a command by its name and the words behind it: `quit` has none where it ends the session
-abbrev pub command_typed : Limits → Option CommandName → List Word → TypedReading
-command_typed limits None words = Err B1
-command_typed limits (Some name.Step) words = plain (with_number Step (number_or 1 1000000000000001 words))
-command_typed limits (Some name.Back) words = plain (with_number Back (number_or 1 1000000000000001 words))
-command_typed limits (Some name.Break) words = plain (break_asked limits words)
-command_typed limits (Some name.Breaks) words = typed_alone Breaks words
-command_typed limits (Some name.Run) words = plain (no_word_left Run words)
-command_typed limits (Some name.Reverse) words = typed_alone Reverse words
-command_typed limits (Some name.Until) words = plain (with_number Until (one_moment words))
-command_typed limits (Some name.State) words = state_asked limits words
-command_typed limits (Some name.Lines) words = lists (number_or 10 1001 words)
-command_typed limits (Some name.Delete) words = deletes (one_break_number words)
-command_typed limits (Some name.Clear) words = plain (no_word_left Clear words)
-command_typed limits (Some name.Help) words = help_asked words
-command_typed limits (Some name.Quit) words = Err B2
-command_typed limits (Some name.Why) words = why_asked limits words
-command_typed limits (Some name.Goto) words = goto_asked words
-command_typed limits (Some name.Where) words = typed_alone (Where nothing_known) words
+abbrev pub command_typed : Naming → Option CommandName → List Word → TypedReading
+command_typed naming None words = Err B1
+command_typed naming (Some name.Step) words = plain (with_number Step (number_or 1 1000000000000001 words))
+command_typed naming (Some name.Back) words = plain (with_number Back (number_or 1 1000000000000001 words))
+command_typed naming (Some name.Break) words = plain (break_asked naming words)
+command_typed naming (Some name.Breaks) words = typed_alone Breaks words
+command_typed naming (Some name.Run) words = plain (no_word_left Run words)
+command_typed naming (Some name.Reverse) words = typed_alone Reverse words
+command_typed naming (Some name.Until) words = plain (with_number Until (one_moment words))
+command_typed naming (Some name.State) words = state_asked naming words
+command_typed naming (Some name.Lines) words = lists (number_or 10 1001 words)
+command_typed naming (Some name.Delete) words = deletes (one_break_number words)
+command_typed naming (Some name.Clear) words = plain (no_word_left Clear words)
+command_typed naming (Some name.Help) words = help_asked words
+command_typed naming (Some name.Quit) words = Err B2
+command_typed naming (Some name.Why) words = why_asked naming words
+command_typed naming (Some name.Goto) words = goto_asked words
+command_typed naming (Some name.Where) words = typed_alone (Where nothing_known) words
+command_typed naming (Some name.Names) words = typed_alone Names words
 
 -- nothing where there are no words
-abbrev pub typed_of : Limits → List Word → Option TypedReading
-typed_of limits [] = None
-typed_of limits (word ∷ words) = Some (command_typed limits (name_of word) words)
+abbrev pub typed_of : Naming → List Word → Option TypedReading
+typed_of naming [] = None
+typed_of naming (word ∷ words) = Some (command_typed naming (name_of word) words)
 
 -- what a line says that is typed and doesn't end the session
-abbrev pub typed_reading : Limits → List ℕ → Option TypedReading
-typed_reading limits line = typed_of limits (words_in line)
+abbrev pub typed_reading : Naming → List ℕ → Option TypedReading
+typed_reading naming line = typed_of naming (words_in line)

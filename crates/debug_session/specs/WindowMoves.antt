@@ -7,6 +7,7 @@ use Rattle.debug_session.specs.declared.command.Command.TheVariants as commands
 use Rattle.debug_session.specs.declared.command.Typed.{Typed}
 use Rattle.debug_session.specs.declared.command.Typed.TheVariants.{Plain}
 use Rattle.debug_session.specs.declared.dialogue.Dialogue.{Dialogue}
+use Rattle.debug_session.specs.declared.naming.Naming.{Naming}
 use Rattle.debug_session.specs.declared.window_move.WindowMove.{WindowMove}
 use Rattle.debug_session.specs.declared.window_move.WindowMove.TheVariants.{Run, Until}
 use Rattle.debug_session.specs.declared.report.Report.{Report}
@@ -44,6 +45,6 @@ pub record IsLeft (old new : Debugging) (IsAnswer : Standing → List ℕ → Ty
   pub answers : (at : Standing) (out : List ℕ) → Obeys old.start (command_of left) (standing old) at out → IsAnswer at out
 
 -- so at a prompt, where it may be the last move now
-pub record IsTypedLeft (old new : Dialogue) (IsAnswer : AtPrompt → List ℕ → Type 0) (left : WindowMove) : Type 0 where
+pub record IsTypedLeft (naming : Naming) (old new : Dialogue) (IsAnswer : AtPrompt → List ℕ → Type 0) (left : WindowMove) : Type 0 where
   pub same : new.debugger ≡ old.debugger
-  pub answers : (at : Standing) (out : List ℕ) → ObeysTyped old.debugger.start (Plain (command_of left)) (standing old.debugger) at out → IsAnswer (record { standing = at; memo = new.memo }) out
+  pub answers : (at : Standing) (out : List ℕ) → ObeysTyped naming old.debugger.start (Plain (command_of left)) (standing old.debugger) at out → IsAnswer (record { standing = at; memo = new.memo }) out

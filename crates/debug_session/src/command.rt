@@ -49,6 +49,8 @@ pub enum Typed {
     Lines(u64),
     /// Nothing but to see where the session stands, and how far the run is known to go.
     Where(Extent),
+    /// Nothing but to see the names of nodes, links and flows.
+    Names,
     /// Nothing but to see what can be typed.
     Help,
     /// Nothing but to be told of a topic.

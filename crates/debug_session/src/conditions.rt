@@ -3,11 +3,12 @@ ghost use Rattle.std.specs.Prelude.{◌≡◌, ◌<◌, ◌≤◌, ◌^◌, ◌-
 ghost use Rattle.debug_session.specs.Input.{words_in};
 ghost use Rattle.debug_session.specs.Conditions.{sort_named, has_sort, condition_of, stand_in, none_gathered, gather, awaiting, begin, with_sort, with_word, gathering, ended, conditions, stall_asked, break_asked};
 
-use crate::command::{Command, Limits};
+use crate::command::Command;
 use crate::cut::next_word;
-use crate::grammar::{is, kind_named, number_below, one_number, sets};
+use crate::grammar::{is, kind_named, number_below, sets};
+use crate::naming::{Naming, PartSort};
 use crate::refusal::Refusal;
-use debugger::{Break, Condition, EventKind, StallOf};
+use debugger::{Break, Condition, EventKind, StallOf, Values};
 
 /// One more than the greatest byte that can be asked for: a flow has at most so many.
 const BYTES: u64 = 9_000_000_000_001;
@@ -76,23 +77,23 @@ fn has_sort(b: Break, sort: Sort) -> bool
 }
 
 /// The condition of a sort that a word is the value of.
-fn condition_of(limits: Limits, sort: Sort, word: &[u8]) -> Option<Condition>
-    ensures { result ≡ condition_of limits sort word.now }
+fn condition_of(naming: &Naming, sort: Sort, word: &[u8]) -> Option<Condition>
+    ensures { result ≡ condition_of naming.now sort word.now }
 {
     match sort {
         Sort::Node => {
-            let node = number_below(word, u64::from(limits.nodes))?;
-            Some(Condition::Node(node as u16))
+            let node = naming.part(PartSort::Node, word)?;
+            Some(Condition::Node(node))
         }
         Sort::Flow => {
-            let flow = number_below(word, u64::from(limits.flows))?;
-            Some(Condition::Flow(flow as u16))
+            let flow = naming.part(PartSort::Flow, word)?;
+            Some(Condition::Flow(flow))
         }
         Sort::Kind => Some(Condition::Kind(kind_named(word)?)),
         Sort::Drop => None,
         Sort::Link => {
-            let link = number_below(word, u64::from(limits.links))?;
-            Some(Condition::Link(link as u16))
+            let link = naming.part(PartSort::Link, word)?;
+            Some(Condition::Link(link))
         }
         Sort::Byte => Some(Condition::Byte(number_below(word, BYTES)?)),
     }
@@ -125,6 +126,7 @@ fn none_gathered() -> Gathered
             link: None,
             byte: None,
             stall: None,
+            values: Values::none(),
         },
         awaits: None,
         is_wrong: false,
@@ -191,23 +193,23 @@ fn with_sort(gathered: Gathered, sort: Option<Sort>) -> Result<Gathered, Refusal
 }
 
 /// What is read once one word more was.
-fn with_word(limits: Limits, gathered: Gathered, word: &[u8]) -> Result<Gathered, Refusal>
-    ensures { result ≡ with_word limits gathered gathered.awaits word.now }
+fn with_word(naming: &Naming, gathered: Gathered, word: &[u8]) -> Result<Gathered, Refusal>
+    ensures { result ≡ with_word naming.now gathered gathered.awaits word.now }
 {
     match gathered.awaits {
         None => with_sort(gathered, sort_named(word)),
-        Some(sort) => Ok(gather(gathered, sort, condition_of(limits, sort, word))),
+        Some(sort) => Ok(gather(gathered, sort, condition_of(naming, sort, word))),
     }
 }
 
 /// What is read of the words of a line.
-fn gathering(limits: Limits, line: &[u8]) -> Result<Gathered, Refusal>
-    ensures { result ≡ gathering limits (Ok none_gathered) (words_in line.now) }
+fn gathering(naming: &Naming, line: &[u8]) -> Result<Gathered, Refusal>
+    ensures { result ≡ gathering naming.now (Ok none_gathered) (words_in line.now) }
 {
     let mut gathered = none_gathered();
     let mut rest = line;
     while let Some((word, after)) = next_word(rest) {
-        gathered = with_word(limits, gathered, word)?;
+        gathered = with_word(naming, gathered, word)?;
         rest = after;
     }
     Ok(gathered)
@@ -227,38 +229,38 @@ fn ended(gathered: Gathered) -> Result<Command, Refusal>
 }
 
 /// The breakpoint of the conditions that a line names: one at least, each of another sort.
-fn conditions(limits: Limits, line: &[u8]) -> Result<Command, Refusal>
-    ensures { result ≡ conditions limits (words_in line.now) }
+fn conditions(naming: &Naming, line: &[u8]) -> Result<Command, Refusal>
+    ensures { result ≡ conditions naming.now (words_in line.now) }
 {
     match next_word(line) {
         None => Err(Refusal::B2),
-        Some(_) => ended(gathering(limits, line)?),
+        Some(_) => ended(gathering(naming, line)?),
     }
 }
 
 /// The breakpoint on a stall: of any flow, or of that which the words behind `stall` name.
-fn stall_asked(limits: Limits, line: &[u8]) -> Result<Command, Refusal>
-    ensures { result ≡ stall_asked limits (words_in line.now) }
+fn stall_asked(naming: &Naming, line: &[u8]) -> Result<Command, Refusal>
+    ensures { result ≡ stall_asked naming.now (words_in line.now) }
 {
     match next_word(line) {
         None => Ok(sets(Condition::Stall(StallOf::Any))),
         Some(_) => {
-            let flow = one_number(line, u64::from(limits.flows))?;
-            Ok(sets(Condition::Stall(StallOf::Flow(flow as u16))))
+            let flow = naming.one_part(PartSort::Flow, line)?;
+            Ok(sets(Condition::Stall(StallOf::Flow(flow))))
         }
     }
 }
 
 /// The breakpoint that the words behind `break` name: a stall, which stands alone, or conditions.
-pub(crate) fn break_asked(limits: Limits, line: &[u8]) -> Result<Command, Refusal>
-    ensures { result ≡ break_asked limits (words_in line.now) }
+pub(crate) fn break_asked(naming: &Naming, line: &[u8]) -> Result<Command, Refusal>
+    ensures { result ≡ break_asked naming.now (words_in line.now) }
 {
     let Some((word, rest)) = next_word(line) else {
         return Err(Refusal::B2);
     };
     if is(word, b"stall") {
-        stall_asked(limits, rest)
+        stall_asked(naming, rest)
     } else {
-        conditions(limits, line)
+        conditions(naming, line)
     }
 }

@@ -7,7 +7,7 @@ use crate::name::CommandName;
 use std::alloc::AllocError;
 
 /// The commands, in the order in which they are told of.
-const ALL_NAMES: [CommandName; 16] = [
+const ALL_NAMES: [CommandName; 17] = [
     CommandName::Step,
     CommandName::Back,
     CommandName::Run,
@@ -22,6 +22,7 @@ const ALL_NAMES: [CommandName; 16] = [
     CommandName::Clear,
     CommandName::Lines,
     CommandName::Why,
+    CommandName::Names,
     CommandName::Help,
     CommandName::Quit,
 ];
@@ -50,6 +51,8 @@ fn usage(name: CommandName) -> &'static [u8]
         CommandName::Clear => b"clear        take all breakpoints away\n",
         CommandName::Lines => b"lines [K]    show the last K lines of the trace (10)\n",
         CommandName::Why => b"why F        tell what flow F waits for\n",
+        CommandName::Names =>
+            b"names        list the names of nodes, links and flows with their numbers\n",
         CommandName::Help =>
             b"help [NAME]  show this, or more of NAME: a command, numbers, trace, kinds or stall\n",
         CommandName::Quit => b"quit         end the session\n",
@@ -77,10 +80,10 @@ fn more(name: CommandName) -> &'static [u8]
             b"The next event is shown by the line that it gives. A run is known to go to where the session was.\n",
         CommandName::State =>
             b"node N and link L show one line each, flow F all that there is of a flow: both of its ends, the links
-where its packets wait, and its events to come. N, L and F are numbers from 0: help numbers
+where its packets wait, and its events to come. N, L and F are names or numbers: help numbers
 ",
         CommandName::Break =>
-            b"node N       the event happens at node N (N, L and F are numbers from 0: help numbers)
+            b"node N       the event happens at node N (N, L and F are names or numbers: help numbers)
 flow F       the event is of flow F; a free is of none
 kind K       start, rto, delack, free, data or ack: help kinds
 drop         a packet is dropped
@@ -94,9 +97,11 @@ stall [F]    a flow, or flow F, is stalled from there on: help stall; it stands 
         CommandName::Clear => b"",
         CommandName::Lines => b"K is 1000 at most. What stands in a line: help trace\n",
         CommandName::Why =>
-            b"F is a number, not a name: the first flow line of the text is flow 0, the next one flow 1.
+            b"F is the name of a flow, or its number: the first flow line of the text is flow 0, the next one flow 1.
 It tells how the flow stands, where its packets are, and when its alarms are due.
 ",
+        CommandName::Names =>
+            b"A name can stand wherever a number of a node, a link or a flow can: help numbers. An image has none.\n",
         CommandName::Help =>
             b"NAME can be cut short, as a command can. In the shell, tcpsim explain B3 tells more of refused B3.\n",
         CommandName::Quit => b"The end of input (Ctrl-D) does so too.\n",
@@ -122,6 +127,7 @@ fn example(name: CommandName) -> &'static [u8]
         CommandName::Clear => b"clear\n",
         CommandName::Lines => b"lines 20\n",
         CommandName::Why => b"why 0\n",
+        CommandName::Names => b"names\n",
         CommandName::Help => b"help until\n",
         CommandName::Quit => b"quit\n",
     }
@@ -143,7 +149,7 @@ pub(crate) fn append_help(out: &mut Vec<u8>) -> Result<(), AllocError>
 {
     append_usages(out, &ALL_NAMES)?;
     out.extend_from_slice(
-        b"(nodes N, links L and flows F are numbers from 0, in the order of the text: help numbers)
+        b"(nodes N, links L and flows F go by their names, or by numbers from 0: help numbers)
 (an empty line does the last move again)
 ",
     )

@@ -72,6 +72,7 @@ pub(crate) fn knowing(known: Extent, asked: Typed) -> Typed
         | Typed::Breaks
         | Typed::Delete(_)
         | Typed::Lines(_)
+        | Typed::Names
         | Typed::Help
         | Typed::HelpOn(_) => asked,
     }

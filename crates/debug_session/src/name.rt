@@ -38,6 +38,8 @@ pub enum CommandName {
     Goto,
     /// Where the session stands is shown.
     Where,
+    /// The names of nodes, links and flows are shown.
+    Names,
 }
 
 /// Whether a word is the beginning of a name, or all of it.
@@ -83,6 +85,8 @@ pub(crate) fn name_of(word: &[u8]) -> Option<CommandName>
         Some(CommandName::Goto)
     } else if begins(word, b"where") {
         Some(CommandName::Where)
+    } else if begins(word, b"names") {
+        Some(CommandName::Names)
     } else {
         None
     }

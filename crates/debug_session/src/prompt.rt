@@ -5,11 +5,12 @@ ghost use Rattle.debug_session.specs.Prompt as prompt;
 ghost use Rattle.debug_session.specs.TypedAnswers as answers;
 ghost use Rattle.debug_session.specs.WindowMoves.{IsTypedLeft, report_of};
 
-use crate::command::{Command, Limits, Typed};
+use crate::command::{Command, Typed};
 use crate::dialogue::Dialogue;
 use crate::grammar::one_word;
 use crate::memo::{Memo, knowing};
 use crate::name::begins;
+use crate::naming::Naming;
 use crate::reading::read_typed;
 use crate::refusal::Refusal;
 use crate::report::Report;
@@ -72,6 +73,7 @@ fn last_after(asked: Typed, last: Option<Typed>) -> Option<Typed>
         Typed::Delete(_) => last,
         Typed::Lines(_) => last,
         Typed::Where(_) => last,
+        Typed::Names => last,
         Typed::Help => last,
         Typed::HelpOn(_) => last,
     }
@@ -90,19 +92,24 @@ fn memo_after(asked: Typed, dialogue: &Dialogue) -> Memo
 /// Does what is asked for, but for a move by windows, which is left. A move is the last one from
 /// then on.
 #[tactic(none)]
-fn obey_at_prompt(dialogue: &mut Dialogue, asked: Typed, said: &mut Said) -> Option<WindowMove>
-    ensures obeys { MatchOption result (prompt.ObeysAtPrompt dialogue.old.debugger.start asked (prompt.at_prompt dialogue.old) (prompt.at_prompt dialogue.new) said.new) (IsTypedLeft dialogue.old dialogue.new (prompt.ObeysAtPrompt dialogue.old.debugger.start asked (prompt.at_prompt dialogue.old))) }
+fn obey_at_prompt(
+    dialogue: &mut Dialogue,
+    naming: &Naming,
+    asked: Typed,
+    said: &mut Said,
+) -> Option<WindowMove>
+    ensures obeys { MatchOption result (prompt.ObeysAtPrompt naming.now dialogue.old.debugger.start asked (prompt.at_prompt dialogue.old) (prompt.at_prompt dialogue.new) said.new) (IsTypedLeft naming.now dialogue.old dialogue.new (prompt.ObeysAtPrompt naming.now dialogue.old.debugger.start asked (prompt.at_prompt dialogue.old))) }
     ensures start { dialogue.new.debugger.start ≡ dialogue.old.debugger.start }
 {
     dialogue.memo = memo_after(asked, dialogue);
     let known = dialogue.memo.known;
-    obey_typed(&mut dialogue.debugger, knowing(known, asked), said)
+    obey_typed(&mut dialogue.debugger, naming, knowing(known, asked), said)
 }
 
 /// Does the last move again, where there was one; a move by windows is left.
 #[tactic(none)]
-fn move_again(dialogue: &mut Dialogue, said: &mut Said) -> Option<WindowMove>
-    ensures moves { MatchOption result (prompt.MovesAgain dialogue.old.debugger.start dialogue.old.memo.last (prompt.at_prompt dialogue.old) (prompt.at_prompt dialogue.new) said.new) (IsTypedLeft dialogue.old dialogue.new (prompt.MovesAgain dialogue.old.debugger.start dialogue.old.memo.last (prompt.at_prompt dialogue.old))) }
+fn move_again(dialogue: &mut Dialogue, naming: &Naming, said: &mut Said) -> Option<WindowMove>
+    ensures moves { MatchOption result (prompt.MovesAgain naming.now dialogue.old.debugger.start dialogue.old.memo.last (prompt.at_prompt dialogue.old) (prompt.at_prompt dialogue.new) said.new) (IsTypedLeft naming.now dialogue.old dialogue.new (prompt.MovesAgain naming.now dialogue.old.debugger.start dialogue.old.memo.last (prompt.at_prompt dialogue.old))) }
     ensures start { dialogue.new.debugger.start ≡ dialogue.old.debugger.start }
 {
     match dialogue.memo.last {
@@ -110,7 +117,7 @@ fn move_again(dialogue: &mut Dialogue, said: &mut Said) -> Option<WindowMove>
             said.clear();
             None
         }
-        Some(asked) => obey_at_prompt(dialogue, asked, said),
+        Some(asked) => obey_at_prompt(dialogue, naming, asked, said),
     }
 }
 
@@ -118,20 +125,20 @@ fn move_again(dialogue: &mut Dialogue, said: &mut Said) -> Option<WindowMove>
 #[tactic(none)]
 fn follow_typed(
     dialogue: &mut Dialogue,
-    limits: Limits,
+    naming: &Naming,
     line: &[u8],
     said: &mut Said,
 ) -> Option<WindowMove>
-    ensures answers { MatchOption result (prompt.AnswersTyped limits dialogue.old.debugger.start line.now (prompt.at_prompt dialogue.old) (prompt.at_prompt dialogue.new) said.new) (IsTypedLeft dialogue.old dialogue.new (prompt.AnswersTyped limits dialogue.old.debugger.start line.now (prompt.at_prompt dialogue.old))) }
+    ensures answers { MatchOption result (prompt.AnswersTyped naming.now dialogue.old.debugger.start line.now (prompt.at_prompt dialogue.old) (prompt.at_prompt dialogue.new) said.new) (IsTypedLeft naming.now dialogue.old dialogue.new (prompt.AnswersTyped naming.now dialogue.old.debugger.start line.now (prompt.at_prompt dialogue.old))) }
     ensures start { dialogue.new.debugger.start ≡ dialogue.old.debugger.start }
 {
-    match read_typed(limits, line) {
-        None => move_again(dialogue, said),
+    match read_typed(naming, line) {
+        None => move_again(dialogue, naming, said),
         Some(Err(refusal)) => {
             said.say_refused(refusal);
             None
         }
-        Some(Ok(asked)) => obey_at_prompt(dialogue, asked, said),
+        Some(Ok(asked)) => obey_at_prompt(dialogue, naming, asked, said),
     }
 }
 
@@ -139,18 +146,18 @@ fn follow_typed(
 #[tactic(none)]
 fn begin_typed(
     dialogue: &mut Dialogue,
-    limits: Limits,
+    naming: &Naming,
     line: &[u8],
     said: &mut Said,
 ) -> Option<WindowMove>
-    ensures answers { prompt.is_quit line.now ≡ false → MatchOption result (prompt.TypedAnswers limits dialogue.old.debugger.start line.now (prompt.at_prompt dialogue.old) (prompt.at_prompt dialogue.new) said.new) (IsTypedLeft dialogue.old dialogue.new (prompt.TypedAnswers limits dialogue.old.debugger.start line.now (prompt.at_prompt dialogue.old))) }
+    ensures answers { prompt.is_quit line.now ≡ false → MatchOption result (prompt.TypedAnswers naming.now dialogue.old.debugger.start line.now (prompt.at_prompt dialogue.old) (prompt.at_prompt dialogue.new) said.new) (IsTypedLeft naming.now dialogue.old dialogue.new (prompt.TypedAnswers naming.now dialogue.old.debugger.start line.now (prompt.at_prompt dialogue.old))) }
     ensures start { dialogue.new.debugger.start ≡ dialogue.old.debugger.start }
 {
     if is_long(line) {
         said.say_refused(Refusal::B2);
         None
     } else {
-        follow_typed(dialogue, limits, line, said)
+        follow_typed(dialogue, naming, line, said)
     }
 }
 
@@ -174,15 +181,15 @@ pub fn answer_typed<H: Hands>(
     hands: &H,
     gate: &Gate,
     dialogue: &mut Dialogue,
-    limits: Limits,
+    naming: &Naming,
     line: &[u8],
     said: &mut Said,
 )
     requires ready { H.ready hands.now }
-    ensures answers { prompt.is_quit line.now ≡ false → prompt.TypedAnswers limits dialogue.old.debugger.start line.now (prompt.at_prompt dialogue.old) (prompt.at_prompt dialogue.new) said.new }
+    ensures answers { prompt.is_quit line.now ≡ false → prompt.TypedAnswers naming.now dialogue.old.debugger.start line.now (prompt.at_prompt dialogue.old) (prompt.at_prompt dialogue.new) said.new }
     ensures start { dialogue.new.debugger.start ≡ dialogue.old.debugger.start }
 {
-    match begin_typed(dialogue, limits, line, said) {
+    match begin_typed(dialogue, naming, line, said) {
         None => {}
         Some(left) => {
             let from = dialogue.debugger.position();

@@ -3,13 +3,14 @@ ghost use Rattle.std.specs.Prelude.{◌≡◌, ◌<◌, ◌≤◌, ◌^◌, ◌-
 ghost use Rattle.debug_session.specs.Input.{words_in};
 ghost use Rattle.debug_session.specs.TypedGrammar.{number_or, one_moment, goto_asked, break_number, one_break_number, plain, tells_part, part_asked, state_asked, why_asked, typed_alone, help_asked, command_typed, typed_reading};
 
-use crate::command::{Command, Limits, Typed};
+use crate::command::{Command, Typed};
 use crate::conditions::break_asked;
 use crate::cut::next_word;
 use crate::grammar::{AMOUNTS, alone, is, is_numeral, number_below, one_number, one_word};
 use crate::memo::Extent;
 use crate::moment::moment_in;
 use crate::name::{CommandName, name_of};
+use crate::naming::{Naming, PartSort};
 use crate::refusal::Refusal;
 use crate::topic::topic_of;
 use trace_text::DumpPart;
@@ -99,39 +100,39 @@ fn help_asked(line: &[u8]) -> Result<Typed, Refusal>
 }
 
 /// The part of a state of a sort, with the words behind that.
-fn part_asked(limits: Limits, sort: &[u8], line: &[u8]) -> Result<Typed, Refusal>
-    ensures { result ≡ part_asked limits sort.now (words_in line.now) }
+fn part_asked(naming: &Naming, sort: &[u8], line: &[u8]) -> Result<Typed, Refusal>
+    ensures { result ≡ part_asked naming.now sort.now (words_in line.now) }
 {
     if is(sort, b"node") {
-        let node = one_number(line, u64::from(limits.nodes))?;
-        Ok(Typed::Part(DumpPart::Node(node as u16)))
+        let node = naming.one_part(PartSort::Node, line)?;
+        Ok(Typed::Part(DumpPart::Node(node)))
     } else if is(sort, b"link") {
-        let link = one_number(line, u64::from(limits.links))?;
-        Ok(Typed::Part(DumpPart::Link(link as u16)))
+        let link = naming.one_part(PartSort::Link, line)?;
+        Ok(Typed::Part(DumpPart::Link(link)))
     } else if is(sort, b"flow") {
-        let flow = one_number(line, u64::from(limits.flows))?;
-        Ok(Typed::Part(DumpPart::Flow(flow as u16)))
+        let flow = naming.one_part(PartSort::Flow, line)?;
+        Ok(Typed::Part(DumpPart::Flow(flow)))
     } else {
         Err(Refusal::B1)
     }
 }
 
 /// What is asked by the words behind `state`.
-fn state_asked(limits: Limits, line: &[u8]) -> Result<Typed, Refusal>
-    ensures { result ≡ state_asked limits (words_in line.now) }
+fn state_asked(naming: &Naming, line: &[u8]) -> Result<Typed, Refusal>
+    ensures { result ≡ state_asked naming.now (words_in line.now) }
 {
     match next_word(line) {
         None => Ok(Typed::Plain(Command::State)),
-        Some((sort, rest)) => part_asked(limits, sort, rest),
+        Some((sort, rest)) => part_asked(naming, sort, rest),
     }
 }
 
 /// The flow that is asked about by the words behind `why`.
-fn why_asked(limits: Limits, line: &[u8]) -> Result<Typed, Refusal>
-    ensures { result ≡ why_asked limits (words_in line.now) }
+fn why_asked(naming: &Naming, line: &[u8]) -> Result<Typed, Refusal>
+    ensures { result ≡ why_asked naming.now (words_in line.now) }
 {
-    let flow = one_number(line, u64::from(limits.flows))?;
-    Ok(Typed::Why(flow as u16))
+    let flow = naming.one_part(PartSort::Flow, line)?;
+    Ok(Typed::Why(flow))
 }
 
 /// The position that is gone to.
@@ -156,34 +157,35 @@ fn lines_typed(line: &[u8]) -> Result<u64, Refusal>
 }
 
 /// The command of a name, with the words behind it.
-fn command_typed(limits: Limits, name: Option<CommandName>, rest: &[u8]) -> Result<Typed, Refusal>
-    ensures { result ≡ command_typed limits name (words_in rest.now) }
+fn command_typed(naming: &Naming, name: Option<CommandName>, rest: &[u8]) -> Result<Typed, Refusal>
+    ensures { result ≡ command_typed naming.now name (words_in rest.now) }
 {
     match name {
         None => Err(Refusal::B1),
         Some(CommandName::Step) => Ok(Typed::Plain(Command::Step(count_typed(rest)?))),
         Some(CommandName::Back) => Ok(Typed::Plain(Command::Back(count_typed(rest)?))),
-        Some(CommandName::Break) => plain(break_asked(limits, rest)),
+        Some(CommandName::Break) => plain(break_asked(naming, rest)),
         Some(CommandName::Breaks) => typed_alone(Typed::Breaks, rest),
         Some(CommandName::Run) => plain(alone(Command::Run, rest)),
         Some(CommandName::Reverse) => typed_alone(Typed::Reverse, rest),
         Some(CommandName::Until) => Ok(Typed::Plain(Command::Until(one_moment(rest)?))),
-        Some(CommandName::State) => state_asked(limits, rest),
+        Some(CommandName::State) => state_asked(naming, rest),
         Some(CommandName::Lines) => Ok(Typed::Lines(lines_typed(rest)?)),
         Some(CommandName::Delete) => Ok(Typed::Delete(one_break_number(rest)?)),
         Some(CommandName::Clear) => plain(alone(Command::Clear, rest)),
         Some(CommandName::Help) => help_asked(rest),
         Some(CommandName::Quit) => Err(Refusal::B2),
-        Some(CommandName::Why) => why_asked(limits, rest),
+        Some(CommandName::Why) => why_asked(naming, rest),
         Some(CommandName::Goto) => goto_asked(rest),
         Some(CommandName::Where) => typed_alone(Typed::Where(Extent::nothing()), rest),
+        Some(CommandName::Names) => typed_alone(Typed::Names, rest),
     }
 }
 
 /// The command that a line says, or why it is refused; nothing where the line has no words.
-pub(crate) fn read_typed(limits: Limits, line: &[u8]) -> Option<Result<Typed, Refusal>>
-    ensures { result ≡ typed_reading limits line.now }
+pub(crate) fn read_typed(naming: &Naming, line: &[u8]) -> Option<Result<Typed, Refusal>>
+    ensures { result ≡ typed_reading naming.now line.now }
 {
     let (word, rest) = next_word(line)?;
-    Some(command_typed(limits, name_of(word), rest))
+    Some(command_typed(naming, name_of(word), rest))
 }

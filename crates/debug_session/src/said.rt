@@ -6,11 +6,14 @@ ghost use Rattle.flow_waits.specs.Waits.{waits_bytes};
 ghost use Rattle.debugger.specs.Moves.{HasPosition};
 ghost use Rattle.debug_session.specs.Answers.{standing, refusal_line, break_line, clear_line};
 ghost use Rattle.debug_session.specs.Help.{help_text, help_on};
+ghost use Rattle.debug_session.specs.NamesReported.{names_text};
 ghost use Rattle.debug_session.specs.Numbered.{set_line, deleted_line, listing};
 ghost use Rattle.debug_session.specs.TypedMoves.{TellsPast, where_text, last_lines};
 
 use crate::help::append_help;
 use crate::memo::Extent;
+use crate::names_reported::append_names;
+use crate::naming::Naming;
 use crate::numbered::{append_listing, put_numbered};
 use crate::refusal::Refusal;
 use crate::report::Report;
@@ -179,6 +182,15 @@ impl Said {
         self.dump.clear();
         self.is_short = false;
         append_listing(&mut self.dump, breaks)
+    }
+
+    /// Answers the names of nodes, links and flows with their numbers.
+    pub(crate) fn say_names(&mut self, naming: &Naming) -> Result<(), AllocError>
+        ensures { OnOk result (self.new ≡ names_text naming.now) }
+    {
+        self.dump.clear();
+        self.is_short = false;
+        append_names(&mut self.dump, naming)
     }
 
     /// Answers how all commands are used.

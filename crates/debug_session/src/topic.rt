@@ -56,11 +56,11 @@ pub(crate) fn append_help_on(out: &mut Vec<u8>, topic: Topic) -> Result<(), Allo
     match topic {
         Topic::Command(name) => append_help_on_command(out, name),
         Topic::Numbers => out.extend_from_slice(
-            b"Nodes, links and flows go by numbers, not by the names of the text: each sort is counted from 0, in the
-order of its lines there. So the first flow line is flow 0, the second one flow 1. Lines of the trace and
-answers have the same numbers. In the shell, tcpsim dis FILE names all by them: n0, l0, f0.
-Bytes of a flow are counted from 0 too, breakpoints from 1.
-why 0
+            b"A node, a link or a flow goes by its name in the text, or by its number. Each sort is counted from 0, in the
+order of its lines there. So the first flow line is flow 0, the second one flow 1. An image has no names.
+Lines of the trace and answers have the numbers, and names lists both. In the shell, tcpsim dis FILE names
+all by their numbers: n0, l0, f0. Bytes of a flow are counted from 0 too, breakpoints from 1.
+names
 ",
         ),
         Topic::Trace => out.extend_from_slice(

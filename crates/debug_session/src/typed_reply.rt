@@ -7,13 +7,15 @@ ghost use Rattle.debugger.specs.Moves.{HasPosition, StepGoesTo};
 ghost use Rattle.debug_session.specs.Answers.{standing, refusal_line};
 ghost use Rattle.debug_session.specs.Help.{help_text, help_on};
 ghost use Rattle.debug_session.specs.Numbered.{IsNumber, HasNumber, set_line};
-ghost use Rattle.debug_session.specs.Reported.{ReportedPast, ReportedMove};
+ghost use Rattle.debug_session.specs.NamesReported.{names_text};
+ghost use Rattle.debug_session.specs.Reported.{ReportedPast, ReportedMove, ObeysUnnamed};
 ghost use Rattle.debug_session.specs.TypedAnswers.{ObeysTyped};
 ghost use Rattle.debug_session.specs.TypedMoves.{TellsPast, onwards};
 ghost use Rattle.debug_session.specs.WindowMoves.{IsAsked, IsTyped};
 
 use crate::command::{Command, Typed};
 use crate::memo::Extent;
+use crate::naming::Naming;
 use crate::numbered::number_of;
 use crate::refusal::Refusal;
 use crate::reply::obey;
@@ -41,7 +43,7 @@ fn tell_number(debugger: &Debugger, b: Break, said: &mut Said)
 fn set_fresh(debugger: &mut Debugger, b: Break, said: &mut Said)
     requires fresh { ¬ Contains debugger.old.breaks b }
     requires few { length debugger.old.breaks ≤ 64 }
-    ensures obeyed { ObeysTyped debugger.old.start (Typed.Plain (Command.SetBreak b)) (standing debugger.old) (standing debugger.new) said.new }
+    ensures obeyed { ObeysUnnamed debugger.old.start (Typed.Plain (Command.SetBreak b)) (standing debugger.old) (standing debugger.new) said.new }
     ensures start { debugger.new.start ≡ debugger.old.start }
 {
     match debugger.add_break(b) {
@@ -54,7 +56,7 @@ fn set_fresh(debugger: &mut Debugger, b: Break, said: &mut Said)
 /// Sets a breakpoint, and tells its number.
 #[tactic(none)]
 fn set_numbered(debugger: &mut Debugger, b: Break, said: &mut Said)
-    ensures obeyed { ObeysTyped debugger.old.start (Typed.Plain (Command.SetBreak b)) (standing debugger.old) (standing debugger.new) said.new }
+    ensures obeyed { ObeysUnnamed debugger.old.start (Typed.Plain (Command.SetBreak b)) (standing debugger.old) (standing debugger.new) said.new }
     ensures start { debugger.new.start ≡ debugger.old.start }
 {
     if debugger.has_break(b) {
@@ -73,7 +75,7 @@ fn has_number(breaks: &[Break], number: u64) -> bool
 
 /// Takes a breakpoint away.
 fn delete(debugger: &mut Debugger, number: u64, said: &mut Said)
-    ensures obeyed { ObeysTyped debugger.old.start (Typed.Delete number) (standing debugger.old) (standing debugger.new) said.new }
+    ensures obeyed { ObeysUnnamed debugger.old.start (Typed.Delete number) (standing debugger.old) (standing debugger.new) said.new }
     ensures start { debugger.new.start ≡ debugger.old.start }
 {
     if has_number(debugger.breaks(), number) {
@@ -87,7 +89,7 @@ fn delete(debugger: &mut Debugger, number: u64, said: &mut Said)
 /// Tells the breakpoints.
 #[tactic(none)]
 fn tell_breaks(debugger: &Debugger, said: &mut Said)
-    ensures { ObeysTyped debugger.now.start Typed.Breaks (standing debugger.now) (standing debugger.now) said.new }
+    ensures { ObeysUnnamed debugger.now.start Typed.Breaks (standing debugger.now) (standing debugger.now) said.new }
 {
     match said.say_breaks(debugger.breaks()) {
         Ok(()) => {}
@@ -110,6 +112,16 @@ fn tell_why(debugger: &Debugger, flow: u16, said: &mut Said)
     ensures { (said.new ≡ waits_bytes flow debugger.now.shown.state) ⊎ (said.new ≡ refusal_line Refusal.M) }
 {
     match said.say_why(debugger, flow) {
+        Ok(()) => {}
+        Err(_) => said.say_refused(Refusal::M),
+    }
+}
+
+/// Tells the names of nodes, links and flows.
+fn tell_names(naming: &Naming, said: &mut Said)
+    ensures { (said.new ≡ names_text naming.now) ⊎ (said.new ≡ refusal_line Refusal.M) }
+{
+    match said.say_names(naming) {
         Ok(()) => {}
         Err(_) => said.say_refused(Refusal::M),
     }
@@ -199,7 +211,7 @@ fn show_passed(debugger: &mut Debugger, from: u64, moved: Result<u64, MoveFault>
 /// Goes back until a breakpoint matches, and tells that one.
 #[tactic(none)]
 fn reverse(debugger: &mut Debugger, said: &mut Said)
-    ensures obeyed { ObeysTyped debugger.old.start Typed.Reverse (standing debugger.old) (standing debugger.new) said.new }
+    ensures obeyed { ObeysUnnamed debugger.old.start Typed.Reverse (standing debugger.old) (standing debugger.new) said.new }
     ensures start { debugger.new.start ≡ debugger.old.start }
 {
     let from = debugger.position();
@@ -225,7 +237,7 @@ fn move_to(debugger: &mut Debugger, target: u64) -> Result<u64, MoveFault>
 /// Goes to a position.
 #[tactic(none)]
 fn go_to(debugger: &mut Debugger, target: u64, said: &mut Said)
-    ensures obeyed { ObeysTyped debugger.old.start (Typed.Goto target) (standing debugger.old) (standing debugger.new) said.new }
+    ensures obeyed { ObeysUnnamed debugger.old.start (Typed.Goto target) (standing debugger.old) (standing debugger.new) said.new }
     ensures start { debugger.new.start ≡ debugger.old.start }
 {
     let from = debugger.position();
@@ -236,7 +248,7 @@ fn go_to(debugger: &mut Debugger, target: u64, said: &mut Said)
 /// Tells where a session stands.
 #[tactic(none)]
 fn tell_where(debugger: &mut Debugger, known: Extent, said: &mut Said)
-    ensures obeyed { ObeysTyped debugger.old.start (Typed.Where known) (standing debugger.old) (standing debugger.new) said.new }
+    ensures obeyed { ObeysUnnamed debugger.old.start (Typed.Where known) (standing debugger.old) (standing debugger.new) said.new }
     ensures start { debugger.new.start ≡ debugger.old.start }
 {
     match said.say_where(debugger, known) {
@@ -248,7 +260,7 @@ fn tell_where(debugger: &mut Debugger, known: Extent, said: &mut Said)
 /// Tells the last so many lines of the trace.
 #[tactic(none)]
 fn tell_lines(debugger: &mut Debugger, count: u64, said: &mut Said)
-    ensures obeyed { ObeysTyped debugger.old.start (Typed.Lines count) (standing debugger.old) (standing debugger.new) said.new }
+    ensures obeyed { ObeysUnnamed debugger.old.start (Typed.Lines count) (standing debugger.old) (standing debugger.new) said.new }
     ensures start { debugger.new.start ≡ debugger.old.start }
 {
     match said.say_lines(debugger, count) {
@@ -260,8 +272,13 @@ fn tell_lines(debugger: &mut Debugger, count: u64, said: &mut Said)
 /// Does what a session whose lines are all there from the start is asked too, but for a move by
 /// windows, which is left.
 #[tactic(none)]
-fn obey_plain(debugger: &mut Debugger, command: Command, said: &mut Said) -> Option<WindowMove>
-    ensures obeyed { MatchOption result (ObeysTyped debugger.old.start (Typed.Plain command) (standing debugger.old) (standing debugger.new) said.new) (IsAsked command debugger.old debugger.new) }
+fn obey_plain(
+    debugger: &mut Debugger,
+    naming: &Naming,
+    command: Command,
+    said: &mut Said,
+) -> Option<WindowMove>
+    ensures obeyed { MatchOption result (ObeysTyped naming.now debugger.old.start (Typed.Plain command) (standing debugger.old) (standing debugger.new) said.new) (IsAsked command debugger.old debugger.new) }
     ensures start { debugger.new.start ≡ debugger.old.start }
 {
     let from = debugger.position();
@@ -291,14 +308,15 @@ fn obey_plain(debugger: &mut Debugger, command: Command, said: &mut Said) -> Opt
 #[tactic(none)]
 pub(crate) fn obey_typed(
     debugger: &mut Debugger,
+    naming: &Naming,
     asked: Typed,
     said: &mut Said,
 ) -> Option<WindowMove>
-    ensures obeyed { MatchOption result (ObeysTyped debugger.old.start asked (standing debugger.old) (standing debugger.new) said.new) (IsTyped asked debugger.old debugger.new) }
+    ensures obeyed { MatchOption result (ObeysTyped naming.now debugger.old.start asked (standing debugger.old) (standing debugger.new) said.new) (IsTyped asked debugger.old debugger.new) }
     ensures start { debugger.new.start ≡ debugger.old.start }
 {
     match asked {
-        Typed::Plain(command) => obey_plain(debugger, command, said),
+        Typed::Plain(command) => obey_plain(debugger, naming, command, said),
         Typed::Reverse => {
             reverse(debugger, said);
             None
@@ -329,6 +347,10 @@ pub(crate) fn obey_typed(
         }
         Typed::Where(known) => {
             tell_where(debugger, known, said);
+            None
+        }
+        Typed::Names => {
+            tell_names(naming, said);
             None
         }
         Typed::Help => {

@@ -444,10 +444,10 @@ Right is:
     "B3: a word is no number, or out of its range; there is no such node, flow or kind
 
 A number is decimal digits without a leading zero, and counts and moments are from 0 to
-1000000000000000. Nodes, links and flows go by their numbers and not by their names, each sort from 0 in
-the order of the text: the first flow is 0. The kinds are start, rto, delack, free, data and ack. At a
-prompt a moment can have a unit, as 1.5s, 20ms, 3us or 10ns, and is in whole nanoseconds. The session
-goes on.
+1000000000000000. Nodes, links and flows go by their numbers, each sort from 0 in the order of the text:
+the first flow is 0. At a prompt over a text they go by their names too. The kinds are start, rto,
+delack, free, data and ack. At a prompt a moment can have a unit, as 1.5s, 20ms, 3us or 10ns, and is in
+whole nanoseconds. The session goes on.
 
 Refused, with the answer `refused B3`, where one.txt is the text that `tcpsim explain E2` ends with:
 

@@ -8,7 +8,7 @@ use Rattle.debug_session.specs.Sessions.{Ended as CommandsEnded, IsEnding}
 use Rattle.debug_session.specs.declared.session.DialogueFault.{DialogueFault as CommandsFault}
 use Rattle.debug_session.specs.declared.session.DialogueFault.TheVariants.{NoMemory as commands_NoMemory, OutputFailed}
 use Rattle.debug_session.proofs.Meanings.{scenario_of, fault_of}
-use Rattle.window_engine.proofs.Bytes.{appends_nothing}
+use Rattle.window_text.proofs.Bytes.{appends_nothing}
 use Rattle.sessions.specs.declared.fault.SessionFault.{SessionFault}
 use Rattle.sessions.specs.declared.fault.SessionFault.TheVariants.{TooLong, Refused, Groups, ReadFailed, WriteFailed, NoMemory}
 use Rattle.sessions.specs.Debug.{IsDebugEnding, IsDebugDue, IsDebugSession}

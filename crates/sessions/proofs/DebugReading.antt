@@ -16,7 +16,7 @@ use Rattle.sessions.proofs.DebugEnds.{unread_input}
 use Rattle.sessions.proofs.Prompting.{none_typed}
 use Rattle.sessions.proofs.Reading.{hindered_text, reads_stay, writes_stay, unread}
 use Rattle.window_engine.specs.Failures.{counted}
-use Rattle.window_engine.proofs.Bytes.{appends_nothing}
+use Rattle.window_text.proofs.Bytes.{appends_nothing}
 
 -- the input was not read
 pub debug_unread : (groups : List ℕ) (known : Option (List ℕ)) (fault : SessionFault) (before after : Streams) → (text : List ℕ) × IsInputOf known text × IsReadFault text fault → after.written ≡ before.written

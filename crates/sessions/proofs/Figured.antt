@@ -11,7 +11,7 @@ use Rattle.figures.specs.Figures.{AreOfRun, NoneBefore, base_at}
 use Rattle.figures.specs.Moments.{Base, moments}
 use Rattle.figures_text.specs.Summaries.{IsCountedFrom, IsTableFrom, table_over}
 use Rattle.figures_text.specs.Table.{TextNames}
-use Rattle.window_engine.proofs.Bytes.{appends_nothing}
+use Rattle.window_text.proofs.Bytes.{appends_nothing}
 use Rattle.sessions.specs.declared.fault.SessionFault.{SessionFault}
 use Rattle.sessions.specs.declared.fault.SessionFault.TheVariants.{NoMemory, CountFull}
 use Rattle.sessions.specs.FiguresOutput.{AreCounted, HasCome, IsCountFault, IsRunFault, IsStepBegun, StandsAt, IsTableOutput}

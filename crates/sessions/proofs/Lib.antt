@@ -11,6 +11,7 @@ pub mod Worked
 pub mod Shared
 pub mod Prompting
 pub mod PromptEnds
+pub mod Called
 pub mod Rests
 pub mod Overs
 pub mod Figured

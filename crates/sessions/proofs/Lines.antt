@@ -17,7 +17,7 @@ use Rattle.net_watch.specs.Watched.{IsStepFault, IsRunEnd, goes_on}
 use Rattle.node_core.specs.TraceLine.{TraceLine}
 use Rattle.trace_text.specs.Line.{line_bytes}
 use Rattle.trace_text.specs.End.{end_bytes}
-use Rattle.window_engine.proofs.Bytes.{appends_nothing, appends_more}
+use Rattle.window_text.proofs.Bytes.{appends_nothing, appends_more}
 use Rattle.sessions.specs.Trace.{lines_bytes, IsTrace, IsTraceStart, IsTooLong, IsTraceOrStart}
 use Rattle.sessions.specs.declared.fault.SessionFault.{SessionFault}
 use Rattle.sessions.specs.declared.fault.SessionFault.TheVariants.{WriteFailed, NoMemory, CountFull, NoWorker}

@@ -3,9 +3,9 @@ use Rattle.std.proofs.Common.{◌≡◌, ◌∙◌, ◌⊎◌, inl, inr, ℕ, Bo
 use Rattle.scenario_image.specs.declared.parts.ScenarioParts.{ScenarioParts}
 use Rattle.table_run.specs.State.{initial}
 use Rattle.debugger.specs.Debugging.{Debugging, debugging_opened}
-use Rattle.debug_session.specs.declared.command.Limits.{Limits}
 use Rattle.debug_session.specs.declared.dialogue.Dialogue.{Dialogue}
 use Rattle.debug_session.specs.declared.memo.Memo.{Memo}
+use Rattle.debug_session.specs.declared.naming.Naming.{Naming}
 use Rattle.debug_session.specs.Answers.{standing}
 use Rattle.debug_session.specs.Memos.{no_memo}
 use Rattle.debug_session.specs.Sessions.{limits_of}
@@ -14,6 +14,7 @@ use Rattle.sessions.specs.declared.fault.SessionFault.{SessionFault}
 use Rattle.sessions.specs.declared.fault.SessionFault.TheVariants.{TooLong, Refused, RefusedImage, Groups, ReadFailed, CannotRead, WriteFailed, NoMemory}
 use Rattle.sessions.specs.Ended.{SessionEnded, reads_after, writes_after}
 use Rattle.sessions.specs.Input.{InputHasScenario, InputHasFault, Reads, is_image}
+use Rattle.sessions.specs.Namings.{IsNamingOf}
 use Rattle.sessions.specs.Nodes.{HasGroups, LacksGroups}
 use Rattle.sessions.specs.Prompt.{IsFileFault, IsOverScenario, IsPromptEnding, IsPromptOver, IsTypedSession, IsUnbegun, line_reads_after}
 use Rattle.sessions.specs.Session.{IsWithin}
@@ -24,28 +25,27 @@ pub unbegun : (streams : Streams) → IsUnbegun streams streams
 unbegun streams = record { untyped = none_typed streams.typed; unwritten = refl }
 
 -- lines were typed over a scenario
-pub over_scenario : (p : ScenarioParts) (ended : SessionEnded) (before after : Streams) → IsTypedSession (limits_of p) (initial p) (unmoved (standing (debugging_opened (initial p)))) ended before after → IsOverScenario p ended before after
-over_scenario p (Err NoMemory) before after session = absurd session.ending
-over_scenario p _ before after session = session
+pub over_scenario : (naming : Naming) (p : ScenarioParts) (ended : SessionEnded) (before after : Streams) → IsTypedSession naming (initial p) (unmoved (standing (debugging_opened (initial p)))) ended before after → IsOverScenario naming p ended before after
+over_scenario naming p (Err NoMemory) before after session = absurd session.ending
+over_scenario naming p _ before after session = session
 
-pub typed_over : (p : ScenarioParts) (d : Dialogue) (limits : Limits) (ended : SessionEnded) (before after : Streams) → d.debugger ≡ debugging_opened (initial p) → d.memo ≡ no_memo → limits ≡ limits_of p
-    → IsTypedSession limits d.debugger.start (at_prompt d) ended before after → IsOverScenario p ended before after
-typed_over p d limits ended before after is none bounds session =
-    let bounded = subst (λ (l : Limits). IsTypedSession l d.debugger.start (at_prompt d) ended before after) bounds session in
-    let unasked = subst (λ (m : Memo). IsTypedSession (limits_of p) d.debugger.start (record { standing = standing d.debugger; memo = m }) ended before after) none bounded in
-    over_scenario p ended before after (subst (λ (e : Debugging). IsTypedSession (limits_of p) e.start (unmoved (standing e)) ended before after) is unasked)
+pub typed_over : (p : ScenarioParts) (d : Dialogue) (naming : Naming) (ended : SessionEnded) (before after : Streams) → d.debugger ≡ debugging_opened (initial p) → d.memo ≡ no_memo
+    → IsTypedSession naming d.debugger.start (at_prompt d) ended before after → IsOverScenario naming p ended before after
+typed_over p d naming ended before after is none session =
+    let unasked = subst (λ (m : Memo). IsTypedSession naming d.debugger.start (record { standing = standing d.debugger; memo = m }) ended before after) none session in
+    over_scenario naming p ended before after (subst (λ (e : Debugging). IsTypedSession naming e.start (unmoved (standing e)) ended before after) is unasked)
 
-pub no_memory_over : (p : ScenarioParts) (ended : SessionEnded) (streams : Streams) → ended ≡ Err NoMemory → IsOverScenario p ended streams streams
-no_memory_over p ended streams is = subst (λ (e : SessionEnded). IsOverScenario p e streams streams) (sym is) (unbegun streams)
+pub no_memory_over : (naming : Naming) (p : ScenarioParts) (ended : SessionEnded) (streams : Streams) → ended ≡ Err NoMemory → IsOverScenario naming p ended streams streams
+no_memory_over naming p ended streams is = subst (λ (e : SessionEnded). IsOverScenario naming p e streams streams) (sym is) (unbegun streams)
 
--- the input has a scenario, over which a session ended so
-pub input_over : (groups input : List ℕ) (p : ScenarioParts) (ended : SessionEnded) (before after : Streams) → IsWithin input → InputHasScenario input p → HasGroups groups p → IsOverScenario p ended before after
-    → IsPromptOver groups input ended before after
-input_over groups input p (Err NoMemory) before after within means has over = over
-input_over groups input p (Err (Refused line fault)) before after within means has over = absurd over.ending
-input_over groups input p (Err (RefusedImage fault)) before after within means has over = absurd over.ending
-input_over groups input p (Err Groups) before after within means has over = absurd over.ending
-input_over groups input p _ before after within means has over = (within, (p, means, has, over))
+-- the input has a scenario, over which a session ended so that knows the input's names
+pub input_over : (groups input : List ℕ) (p : ScenarioParts) (naming : Naming) (ended : SessionEnded) (before after : Streams) → IsWithin input → InputHasScenario input p → HasGroups groups p
+    → IsNamingOf input (limits_of p) naming → IsOverScenario naming p ended before after → IsPromptOver groups input ended before after
+input_over groups input p naming (Err NoMemory) before after within means has called over = over
+input_over groups input p naming (Err (Refused line fault)) before after within means has called over = absurd over.ending
+input_over groups input p naming (Err (RefusedImage fault)) before after within means has called over = absurd over.ending
+input_over groups input p naming (Err Groups) before after within means has called over = absurd over.ending
+input_over groups input p naming _ before after within means has called over = (within, (p, means, has, naming, called, over))
 
 -- a fault that no input has
 no_fault : (b : Bool) → ¬ MatchBool b ⊥ ⊥
@@ -104,13 +104,13 @@ file_writes file input _ n faulty = refl
 
 -- the file was read
 pub file_over : (groups file input : List ℕ) (ended : SessionEnded) (before after : Streams) → IsPromptOver groups input ended before after → IsPromptEnding groups file input ended before after
-file_over groups file input (Err TooLong) before after over = absurd over.1.3.ending
-file_over groups file input (Err (CannotRead name)) before after over = absurd over.1.3.ending
+file_over groups file input (Err TooLong) before after over = absurd over.1.5.ending
+file_over groups file input (Err (CannotRead name)) before after over = absurd over.1.5.ending
 file_over groups file input _ before after over = over
 
 pub over_reads : (groups input : List ℕ) (ended : SessionEnded) (before after : Streams) (n : ℕ) → IsPromptOver groups input ended before after → reads_after ended n ≡ line_reads_after ended n
 over_reads groups input (Err ReadFailed) before after n over = refl
-over_reads groups input (Err (CannotRead name)) before after n over = absurd over.1.3.ending
+over_reads groups input (Err (CannotRead name)) before after n over = absurd over.1.5.ending
 over_reads groups input _ before after n over = refl
 
 pub same_typed : (old new : Option Typing) → new ≡ old → Typed old new []

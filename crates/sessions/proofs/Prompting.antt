@@ -6,7 +6,7 @@ use Rattle.std.proofs.lemmas.List.Folds.{list_all-append}
 use Rattle.std.proofs.KnownBytes.{Appends-nil, Appends-trans}
 use Rattle.std.specs.Io.KnownBytes.{Appends}
 use Rattle.table_run.specs.State.{State}
-use Rattle.debug_session.specs.declared.command.Limits.{Limits}
+use Rattle.debug_session.specs.declared.naming.Naming.{Naming}
 use Rattle.debug_session.specs.declared.refusal.Refusal.TheVariants.{B2}
 use Rattle.debug_session.specs.Answers.{refusal_line}
 use Rattle.debug_session.specs.Prompt.{Ask, AnswersTyped, AtPrompt, Rests, Typing, Typed, TypedAnswers, TypedRan, AreInTime, IsSoFar, IsTypedOut, is_long, is_quit, lines_in, none_quits, answer_out, quits}
@@ -60,17 +60,17 @@ cut_quits room line count cut wide =
     (λ (long : (is_long line ≡ true) × (is_long (take count room) ≡ true)). long_goes_on (take count room) long.1 ∙ sym (long_goes_on line long.0)) (same_or_long room line count cut wide)
 
 -- and is answered as the line is
-pub cut_answers : (limits : Limits) (start : State) (room line : List ℕ) (count : ℕ) (old new : AtPrompt) (said : List ℕ) → IsCut room count line → 65536 < length room
-    → TypedAnswers limits start (take count room) old new said → TypedAnswers limits start line old new said
-cut_answers limits start room line count old new said cut wide answers =
-    ⊎_elim (λ (same : take count room ≡ line). subst (λ (l : List ℕ). TypedAnswers limits start l old new said) same answers)
+pub cut_answers : (naming : Naming) (start : State) (room line : List ℕ) (count : ℕ) (old new : AtPrompt) (said : List ℕ) → IsCut room count line → 65536 < length room
+    → TypedAnswers naming start (take count room) old new said → TypedAnswers naming start line old new said
+cut_answers naming start room line count old new said cut wide answers =
+    ⊎_elim (λ (same : take count room ≡ line). subst (λ (l : List ℕ). TypedAnswers naming start l old new said) same answers)
     (λ (long : (is_long line ≡ true) × (is_long (take count room) ≡ true)). refused line long.0 (refuses (take count room) long.1 answers)) (same_or_long room line count cut wide)
   where
-    refuses : (l : List ℕ) → is_long l ≡ true → TypedAnswers limits start l old new said → Rests old new said (refusal_line B2)
-    refuses l long = subst (λ (t : Bool). MatchBool t (Rests old new said (refusal_line B2)) (MatchBool (is_quit l) (Rests old new said []) (AnswersTyped limits start l old new said))) long
+    refuses : (l : List ℕ) → is_long l ≡ true → TypedAnswers naming start l old new said → Rests old new said (refusal_line B2)
+    refuses l long = subst (λ (t : Bool). MatchBool t (Rests old new said (refusal_line B2)) (MatchBool (is_quit l) (Rests old new said []) (AnswersTyped naming start l old new said))) long
 
-    refused : (l : List ℕ) → is_long l ≡ true → Rests old new said (refusal_line B2) → TypedAnswers limits start l old new said
-    refused l long = subst (λ (t : Bool). MatchBool t (Rests old new said (refusal_line B2)) (MatchBool (is_quit l) (Rests old new said []) (AnswersTyped limits start l old new said))) (sym long)
+    refused : (l : List ℕ) → is_long l ≡ true → Rests old new said (refusal_line B2) → TypedAnswers naming start l old new said
+    refused l long = subst (λ (t : Bool). MatchBool t (Rests old new said (refusal_line B2)) (MatchBool (is_quit l) (Rests old new said []) (AnswersTyped naming start l old new said))) (sym long)
 
 -- memory was refused before the file was read
 pub file_hindered : {T : Type 0} (r : Result T SessionFault) (known : Option (List ℕ)) (file : List ℕ) → r ≡ Err NoMemory
@@ -80,12 +80,12 @@ file_hindered {T} (Err other) known file is =
     let input = text_of known in (input.0, input.1, subst (λ (r : Result T SessionFault). IfErr r (IsFileFault file input.0)) (sym is) tt)
 
 -- one line more is answered
-ran_more : (limits : Limits) (start : State) (lines : List (List ℕ)) (line : List ℕ) (old between new : AtPrompt) (made said : List ℕ)
-    → TypedRan limits start lines old between made → TypedAnswers limits start line between new said → TypedRan limits start (lines ++ line ∷ []) old new (made ++ answer_out said)
-ran_more limits start [] line old between new made said ran one =
-    (new, said, [], subst (λ (at : AtPrompt). TypedAnswers limits start line at new said) ran.same one, record { same = refl; reported = refl }, ap (λ l. l ++ answer_out said) ran.reported ∙ sym (append-nil (answer_out said)))
-ran_more limits start (l ∷ lines) line old between new made said ran one =
-    (ran.0, ran.1, ran.2 ++ answer_out said, ran.3, ran_more limits start lines line ran.0 between new ran.2 said ran.4 one, ap (λ x. x ++ answer_out said) ran.5 ∙ append_assoc (answer_out ran.1) ran.2 (answer_out said))
+ran_more : (naming : Naming) (start : State) (lines : List (List ℕ)) (line : List ℕ) (old between new : AtPrompt) (made said : List ℕ)
+    → TypedRan naming start lines old between made → TypedAnswers naming start line between new said → TypedRan naming start (lines ++ line ∷ []) old new (made ++ answer_out said)
+ran_more naming start [] line old between new made said ran one =
+    (new, said, [], subst (λ (at : AtPrompt). TypedAnswers naming start line at new said) ran.same one, record { same = refl; reported = refl }, ap (λ l. l ++ answer_out said) ran.reported ∙ sym (append-nil (answer_out said)))
+ran_more naming start (l ∷ lines) line old between new made said ran one =
+    (ran.0, ran.1, ran.2 ++ answer_out said, ran.3, ran_more naming start lines line ran.0 between new ran.2 said ran.4 one, ap (λ x. x ++ answer_out said) ran.5 ∙ append_assoc (answer_out ran.1) ran.2 (answer_out said))
 
 -- one ask more
 lines_more : (asks : List Ask) (ask : Ask) → lines_in (asks ++ ask ∷ []) ≡ lines_in asks ++ ask.line ∷ []
@@ -111,37 +111,37 @@ pub none_typed : (known : Option Typing) → Typed known known []
 none_typed None = tt
 none_typed (Some typing) = (sym (append-nil typing.asks), refl)
 
-in_time_more : (limits : Limits) (start : State) (old : AtPrompt) (first : Option (List ℕ)) (done : List (List ℕ)) (asks : List Ask) (ask : Ask)
-    → AreInTime limits start old first done asks → IsSoFar limits start old (done ++ lines_in asks) first ask.seen → AreInTime limits start old first done (asks ++ ask ∷ [])
-in_time_more limits start old first done [] ask all here = (subst (λ (ls : List (List ℕ)). IsSoFar limits start old ls first ask.seen) (append-nil done) here, tt)
-in_time_more limits start old first done (a ∷ asks) ask all here =
-    (all.0, in_time_more limits start old first (done ++ a.line ∷ []) asks ask all.1 (subst (λ (ls : List (List ℕ)). IsSoFar limits start old ls first ask.seen) (sym (append_assoc done (a.line ∷ []) (lines_in asks))) here))
+in_time_more : (naming : Naming) (start : State) (old : AtPrompt) (first : Option (List ℕ)) (done : List (List ℕ)) (asks : List Ask) (ask : Ask)
+    → AreInTime naming start old first done asks → IsSoFar naming start old (done ++ lines_in asks) first ask.seen → AreInTime naming start old first done (asks ++ ask ∷ [])
+in_time_more naming start old first done [] ask all here = (subst (λ (ls : List (List ℕ)). IsSoFar naming start old ls first ask.seen) (append-nil done) here, tt)
+in_time_more naming start old first done (a ∷ asks) ask all here =
+    (all.0, in_time_more naming start old first (done ++ a.line ∷ []) asks ask all.1 (subst (λ (ls : List (List ℕ)). IsSoFar naming start old ls first ask.seen) (sym (append_assoc done (a.line ∷ []) (lines_in asks))) here))
 
 none_more : (asks : List Ask) (ask : Ask) → none_quits (lines_in asks) ≡ true → is_quit ask.line ≡ false → none_quits (lines_in (asks ++ ask ∷ [])) ≡ true
 none_more asks ask none goes_on =
     ap none_quits (lines_more asks ask) ∙ list_all-append (λ line. not (is_quit line)) (lines_in asks) (ask.line ∷ []) ∙ ap (λ t. t && (not (is_quit ask.line) && true)) none ∙ ap (λ t. not t && true) goes_on
 
 -- so far lines were typed, each was answered before the next was asked for, and none was `quit`
-pub record SoFar (limits : Limits) (start : State) (old now : AtPrompt) (before after : Streams) : Type 0 where
+pub record SoFar (naming : Naming) (start : State) (old now : AtPrompt) (before after : Streams) : Type 0 where
   pub asks : List Ask
   pub typed : Typed before.typed after.typed asks
-  pub in_time : AreInTime limits start old before.written [] asks
-  pub answered : Takes (TypedRan limits start (lines_in asks) old now) before.written after.written
+  pub in_time : AreInTime naming start old before.written [] asks
+  pub answered : Takes (TypedRan naming start (lines_in asks) old now) before.written after.written
   pub none : none_quits (lines_in asks) ≡ true
 
-pub none_yet : (limits : Limits) (start : State) (at : AtPrompt) (streams : Streams) → SoFar limits start at at streams streams
-none_yet limits start at streams = record { asks = []; typed = none_typed streams.typed; in_time = tt; answered = ([], Appends-nil streams.written, record { same = refl; reported = refl }); none = refl }
+pub none_yet : (naming : Naming) (start : State) (at : AtPrompt) (streams : Streams) → SoFar naming start at at streams streams
+none_yet naming start at streams = record { asks = []; typed = none_typed streams.typed; in_time = tt; answered = ([], Appends-nil streams.written, record { same = refl; reported = refl }); none = refl }
 
-module _ (limits : Limits) (start : State) (old was : AtPrompt) (first before : Streams) (so_far : SoFar limits start old was first before) where
-  answers_so_far : IsSoFar limits start old (lines_in so_far.asks) first.written before.written
+module _ (naming : Naming) (start : State) (old was : AtPrompt) (first before : Streams) (so_far : SoFar naming start old was first before) where
+  answers_so_far : IsSoFar naming start old (lines_in so_far.asks) first.written before.written
   answers_so_far = (so_far.answered.0, so_far.answered.1, (was, so_far.answered.2))
 
   -- the answers were out when the next line was asked for
-  asked_in_time : (ask : Ask) → ask.seen ≡ before.written → AreInTime limits start old first.written [] (so_far.asks ++ ask ∷ [])
-  asked_in_time ask seen = in_time_more limits start old first.written [] so_far.asks ask so_far.in_time (subst (λ (held : Option (List ℕ)). IsSoFar limits start old (lines_in so_far.asks) first.written held) (sym seen) answers_so_far)
+  asked_in_time : (ask : Ask) → ask.seen ≡ before.written → AreInTime naming start old first.written [] (so_far.asks ++ ask ∷ [])
+  asked_in_time ask seen = in_time_more naming start old first.written [] so_far.asks ask so_far.in_time (subst (λ (held : Option (List ℕ)). IsSoFar naming start old (lines_in so_far.asks) first.written held) (sym seen) answers_so_far)
 
   -- one line more is answered
-  pub one_more : (now : AtPrompt) (after : Streams) → IsAnswered limits start was now before after → SoFar limits start old now first after
+  pub one_more : (now : AtPrompt) (after : Streams) → IsAnswered naming start was now before after → SoFar naming start old now first after
   one_more now after turn =
       let ask = turn.ask in
       let made = so_far.answered.0 in
@@ -152,22 +152,22 @@ module _ (limits : Limits) (start : State) (old was : AtPrompt) (first before : 
         answered = (
           made ++ answer_out turn.said,
           Appends-trans first.written before.written after.written made (answer_out turn.said) so_far.answered.1 turn.put,
-          subst (λ (ls : List (List ℕ)). TypedRan limits start ls old now (made ++ answer_out turn.said)) (sym (lines_more so_far.asks ask))
-              (ran_more limits start (lines_in so_far.asks) ask.line old was now made turn.said so_far.answered.2 turn.answers),
+          subst (λ (ls : List (List ℕ)). TypedRan naming start ls old now (made ++ answer_out turn.said)) (sym (lines_more so_far.asks ask))
+              (ran_more naming start (lines_in so_far.asks) ask.line old was now made turn.said so_far.answered.2 turn.answers),
         );
         none = none_more so_far.asks ask so_far.none turn.goes_on;
       }
 
   -- `quit` was typed
-  pub has_quit : (now : AtPrompt) (after : Streams) → IsQuitting was now before after → IsTypedSession limits start old (Ok tt) first after
+  pub has_quit : (now : AtPrompt) (after : Streams) → IsQuitting was now before after → IsTypedSession naming start old (Ok tt) first after
   has_quit now after turn =
       let ask = turn.ask in
       let asks = so_far.asks ++ ask ∷ [] in
       let made = so_far.answered.0 in
-      let silent : TypedAnswers limits start ask.line was was [] = quit_silent ask.line turn.quits in
-      let ran : TypedRan limits start (lines_in so_far.asks ++ ask.line ∷ []) old was (made ++ []) = ran_more limits start (lines_in so_far.asks) ask.line old was was made [] so_far.answered.2 silent in
-      let all : TypedRan limits start (lines_in asks) old was made =
-      subst (λ (ls : List (List ℕ)). TypedRan limits start ls old was made) (sym (lines_more so_far.asks ask)) (subst (λ (out : List ℕ). TypedRan limits start (lines_in so_far.asks ++ ask.line ∷ []) old was out) (append-nil made) ran) in
+      let silent : TypedAnswers naming start ask.line was was [] = quit_silent ask.line turn.quits in
+      let ran : TypedRan naming start (lines_in so_far.asks ++ ask.line ∷ []) old was (made ++ []) = ran_more naming start (lines_in so_far.asks) ask.line old was was made [] so_far.answered.2 silent in
+      let all : TypedRan naming start (lines_in asks) old was made =
+      subst (λ (ls : List (List ℕ)). TypedRan naming start ls old was made) (sym (lines_more so_far.asks ask)) (subst (λ (out : List ℕ). TypedRan naming start (lines_in so_far.asks ++ ask.line ∷ []) old was out) (append-nil made) ran) in
       record {
         asks = asks;
         typed = typed_more first.typed before.typed after.typed so_far.asks ask so_far.typed turn.asked.typed;
@@ -175,18 +175,18 @@ module _ (limits : Limits) (start : State) (old was : AtPrompt) (first before : 
         ending = ((made, subst (λ (held : Option (List ℕ)). Appends first.written held made) (sym turn.unwritten) so_far.answered.1, (was, all)), inl (lines_in so_far.asks, ask.line, lines_more so_far.asks ask, so_far.none, turn.quits));
       }
     where
-      quit_silent : (line : List ℕ) → is_quit line ≡ true → TypedAnswers limits start line was was []
+      quit_silent : (line : List ℕ) → is_quit line ≡ true → TypedAnswers naming start line was was []
       quit_silent line quits = go (is_long line) refl
         where
-          go : (long : Bool) → is_long line ≡ long → MatchBool long (Rests was was [] (refusal_line B2)) (MatchBool (is_quit line) (Rests was was [] []) (AnswersTyped limits start line was was []))
+          go : (long : Bool) → is_long line ≡ long → MatchBool long (Rests was was [] (refusal_line B2)) (MatchBool (is_quit line) (Rests was was [] []) (AnswersTyped naming start line was was []))
           go true is = absurd (false≢true (sym (long_goes_on line is) ∙ quits))
-          go false is = subst (λ (t : Bool). MatchBool t (Rests was was [] []) (AnswersTyped limits start line was was [])) (sym quits) (record { same = refl; reported = refl })
+          go false is = subst (λ (t : Bool). MatchBool t (Rests was was [] []) (AnswersTyped naming start line was was [])) (sym quits) (record { same = refl; reported = refl })
 
   -- no line was typed
-  unanswered : (now : AtPrompt) (after : Streams) → IsSilent was now before after → IsSoFar limits start old (lines_in so_far.asks) first.written after.written
-  unanswered now after turn = subst (λ (held : Option (List ℕ)). IsSoFar limits start old (lines_in so_far.asks) first.written held) (sym turn.unwritten) answers_so_far
+  unanswered : (now : AtPrompt) (after : Streams) → IsSilent was now before after → IsSoFar naming start old (lines_in so_far.asks) first.written after.written
+  unanswered now after turn = subst (λ (held : Option (List ℕ)). IsSoFar naming start old (lines_in so_far.asks) first.written held) (sym turn.unwritten) answers_so_far
 
-  pub has_no_line : (now : AtPrompt) (after : Streams) → IsSilent was now before after → IsTypedOut after.typed → IsTypedSession limits start old (Ok tt) first after
+  pub has_no_line : (now : AtPrompt) (after : Streams) → IsSilent was now before after → IsTypedOut after.typed → IsTypedSession naming start old (Ok tt) first after
   has_no_line now after turn out = record {
     asks = so_far.asks;
     typed = typed_same first.typed before.typed after.typed so_far.asks so_far.typed turn.untyped;
@@ -195,7 +195,7 @@ module _ (limits : Limits) (start : State) (old was : AtPrompt) (first before : 
   }
 
   -- a line could not be read
-  pub is_broken : (now : AtPrompt) (after : Streams) → IsSilent was now before after → IsTypedSession limits start old (Err ReadFailed) first after
+  pub is_broken : (now : AtPrompt) (after : Streams) → IsSilent was now before after → IsTypedSession naming start old (Err ReadFailed) first after
   is_broken now after turn = record {
     asks = so_far.asks;
     typed = typed_same first.typed before.typed after.typed so_far.asks so_far.typed turn.untyped;
@@ -204,13 +204,13 @@ module _ (limits : Limits) (start : State) (old was : AtPrompt) (first before : 
   }
 
   -- an answer could not be written
-  pub is_cut_off : (now : AtPrompt) (after : Streams) → IsCutOff limits start was now before after → IsTypedSession limits start old (Err WriteFailed) first after
+  pub is_cut_off : (now : AtPrompt) (after : Streams) → IsCutOff naming start was now before after → IsTypedSession naming start old (Err WriteFailed) first after
   is_cut_off now after turn =
       let ask = turn.ask in
       let made = so_far.answered.0 in
       let put = turn.put.0 in
       let rest = turn.put.2.0 in
-      let ran : TypedRan limits start (lines_in so_far.asks ++ ask.line ∷ []) old now (made ++ answer_out turn.said) = ran_more limits start (lines_in so_far.asks) ask.line old was now made turn.said so_far.answered.2 turn.answers in
+      let ran : TypedRan naming start (lines_in so_far.asks ++ ask.line ∷ []) old now (made ++ answer_out turn.said) = ran_more naming start (lines_in so_far.asks) ask.line old was now made turn.said so_far.answered.2 turn.answers in
       let all : made ++ answer_out turn.said ≡ (made ++ put) ++ rest = ap (λ l. made ++ l) (sym turn.put.2.1) ∙ sym (append_assoc made put rest) in
       record {
         asks = so_far.asks ++ ask ∷ [];
@@ -224,8 +224,8 @@ module _ (limits : Limits) (start : State) (old was : AtPrompt) (first before : 
               rest,
               (
                 now,
-                subst (λ (ls : List (List ℕ)). TypedRan limits start ls old now ((made ++ put) ++ rest)) (sym (lines_more so_far.asks ask))
-                    (subst (λ (out : List ℕ). TypedRan limits start (lines_in so_far.asks ++ ask.line ∷ []) old now out) all ran),
+                subst (λ (ls : List (List ℕ)). TypedRan naming start ls old now ((made ++ put) ++ rest)) (sym (lines_more so_far.asks ask))
+                    (subst (λ (out : List ℕ). TypedRan naming start (lines_in so_far.asks ++ ask.line ∷ []) old now out) all ran),
               ),
             ),
           ),
@@ -234,7 +234,7 @@ module _ (limits : Limits) (start : State) (old was : AtPrompt) (first before : 
       }
 
   -- a turn that failed ends the session
-  pub is_failed : (fault : SessionFault) (now : AtPrompt) (after : Streams) → IsTurn limits start was now (Err fault) before after → IsTypedSession limits start old (Err fault) first after
+  pub is_failed : (fault : SessionFault) (now : AtPrompt) (after : Streams) → IsTurn naming start was now (Err fault) before after → IsTypedSession naming start old (Err fault) first after
   is_failed ReadFailed now after turn = is_broken now after turn
   is_failed WriteFailed now after turn = is_cut_off now after turn
   is_failed _ now after turn = absurd turn

@@ -21,6 +21,7 @@ use Rattle.sessions.specs.Debug.{IsDebugSession}
 use Rattle.sessions.specs.Ended.{SessionEnded, writes_after}
 use Rattle.sessions.specs.Faults.{of_commands}
 use Rattle.sessions.specs.Input.{InputHasScenario, IsTextFault, Reads}
+use Rattle.sessions.specs.Namings.{IsNamingOf}
 use Rattle.sessions.specs.Nodes.{HasGroups}
 use Rattle.sessions.specs.Rest.{AreAnswered, BeginsSession, BeginsRun, SessionIsDone, IsPromptDone, IsReadSession, HasWritten, WasTyped, nothing_left}
 use Rattle.sessions.specs.Session.{IsSession, IsWithin}
@@ -128,10 +129,10 @@ commands_reported parts lines fault reported out is put = subst (λ (f : Session
 
 -- lines were typed at a prompt that was opened over an input, and so its session has ended
 pub typed_end : (groups input : List ℕ) (p : ScenarioParts) (prompt : Prompt) (ended : SessionEnded) (now after : Streams) → IsWithin input → InputHasScenario input p → HasGroups groups p → prompt.dialogue.debugger ≡ debugging_opened (initial p)
-    → prompt.dialogue.memo ≡ no_memo → prompt.limits ≡ limits_of p → WasTyped prompt ended now after → IsPromptDone groups input now ended after
-typed_end groups input p prompt ended now after within means has stands none limits typed =
+    → prompt.dialogue.memo ≡ no_memo → IsNamingOf input (limits_of p) prompt.naming → WasTyped prompt ended now after → IsPromptDone groups input now ended after
+typed_end groups input p prompt ended now after within means has stands none called typed =
     record {
-      over = input_over groups input p ended now after within means has (typed_over p prompt.dialogue prompt.limits ended now after stands none limits typed.session);
+      over = input_over groups input p prompt.naming ended now after within means has called (typed_over p prompt.dialogue prompt.naming ended now after stands none typed.session);
       reads = typed.reads;
       writes = typed.writes;
     }

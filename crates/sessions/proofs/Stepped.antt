@@ -23,7 +23,7 @@ use Rattle.figures_text.specs.SeriesText.{series_heading}
 use Rattle.figures_text.specs.Steps.{IsSeriesBegun, AreRowsOf, AreSteps, RunGoesOn, HasComeTo, IsGoingOn, RunIsOver, begin_of, rows_over, span_of}
 use Rattle.figures_text.specs.Summaries.{IsTableFrom}
 use Rattle.figures_text.specs.Table.{TextNames}
-use Rattle.window_engine.proofs.Bytes.{appends_more, appends_nothing}
+use Rattle.window_text.proofs.Bytes.{appends_more, appends_nothing}
 use Rattle.sessions.specs.declared.fault.SessionFault.{SessionFault}
 use Rattle.sessions.specs.declared.fault.SessionFault.TheVariants.{WriteFailed, NoMemory, CountFull}
 use Rattle.sessions.specs.Ended.{SessionEnded}

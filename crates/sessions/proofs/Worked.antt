@@ -16,8 +16,8 @@ use Rattle.window_engine.specs.declared.fault.Stop.{Stop}
 use Rattle.window_engine.specs.declared.fault.Stop.TheVariants.{End, Until}
 use Rattle.window_engine.specs.Engines.{Commits, EngineValue, IsStop, SinkTakes, sink_failures}
 use Rattle.window_engine.specs.Text.{text_from}
-use Rattle.window_engine.proofs.Bytes.{appends_more, appends_nothing, take_past}
-use Rattle.window_engine.proofs.Numbered.{text_both}
+use Rattle.window_text.proofs.Bytes.{appends_more, appends_nothing, take_past}
+use Rattle.window_text.proofs.Numbered.{text_both}
 use Rattle.window_engine.proofs.TooMany.{earlier_full}
 use Rattle.sessions.specs.declared.fault.SessionFault.{SessionFault}
 use Rattle.sessions.specs.declared.fault.SessionFault.TheVariants.{WriteFailed, NoMemory}

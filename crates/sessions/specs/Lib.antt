@@ -15,6 +15,7 @@ pub mod FiguresOutput
 pub mod FiguresPlan
 pub mod NameColumns
 pub mod Input
+pub mod Namings
 pub mod Output
 pub mod Session
 pub mod Debug

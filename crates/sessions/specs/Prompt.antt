@@ -3,7 +3,7 @@ use Rattle.std.specs.Prelude.{◌≡◌, ◌<◌, ℕ, true, List, [], length, s
 use Rattle.scenario_image.specs.declared.parts.ScenarioParts.{ScenarioParts}
 use Rattle.table_run.specs.State.{State, initial}
 use Rattle.debugger.specs.Debugging.{debugging_opened}
-use Rattle.debug_session.specs.declared.command.Limits.{Limits}
+use Rattle.debug_session.specs.declared.naming.Naming.{Naming}
 use Rattle.debug_session.specs.Answers.{standing}
 use Rattle.debug_session.specs.Sessions.{limits_of}
 use Rattle.debug_session.specs.Prompt.{Ask, AtPrompt, Typed, TypedOutput, AreInTime, IsSoFar, IsToEnd, lines_in, none_quits, unmoved}
@@ -12,6 +12,7 @@ use Rattle.sessions.specs.declared.fault.SessionFault.TheVariants.{TooLong, Refu
 use Rattle.sessions.specs.FileName.{shown_name}
 use Rattle.sessions.specs.Ended.{SessionEnded, writes_after}
 use Rattle.sessions.specs.Input.{InputHasScenario, InputHasFault}
+use Rattle.sessions.specs.Namings.{IsNamingOf}
 use Rattle.sessions.specs.Nodes.{HasGroups}
 use Rattle.sessions.specs.Session.{IsWithin}
 use Rattle.sessions.specs.Streams.{Streams, IsInputOf}
@@ -19,37 +20,37 @@ use Rattle.sessions.specs.Written.{Writes, IsBeginningOf}
 use Rattle.window_engine.specs.Failures.{counted}
 
 -- how the lines that were typed ended a session, and what it has put out: done, the answers to the lines up to `quit`, or to all; where reading a line failed, the answers to the lines before; where the output failed, a beginning of the answers
-abbrev pub IsTypedEnd : Limits → State → AtPrompt → List (List ℕ) → SessionEnded → Streams → Streams → Type 0
-IsTypedEnd limits start old lines (Ok done) before after = IsSoFar limits start old lines before.written after.written × IsToEnd lines after.typed
-IsTypedEnd limits start old lines (Err ReadFailed) before after = IsSoFar limits start old lines before.written after.written × (none_quits lines ≡ true)
-IsTypedEnd limits start old lines (Err WriteFailed) before after = Writes (IsBeginningOf (TypedOutput limits start lines old)) before.written after.written × (none_quits lines ≡ true)
-IsTypedEnd limits start old lines _ before after = ⊥
+abbrev pub IsTypedEnd : Naming → State → AtPrompt → List (List ℕ) → SessionEnded → Streams → Streams → Type 0
+IsTypedEnd naming start old lines (Ok done) before after = IsSoFar naming start old lines before.written after.written × IsToEnd lines after.typed
+IsTypedEnd naming start old lines (Err ReadFailed) before after = IsSoFar naming start old lines before.written after.written × (none_quits lines ≡ true)
+IsTypedEnd naming start old lines (Err WriteFailed) before after = Writes (IsBeginningOf (TypedOutput naming start lines old)) before.written after.written × (none_quits lines ≡ true)
+IsTypedEnd naming start old lines _ before after = ⊥
 
 -- a session at a prompt that ended so, from where it stands: whenever it asked for a line, it had answered those before it, whatever came later
-pub record IsTypedSession (limits : Limits) (start : State) (old : AtPrompt) (ended : SessionEnded) (before after : Streams) : Type 0 where
+pub record IsTypedSession (naming : Naming) (start : State) (old : AtPrompt) (ended : SessionEnded) (before after : Streams) : Type 0 where
   pub asks : List Ask
   pub typed : Typed before.typed after.typed asks
-  pub in_time : AreInTime limits start old before.written [] asks
-  pub ending : IsTypedEnd limits start old (lines_in asks) ended before after
+  pub in_time : AreInTime naming start old before.written [] asks
+  pub ending : IsTypedEnd naming start old (lines_in asks) ended before after
 
 -- no line was asked for, and nothing was written
 pub record IsUnbegun (before after : Streams) : Type 0 where
   pub untyped : Typed before.typed after.typed []
   pub unwritten : after.written ≡ before.written
 
--- the input has a scenario, for whose nodes the text names groups, and a session at a prompt over it ended so
+-- the input has a scenario, for whose nodes the text names groups, and a session at a prompt over it ended so, which knows the names of the input
 abbrev pub IsAtPrompt : List ℕ → List ℕ → SessionEnded → Streams → Streams → Type 0
 IsAtPrompt groups input ended before after =
-    IsWithin input × ((p : ScenarioParts) × InputHasScenario input p × HasGroups groups p × IsTypedSession (limits_of p) (initial p) (unmoved (standing (debugging_opened (initial p)))) ended before after)
+    IsWithin input × ((p : ScenarioParts) × InputHasScenario input p × HasGroups groups p × (naming : Naming) × IsNamingOf input (limits_of p) naming × IsTypedSession naming (initial p) (unmoved (standing (debugging_opened (initial p)))) ended before after)
 
 -- the input has a scenario, for whose nodes the text names no groups
 abbrev pub IsUngrouped : List ℕ → List ℕ → Type 0
 IsUngrouped groups input = IsWithin input × ((p : ScenarioParts) × InputHasScenario input p × ¬ HasGroups groups p)
 
--- a session at a prompt over a scenario ended so: memory was refused before the first line, or lines were typed
-abbrev pub IsOverScenario : ScenarioParts → SessionEnded → Streams → Streams → Type 0
-IsOverScenario p (Err NoMemory) before after = IsUnbegun before after
-IsOverScenario p ended before after = IsTypedSession (limits_of p) (initial p) (unmoved (standing (debugging_opened (initial p)))) ended before after
+-- a session at a prompt over a scenario whose parts are called so ended so: memory was refused before the first line, or lines were typed
+abbrev pub IsOverScenario : Naming → ScenarioParts → SessionEnded → Streams → Streams → Type 0
+IsOverScenario naming p (Err NoMemory) before after = IsUnbegun before after
+IsOverScenario naming p ended before after = IsTypedSession naming (initial p) (unmoved (standing (debugging_opened (initial p)))) ended before after
 
 -- why a session at a prompt over this input ends so, and what came of its streams by then: each end has its row
 abbrev pub IsPromptOver : List ℕ → List ℕ → SessionEnded → Streams → Streams → Type 0

@@ -62,7 +62,7 @@ pub record HasWritten (IsMade : SessionEnded → List ℕ → Type 0) (ended : S
 
 -- lines were typed, from where a prompt stands
 pub record WasTyped (prompt : Prompt) (ended : SessionEnded) (now after : Streams) : Type 0 where
-  pub session : IsTypedSession prompt.limits prompt.dialogue.debugger.start (at_prompt prompt.dialogue) ended now after
+  pub session : IsTypedSession prompt.naming prompt.dialogue.debugger.start (at_prompt prompt.dialogue) ended now after
   pub reads : after.read_failures ≡ reads_after ended now.read_failures
   pub writes : after.write_failures ≡ writes_after ended now.write_failures
 

@@ -2,7 +2,7 @@
 use Rattle.std.specs.Prelude.{◌≡◌, ℕ, true, false, List, [], ◌∷◌, Result, Ok, Err}
 use Rattle.std.specs.Io.KnownBytes.{Appends}
 use Rattle.table_run.specs.State.{State}
-use Rattle.debug_session.specs.declared.command.Limits.{Limits}
+use Rattle.debug_session.specs.declared.naming.Naming.{Naming}
 use Rattle.debug_session.specs.Prompt.{Ask, AtPrompt, Typed, TypedAnswers, IsTypedOut, is_quit, answer_out}
 use Rattle.sessions.specs.declared.fault.SessionFault.{SessionFault}
 use Rattle.sessions.specs.declared.fault.SessionFault.TheVariants.{ReadFailed, WriteFailed}
@@ -17,21 +17,21 @@ pub record IsAsked (ask : Ask) (before after : Streams) : Type 0 where
   pub seen : ask.seen ≡ before.written
 
 -- a line was asked for and answered
-pub record IsAnswered (limits : Limits) (start : State) (old new : AtPrompt) (before after : Streams) : Type 0 where
+pub record IsAnswered (naming : Naming) (start : State) (old new : AtPrompt) (before after : Streams) : Type 0 where
   pub ask : Ask
   pub asked : IsAsked ask before after
   pub goes_on : is_quit ask.line ≡ false
   pub said : List ℕ
-  pub answers : TypedAnswers limits start ask.line old new said
+  pub answers : TypedAnswers naming start ask.line old new said
   pub put : Appends before.written after.written (answer_out said)
 
 -- or the writer failed over the answer
-pub record IsCutOff (limits : Limits) (start : State) (old new : AtPrompt) (before after : Streams) : Type 0 where
+pub record IsCutOff (naming : Naming) (start : State) (old new : AtPrompt) (before after : Streams) : Type 0 where
   pub ask : Ask
   pub asked : IsAsked ask before after
   pub goes_on : is_quit ask.line ≡ false
   pub said : List ℕ
-  pub answers : TypedAnswers limits start ask.line old new said
+  pub answers : TypedAnswers naming start ask.line old new said
   pub put : Writes (IsBeginningOf (λ all. all ≡ answer_out said)) before.written after.written
 
 -- the line is `quit`
@@ -49,10 +49,10 @@ pub record IsSilent (old new : AtPrompt) (before after : Streams) : Type 0 where
   pub unwritten : after.written ≡ before.written
 
 -- what a turn that ended so did
-abbrev pub IsTurn : Limits → State → AtPrompt → AtPrompt → Result Turn SessionFault → Streams → Streams → Type 0
-IsTurn limits start old new (Ok Answered) before after = IsAnswered limits start old new before after
-IsTurn limits start old new (Ok Quit) before after = IsQuitting old new before after
-IsTurn limits start old new (Ok NoLine) before after = IsSilent old new before after × IsTypedOut after.typed
-IsTurn limits start old new (Err ReadFailed) before after = IsSilent old new before after
-IsTurn limits start old new (Err WriteFailed) before after = IsCutOff limits start old new before after
-IsTurn limits start old new _ before after = ⊥
+abbrev pub IsTurn : Naming → State → AtPrompt → AtPrompt → Result Turn SessionFault → Streams → Streams → Type 0
+IsTurn naming start old new (Ok Answered) before after = IsAnswered naming start old new before after
+IsTurn naming start old new (Ok Quit) before after = IsQuitting old new before after
+IsTurn naming start old new (Ok NoLine) before after = IsSilent old new before after × IsTypedOut after.typed
+IsTurn naming start old new (Err ReadFailed) before after = IsSilent old new before after
+IsTurn naming start old new (Err WriteFailed) before after = IsCutOff naming start old new before after
+IsTurn naming start old new _ before after = ⊥

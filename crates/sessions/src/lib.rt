@@ -17,6 +17,7 @@ pub mod groups;
 mod input;
 mod means;
 mod name_column;
+mod naming;
 mod nearest;
 pub mod outcome;
 mod output;

@@ -12,7 +12,7 @@ use strsim::generic_levenshtein;
 const MOST_WORD: usize = 32;
 
 /// The names, in the order in which a word that begins several of them is read.
-const NAMES: [CommandName; 16] = [
+const NAMES: [CommandName; 17] = [
     CommandName::Step,
     CommandName::Back,
     CommandName::Break,
@@ -29,6 +29,7 @@ const NAMES: [CommandName; 16] = [
     CommandName::Why,
     CommandName::Goto,
     CommandName::Where,
+    CommandName::Names,
 ];
 
 /// How a name is spelled.
@@ -52,6 +53,7 @@ fn spelling(name: CommandName) -> &'static str
         CommandName::Why => "why",
         CommandName::Goto => "goto",
         CommandName::Where => "where",
+        CommandName::Names => "names",
     }
 }
 

@@ -5,7 +5,6 @@ ghost use Rattle.table_run.specs.State.{initial};
 ghost use Rattle.debugger.specs.Debugging.{debugging_opened};
 ghost use Rattle.debug_session.specs.Prompt.{TypedAnswers, at_prompt, is_quit, answer_out};
 ghost use Rattle.debug_session.specs.Memos.{no_memo};
-ghost use Rattle.debug_session.specs.Sessions.{limits_of};
 ghost use Rattle.sessions.specs.Ended.{writes_after, reads_after};
 ghost use Rattle.sessions.specs.Prompt.{IsTypedSession};
 ghost use Rattle.sessions.specs.Rest.{BeginsSession, IsPromptDone, WasTyped};
@@ -17,6 +16,7 @@ ghost use Rattle.window_engine.specs.Failures.{failures_after};
 
 use crate::fault::SessionFault;
 use crate::means::{Means, SessionTools};
+use crate::naming::naming_of;
 use crate::output::put_all;
 use crate::refused_line::tell_refused;
 use crate::rest::Rest;
@@ -25,7 +25,7 @@ use crate::scenario_input::reported_scenario;
 use crate::source::Source;
 use command_line::notes::Notes;
 use command_line::sharing::Sharing;
-use debug_session::{Dialogue, Limits, MOST_LINE, Said, answer_typed, is_quit, is_refusal};
+use debug_session::{Dialogue, MOST_LINE, Naming, Said, answer_typed, is_quit, is_refusal};
 use debugger::Debugger;
 use scenario_image::Scenario;
 use std::alloc::{AllocError, Global};
@@ -48,7 +48,7 @@ pub(crate) enum Turn {
 /// Puts out the answer to a line; that the line is refused is told beside it.
 fn put_answer<W: Sink, N: Notes>(
     alloc: Global,
-    limits: Limits,
+    naming: &Naming,
     line: &[u8],
     said: &Said,
     writer: &mut W,
@@ -59,7 +59,7 @@ fn put_answer<W: Sink, N: Notes>(
     ensures failures { W.failures writer.new ≡ failures_after result (W.failures writer.old) }
 {
     if is_refusal(said.as_slice()) {
-        tell_refused(alloc, limits, line, said.as_slice(), notes);
+        tell_refused(alloc, naming, line, said.as_slice(), notes);
         return Ok(());
     }
     put_all(writer, said.as_slice())
@@ -69,25 +69,25 @@ fn put_answer<W: Sink, N: Notes>(
 fn answer_line<H: Threads + Wait + Sync>(
     tools: &SessionTools<H>,
     dialogue: &mut Dialogue,
-    limits: Limits,
+    naming: &Naming,
     line: &[u8],
     said: &mut Said,
 )
-    ensures answers { is_quit line.now ≡ false → TypedAnswers limits dialogue.old.debugger.start line.now (at_prompt dialogue.old) (at_prompt dialogue.new) said.new }
+    ensures answers { is_quit line.now ≡ false → TypedAnswers naming.now dialogue.old.debugger.start line.now (at_prompt dialogue.old) (at_prompt dialogue.new) said.new }
     ensures start { dialogue.new.debugger.start ≡ dialogue.old.debugger.start }
 {
     if tools.is_alone {
-        answer_typed(&Alone, tools.gate, dialogue, limits, line, said);
+        answer_typed(&Alone, tools.gate, dialogue, naming, line, said);
     } else {
         let hands = Several { rt: tools.rt };
-        answer_typed(&hands, tools.gate, dialogue, limits, line, said);
+        answer_typed(&hands, tools.gate, dialogue, naming, line, said);
     }
 }
 
 /// Asks for a line, and answers it.
 fn take_turn<R: Source, W: Sink, H: Threads + Wait + Sync, N: Notes>(
     tools: &SessionTools<H>,
-    limits: Limits,
+    naming: &Naming,
     dialogue: &mut Dialogue,
     room: &mut [u8],
     said: &mut Said,
@@ -97,7 +97,7 @@ fn take_turn<R: Source, W: Sink, H: Threads + Wait + Sync, N: Notes>(
 ) -> Result<Turn, SessionFault>
     requires room { 65536 < length room.old }
     ensures room { length room.new ≡ length room.old }
-    ensures turn { let seen = streams_of R.failures R.typed W.failures W.contents in IsTurn limits dialogue.old.debugger.start (at_prompt dialogue.old) (at_prompt dialogue.new) result (seen reader.old writer.old) (seen reader.new writer.new) }
+    ensures turn { let seen = streams_of R.failures R.typed W.failures W.contents in IsTurn naming.now dialogue.old.debugger.start (at_prompt dialogue.old) (at_prompt dialogue.new) result (seen reader.old writer.old) (seen reader.new writer.new) }
     ensures start { dialogue.new.debugger.start ≡ dialogue.old.debugger.start }
     ensures reads { R.failures reader.new ≡ reads_after result (R.failures reader.old) }
     ensures writes { W.failures writer.new ≡ writes_after result (W.failures writer.old) }
@@ -110,8 +110,8 @@ fn take_turn<R: Source, W: Sink, H: Threads + Wait + Sync, N: Notes>(
     if is_quit(line) {
         return Ok(Turn::Quit);
     }
-    answer_line(tools, dialogue, limits, line, said);
-    put_answer(tools.alloc, limits, line, said, writer, notes)?;
+    answer_line(tools, dialogue, naming, line, said);
+    put_answer(tools.alloc, naming, line, said, writer, notes)?;
     Ok(Turn::Answered)
 }
 
@@ -119,7 +119,7 @@ fn take_turn<R: Source, W: Sink, H: Threads + Wait + Sync, N: Notes>(
 #[tactic(none)]
 fn answer_lines<R: Source, W: Sink, H: Threads + Wait + Sync, N: Notes>(
     tools: &SessionTools<H>,
-    limits: Limits,
+    naming: &Naming,
     dialogue: &mut Dialogue,
     room: &mut [u8],
     said: &mut Said,
@@ -128,12 +128,12 @@ fn answer_lines<R: Source, W: Sink, H: Threads + Wait + Sync, N: Notes>(
     notes: &mut N,
 ) -> Result<(), SessionFault>
     requires room { 65536 < length room.old }
-    ensures session { let seen = streams_of R.failures R.typed W.failures W.contents in IsTypedSession limits dialogue.old.debugger.start (at_prompt dialogue.old) result (seen reader.old writer.old) (seen reader.new writer.new) }
+    ensures session { let seen = streams_of R.failures R.typed W.failures W.contents in IsTypedSession naming.now dialogue.old.debugger.start (at_prompt dialogue.old) result (seen reader.old writer.old) (seen reader.new writer.new) }
     ensures reads { R.failures reader.new ≡ reads_after result (R.failures reader.old) }
     ensures writes { W.failures writer.new ≡ writes_after result (W.failures writer.old) }
 {
     for _ in tools.rt.forever() {
-        match take_turn(tools, limits, dialogue, room, said, reader, writer, notes)? {
+        match take_turn(tools, naming, dialogue, room, said, reader, writer, notes)? {
             Turn::Answered => {}
             Turn::Quit => return Ok(()),
             Turn::NoLine => return Ok(()),
@@ -149,8 +149,8 @@ pub(crate) struct Prompt {
     pub room: Vec<u8>,
     /// Who is asked, and what was asked for last.
     pub dialogue: Dialogue,
-    /// The scenario's limits.
-    pub limits: Limits,
+    /// How the scenario's nodes, links and flows are called.
+    pub naming: Naming,
     /// The answer to a line.
     pub said: Said,
     /// Whether the calling thread alone moves.
@@ -164,19 +164,20 @@ fn room_for_line(alloc: Global) -> Result<Vec<u8>, AllocError>
     vec![in alloc; 0; MOST_LINE + 1]
 }
 
-/// Opens a prompt over a scenario.
+/// Opens a prompt over a scenario whose nodes, links and flows are called so.
 fn open_prompt(
     alloc: Global,
     workers: usize,
     scenario: &Scenario,
     partition: Partition,
+    naming: Naming,
 ) -> Result<Prompt, AllocError>
     requires partition { length partition ≡ length scenario.now.nodes }
     requires workers { (0 < workers) × (workers ≤ 64) }
     ensures room { IfOk result (λ prompt. 65536 < length prompt.room.items) }
     ensures debugger { IfOk result (λ prompt. prompt.dialogue.debugger ≡ debugging_opened (initial scenario.now)) }
     ensures memo { IfOk result (λ prompt. prompt.dialogue.memo ≡ no_memo) }
-    ensures limits { IfOk result (λ prompt. prompt.limits ≡ limits_of scenario.now) }
+    ensures naming { IfOk result (λ prompt. prompt.naming ≡ naming) }
 {
     let room = room_for_line(alloc)?;
     let is_alone = is_alone(workers, &partition);
@@ -184,7 +185,7 @@ fn open_prompt(
     Ok(Prompt {
         room,
         dialogue: Dialogue::new(debugger),
-        limits: Limits::of(scenario),
+        naming,
         said: Said::new(alloc),
         is_alone,
     })
@@ -203,7 +204,8 @@ pub(crate) fn begin_prompt<N: Notes>(
 {
     let scenario = reported_scenario(means, input, notes)?;
     let partition = groups_to_debug(means, sharing, &scenario, notes)?;
-    let prompt = open_prompt(means.alloc, sharing.workers(), &scenario, partition)?;
+    let naming = naming_of(means.alloc, &scenario, input)?;
+    let prompt = open_prompt(means.alloc, sharing.workers(), &scenario, partition, naming)?;
     drop(scenario);
     Ok(Rest::Typed(prompt))
 }
@@ -228,7 +230,7 @@ pub(crate) fn answer_prompt<R: Source, W: Sink, H: Threads + Wait + Sync, N: Not
     };
     let ended = answer_lines(
         &tools,
-        prompt.limits,
+        &prompt.naming,
         &mut prompt.dialogue,
         prompt.room.as_mut_slice(),
         &mut prompt.said,

@@ -2,9 +2,9 @@
 
 use crate::nearest::{command_begun, first_word, tell_nearest};
 use command_line::notes::{Notes, Numbers};
-use command_line::reasons::meaning_of;
-use debug_session::{CommandName, Limits};
-use std::alloc::Global;
+use command_line::reasons::{meaning_of, shown_bytes};
+use debug_session::{CommandName, Misnamed, Naming, PartSort, misnamed_in};
+use std::alloc::{AllocError, Global};
 use std::str;
 
 /// The code of a refusal, which stands behind its first word.
@@ -62,12 +62,48 @@ fn has_time(line: &[u8]) -> bool {
     matches!(command_begun(line), Some(CommandName::Until))
 }
 
+/// A sort of parts, as one of them is told of.
+fn one_of(sort: PartSort) -> &'static str {
+    match sort {
+        PartSort::Node => "a node",
+        PartSort::Link => "a link",
+        PartSort::Flow => "a flow",
+    }
+}
+
+/// Which sort of part it is that a word names.
+fn reported_sort(alloc: Global, found: &Misnamed<'_>) -> Result<String, AllocError> {
+    let mut reported = String::new(alloc);
+    reported.push_str("tcpsim: ")?;
+    let word = shown_bytes(alloc, found.word)?;
+    reported.push_str(word.as_str())?;
+    reported.push_str(" is ")?;
+    reported.push_str(one_of(found.sort))?;
+    reported.push_str(": see help numbers")?;
+    Ok(reported)
+}
+
+/// Tells of a line that may have a name or a number that is none where it stands: a part of another sort
+/// that has this name, where there is memory to say it, and which numbers there are.
+fn tell_parts<N: Notes>(alloc: Global, naming: &Naming, line: &[u8], notes: &mut N) {
+    if let Some(found) = misnamed_in(naming, line) {
+        if let Ok(reported) = reported_sort(alloc, &found) {
+            notes.refusal_means(reported.as_str());
+        }
+    }
+    notes.numbers(&Numbers {
+        nodes: naming.limits.nodes,
+        links: naming.limits.links,
+        flows: naming.limits.flows,
+    });
+}
+
 /// Tells that a line is refused, and what that means; where it names no command, the nearest one, or
-/// what does the same here; which conditions and units there are; and where a number may be none of the
-/// scenario's, which it has.
+/// what does the same here; which conditions and units there are; and where a name or a number may be
+/// none of the scenario's, which there are.
 pub(crate) fn tell_refused<N: Notes>(
     alloc: Global,
-    limits: Limits,
+    naming: &Naming,
     line: &[u8],
     refusal: &[u8],
     notes: &mut N,
@@ -86,10 +122,6 @@ pub(crate) fn tell_refused<N: Notes>(
         notes.refusal_means(UNITS);
     }
     if code == "B3" && has_numbers(line) {
-        notes.numbers(&Numbers {
-            nodes: limits.nodes,
-            links: limits.links,
-            flows: limits.flows,
-        });
+        tell_parts(alloc, naming, line, notes);
     }
 }

@@ -11,7 +11,7 @@ returns-in_err-gathered c =
     let word = c.in-Some.word.now in
     let after = words_in c.in-Some.after.now in
     let refusal = c.in_err-gathered.field-0.0 in
-    let refused : Err refusal ≡ with_word c.args.limits g g.awaits word = search rules in
+    let refused : Err refusal ≡ with_word c.args.naming.now g g.awaits word = search rules in
     let parted : rest ≡ word ∷ after = search rules in
     let same : c.from_residual.result ≡ Err refusal = search rules in
-    same ∙ one_refused c.args.limits g rest (gathering c.args.limits (Ok none_gathered) (words_in c.args.line.now)) c.loop-word.invariant word after refusal parted refused
+    same ∙ one_refused c.args.naming.now g rest (gathering c.args.naming.now (Ok none_gathered) (words_in c.args.line.now)) c.loop-word.invariant word after refusal parted refused

@@ -24,7 +24,7 @@ returns-in-Some-clause-answers g c goes_on =
     let reported = c.show_past in
     let report = c.report_of-report.ensures ∙ ap (report_of c.in-Some.left) c.position-from.ensures.count in
     let gone = gone_past (report_of c.in-Some.left here.debugger.shown.position) (MoveGoesTo c.in-Some.left here.debugger) here.debugger moved.new.debugger reported.new.debugger c.position-from.result c.report_of-report.result moved.result reported.new.said c.position-from.ensures.count report moved.ensures.moved moved.ensures.goes moved.ensures.err reported.ensures.reported reported.ensures.refused in
-    typed_left_answered old here reported.new.debugger (TypedAnswers c.args.limits old.debugger.start c.args.line.now (at_prompt old)) c.in-Some.left reported.new.said (c.in-Some.ensures.answers goes_on) gone
+    typed_left_answered c.args.naming.now old here reported.new.debugger (TypedAnswers c.args.naming.now old.debugger.start c.args.line.now (at_prompt old)) c.in-Some.left reported.new.said (c.in-Some.ensures.answers goes_on) gone
 
 pub returns-in-Some-clause-start : goal.returns-in-Some-clause-start
 returns-in-Some-clause-start g c =

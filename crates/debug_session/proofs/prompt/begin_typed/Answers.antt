@@ -6,7 +6,7 @@ use Rattle.debug_session.proofs.prompt.begin_typed.Goals as goal
 pub returns-then-is_long-clause-answers : goal.returns-then-is_long-clause-answers
 returns-then-is_long-clause-answers c goes_on =
     let old = at_prompt c.args.dialogue.now in
-    long_refused c.args.limits c.args.dialogue.now.debugger.start c.args.line.now old old c.say_refused.new.self (sym c.is_long.ensures ∙ c.if-is_long.true) (record { same = refl; reported = c.say_refused.ensures })
+    long_refused c.args.naming.now c.args.dialogue.now.debugger.start c.args.line.now old old c.say_refused.new.self (sym c.is_long.ensures ∙ c.if-is_long.true) (record { same = refl; reported = c.say_refused.ensures })
 
 pub returns-then-is_long-clause-start : goal.returns-then-is_long-clause-start
 returns-then-is_long-clause-start c = refl
@@ -15,10 +15,10 @@ pub returns-else-is_long-clause-answers : goal.returns-else-is_long-clause-answe
 returns-else-is_long-clause-answers c goes_on =
     let start = c.args.dialogue.now.debugger.start in
     let old = at_prompt c.args.dialogue.now in
-    let limits = c.args.limits in
+    let naming = c.args.naming.now in
     let line = c.args.line.now in
-    typed_as c.args.dialogue.now c.follow_typed.new.dialogue (AnswersTyped limits start line old) (TypedAnswers limits start line old) c.follow_typed.result c.follow_typed.new.said
-    (λ at said follows. short_followed limits start line old at said (sym c.is_long.ensures ∙ c.if-is_long.false) goes_on follows) c.follow_typed.ensures.answers
+    typed_as c.args.naming.now c.args.dialogue.now c.follow_typed.new.dialogue (AnswersTyped naming start line old) (TypedAnswers naming start line old) c.follow_typed.result c.follow_typed.new.said
+    (λ at said follows. short_followed naming start line old at said (sym c.is_long.ensures ∙ c.if-is_long.false) goes_on follows) c.follow_typed.ensures.answers
 
 pub returns-else-is_long-clause-start : goal.returns-else-is_long-clause-start
 returns-else-is_long-clause-start c = c.follow_typed.ensures.start

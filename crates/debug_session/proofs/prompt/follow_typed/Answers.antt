@@ -8,15 +8,15 @@ pub returns-in-None-clause-answers : goal.returns-in-None-clause-answers
 returns-in-None-clause-answers c =
     let start = c.args.dialogue.now.debugger.start in
     let old = at_prompt c.args.dialogue.now in
-    typed_as c.args.dialogue.now c.move_again.new.dialogue (MovesAgain start old.memo.last old) (AnswersTyped c.args.limits start c.args.line.now old) c.move_again.result c.move_again.new.said
-    (λ at said moves. is_again c.args.limits start c.args.line.now old at said c.in-None.ensures moves) c.move_again.ensures.moves
+    typed_as c.args.naming.now c.args.dialogue.now c.move_again.new.dialogue (MovesAgain c.args.naming.now start old.memo.last old) (AnswersTyped c.args.naming.now start c.args.line.now old) c.move_again.result c.move_again.new.said
+    (λ at said moves. is_again c.args.naming.now start c.args.line.now old at said c.in-None.ensures moves) c.move_again.ensures.moves
 
 pub returns-in-None-clause-start : goal.returns-in-None-clause-start
 returns-in-None-clause-start c = c.move_again.ensures.start
 
 pub returns-in-Some-Err-clause-answers : goal.returns-in-Some-Err-clause-answers
 returns-in-Some-Err-clause-answers c =
-    is_refused c.args.limits c.args.dialogue.now.debugger.start c.args.line.now (at_prompt c.args.dialogue.now) c.say_refused.new.self c.in-Some-Err.refusal (ap (λ r. Some r) (sym c.in-Some-Err.field-0-is) ∙ c.in-Some-Err.ensures) c.say_refused.ensures
+    is_refused c.args.naming.now c.args.dialogue.now.debugger.start c.args.line.now (at_prompt c.args.dialogue.now) c.say_refused.new.self c.in-Some-Err.refusal (ap (λ r. Some r) (sym c.in-Some-Err.field-0-is) ∙ c.in-Some-Err.ensures) c.say_refused.ensures
 
 pub returns-in-Some-Err-clause-start : goal.returns-in-Some-Err-clause-start
 returns-in-Some-Err-clause-start c = refl
@@ -26,8 +26,8 @@ returns-in-Some-Ok-clause-answers c =
     let start = c.args.dialogue.now.debugger.start in
     let old = at_prompt c.args.dialogue.now in
     let asked = c.in-Some-Ok.asked in
-    typed_as c.args.dialogue.now c.obey_at_prompt.new.dialogue (ObeysAtPrompt start asked old) (AnswersTyped c.args.limits start c.args.line.now old) c.obey_at_prompt.result c.obey_at_prompt.new.said
-    (λ at said obeys. is_obeyed c.args.limits start c.args.line.now old at said asked (ap (λ r. Some r) (sym c.in-Some-Ok.field-0-is) ∙ c.in-Some-Ok.ensures) obeys) c.obey_at_prompt.ensures.obeys
+    typed_as c.args.naming.now c.args.dialogue.now c.obey_at_prompt.new.dialogue (ObeysAtPrompt c.args.naming.now start asked old) (AnswersTyped c.args.naming.now start c.args.line.now old) c.obey_at_prompt.result c.obey_at_prompt.new.said
+    (λ at said obeys. is_obeyed c.args.naming.now start c.args.line.now old at said asked (ap (λ r. Some r) (sym c.in-Some-Ok.field-0-is) ∙ c.in-Some-Ok.ensures) obeys) c.obey_at_prompt.ensures.obeys
 
 pub returns-in-Some-Ok-clause-start : goal.returns-in-Some-Ok-clause-start
 returns-in-Some-Ok-clause-start c = c.obey_at_prompt.ensures.start

@@ -6,7 +6,7 @@ pub show_passed-requires : goal.show_passed-requires
 show_passed-requires c = has_from c.args.debugger.now c.move_to-moved.new.debugger c.move_to-moved.result c.position-from.result c.position-from.ensures.count c.position-from.ensures.on_run c.move_to-moved.ensures.moved c.move_to-moved.ensures.err
 
 pub returns-clause-obeyed : goal.returns-clause-obeyed
-returns-clause-obeyed c =
+returns-clause-obeyed c = λ naming.
     let d = c.args.debugger.now in
     (gone_on (StepGoesTo d.start 0 c.args.target) d c.move_to-moved.new.debugger c.show_passed.new.debugger c.position-from.result c.move_to-moved.result c.show_passed.new.said c.position-from.ensures.count c.move_to-moved.ensures.moved c.move_to-moved.ensures.goes c.move_to-moved.ensures.err c.show_passed.ensures.reported c.show_passed.ensures.refused).went
 

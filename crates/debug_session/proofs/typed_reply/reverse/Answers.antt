@@ -7,7 +7,7 @@ pub show_past-requires : goal.show_past-requires
 show_past-requires c = has_from c.args.debugger.now c.reverse-moved.new.self c.reverse-moved.result c.position-from.result c.position-from.ensures.count c.position-from.ensures.on_run c.reverse-moved.ensures.moved c.reverse-moved.ensures.err
 
 pub returns-clause-obeyed : goal.returns-clause-obeyed
-returns-clause-obeyed c =
+returns-clause-obeyed c = λ naming.
     let d = c.args.debugger.now in
     (gone_past back_to_break (ReverseGoesTo d.start d.breaks d.shown.position) d c.reverse-moved.new.self c.show_past.new.debugger c.position-from.result c.onwards-report.result c.reverse-moved.result c.show_past.new.said c.position-from.ensures.count c.onwards-report.ensures c.reverse-moved.ensures.moved c.reverse-moved.ensures.goes c.reverse-moved.ensures.err c.show_past.ensures.reported c.show_past.ensures.refused).went
 

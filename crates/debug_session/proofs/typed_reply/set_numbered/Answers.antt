@@ -12,7 +12,7 @@ pub set_fresh-requires-clause-few : goal.set_fresh-requires-clause-few
 set_fresh-requires-clause-few c = c.if-has_break.ensures.few
 
 pub returns-then-has_break-clause-obeyed : goal.returns-then-has_break-clause-obeyed
-returns-then-has_break-clause-obeyed c = set_again c.args.b c.args.debugger.now c.tell_number.new.said c.tell_number.ensures
+returns-then-has_break-clause-obeyed c = λ naming. set_again naming c.args.b c.args.debugger.now c.tell_number.new.said c.tell_number.ensures
 
 pub returns-then-has_break-clause-start : goal.returns-then-has_break-clause-start
 returns-then-has_break-clause-start c = refl

@@ -17,7 +17,7 @@ loop-init g c =
     record {
       can_next = tt;
       is_finite = tt;
-      so_far = none_yet c.args.limits c.args.dialogue.now.debugger.start (at_prompt c.args.dialogue.now) (seen c.args.reader.now c.args.writer.now);
+      so_far = none_yet c.args.naming.now c.args.dialogue.now.debugger.start (at_prompt c.args.dialogue.now) (seen c.args.reader.now c.args.writer.now);
       start = refl;
       room = c.requires.room;
       reads = refl;
@@ -34,14 +34,14 @@ returns-in_err-take_turn-clause-session g c =
     let before = seen c.loop.reader c.loop.writer in
     let after = seen c.take_turn.new.reader c.take_turn.new.writer in
     let fault = c.in_err-take_turn.field-0.0 in
-    let limits = c.args.limits in
+    let naming = c.args.naming.now in
     let old = at_prompt c.args.dialogue.now in
     let was = at_prompt c.loop.dialogue in
     let now = at_prompt c.take_turn.new.dialogue in
     let is : c.from_residual.result ≡ Err fault = search rules in
-    let turn = subst (λ (s : State). IsTurn limits s was now (Err fault) before after) c.loop.invariant.start c.in_err-take_turn.ensures.turn in
-    subst (λ (e : SessionEnded). IsTypedSession limits c.args.dialogue.now.debugger.start old e first after) (sym is)
-    (is_failed limits c.args.dialogue.now.debugger.start old was first before c.loop.invariant.so_far fault now after turn)
+    let turn = subst (λ (s : State). IsTurn naming s was now (Err fault) before after) c.loop.invariant.start c.in_err-take_turn.ensures.turn in
+    subst (λ (e : SessionEnded). IsTypedSession naming c.args.dialogue.now.debugger.start old e first after) (sym is)
+    (is_failed naming c.args.dialogue.now.debugger.start old was first before c.loop.invariant.so_far fault now after turn)
 
 pub returns-in_err-take_turn-clause-reads : goal.returns-in_err-take_turn-clause-reads
 returns-in_err-take_turn-clause-reads g c =
@@ -64,12 +64,12 @@ loop-preserved g c =
     let after = seen c.take_turn.new.reader c.take_turn.new.writer in
     let was = at_prompt c.loop.dialogue in
     let now = at_prompt c.take_turn.new.dialogue in
-    let here = subst (λ (t : Turn). IsTurn c.args.limits c.loop.dialogue.debugger.start was now (Ok t) before after) c.in-Answered.is c.in_ok-take_turn.ensures.turn in
-    let turn = subst (λ (s : State). IsAnswered c.args.limits s was now before after) c.loop.invariant.start here in
+    let here = subst (λ (t : Turn). IsTurn c.args.naming.now c.loop.dialogue.debugger.start was now (Ok t) before after) c.in-Answered.is c.in_ok-take_turn.ensures.turn in
+    let turn = subst (λ (s : State). IsAnswered c.args.naming.now s was now before after) c.loop.invariant.start here in
     record {
       can_next = tt;
       is_finite = tt;
-      so_far = one_more c.args.limits c.args.dialogue.now.debugger.start (at_prompt c.args.dialogue.now) was (seen c.args.reader.now c.args.writer.now) before c.loop.invariant.so_far now after turn;
+      so_far = one_more c.args.naming.now c.args.dialogue.now.debugger.start (at_prompt c.args.dialogue.now) was (seen c.args.reader.now c.args.writer.now) before c.loop.invariant.so_far now after turn;
       start = c.take_turn.ensures.start ∙ c.loop.invariant.start;
       room = omega (arith, c.loop.invariant.room, c.take_turn.ensures.room);
       reads = c.in_ok-take_turn.ensures.reads ∙ c.loop.invariant.reads;
@@ -83,9 +83,9 @@ returns-in-Quit g c =
     let after = seen c.take_turn.new.reader c.take_turn.new.writer in
     let was = at_prompt c.loop.dialogue in
     let now = at_prompt c.take_turn.new.dialogue in
-    let turn = subst (λ (t : Turn). IsTurn c.args.limits c.loop.dialogue.debugger.start was now (Ok t) before after) c.in-Quit.is c.in_ok-take_turn.ensures.turn in
+    let turn = subst (λ (t : Turn). IsTurn c.args.naming.now c.loop.dialogue.debugger.start was now (Ok t) before after) c.in-Quit.is c.in_ok-take_turn.ensures.turn in
     record {
-      session = has_quit c.args.limits c.args.dialogue.now.debugger.start (at_prompt c.args.dialogue.now) was (seen c.args.reader.now c.args.writer.now) before c.loop.invariant.so_far now after turn;
+      session = has_quit c.args.naming.now c.args.dialogue.now.debugger.start (at_prompt c.args.dialogue.now) was (seen c.args.reader.now c.args.writer.now) before c.loop.invariant.so_far now after turn;
       reads = c.in_ok-take_turn.ensures.reads ∙ c.loop.invariant.reads;
       writes = c.in_ok-take_turn.ensures.writes ∙ c.loop.invariant.writes;
     }
@@ -97,9 +97,9 @@ returns-in-NoLine g c =
     let after = seen c.take_turn.new.reader c.take_turn.new.writer in
     let was = at_prompt c.loop.dialogue in
     let now = at_prompt c.take_turn.new.dialogue in
-    let turn = subst (λ (t : Turn). IsTurn c.args.limits c.loop.dialogue.debugger.start was now (Ok t) before after) c.in-NoLine.is c.in_ok-take_turn.ensures.turn in
+    let turn = subst (λ (t : Turn). IsTurn c.args.naming.now c.loop.dialogue.debugger.start was now (Ok t) before after) c.in-NoLine.is c.in_ok-take_turn.ensures.turn in
     record {
-      session = has_no_line c.args.limits c.args.dialogue.now.debugger.start (at_prompt c.args.dialogue.now) was (seen c.args.reader.now c.args.writer.now) before c.loop.invariant.so_far now after turn.0 turn.1;
+      session = has_no_line c.args.naming.now c.args.dialogue.now.debugger.start (at_prompt c.args.dialogue.now) was (seen c.args.reader.now c.args.writer.now) before c.loop.invariant.so_far now after turn.0 turn.1;
       reads = c.in_ok-take_turn.ensures.reads ∙ c.loop.invariant.reads;
       writes = c.in_ok-take_turn.ensures.writes ∙ c.loop.invariant.writes;
     }

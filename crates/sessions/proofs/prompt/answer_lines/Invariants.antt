@@ -11,7 +11,7 @@ invariant-loop g l =
     record {
       can_next : (goal.iterator-loop g).can_next l.iterator';
       is_finite : (goal.iterator-loop g).is_finite l.iterator';
-      so_far : SoFar l.limits l.fn.dialogue.debugger.start (at_prompt l.fn.dialogue) (at_prompt l.dialogue) (seen l.fn.reader l.fn.writer) (seen l.reader l.writer);
+      so_far : SoFar l.naming l.fn.dialogue.debugger.start (at_prompt l.fn.dialogue) (at_prompt l.dialogue) (seen l.fn.reader l.fn.writer) (seen l.reader l.writer);
       start : l.dialogue.debugger.start ≡ l.fn.dialogue.debugger.start;
       room : 65536 < length l.room;
       reads : g.R.Source.failures l.reader ≡ g.R.Source.failures l.fn.reader;

@@ -23,7 +23,7 @@ returns-clause-turn g c =
       asked = record { typed = typed.typed; seen = refl };
       goes_on = sym (cut_quits room line count typed.cut wide) ∙ goes_on;
       said = c.answer_line.new.said;
-      answers = cut_answers c.args.limits c.args.dialogue.now.debugger.start room line count (at_prompt c.args.dialogue.now) (at_prompt c.answer_line.new.dialogue) c.answer_line.new.said typed.cut wide (c.answer_line.ensures.answers goes_on);
+      answers = cut_answers c.args.naming.now c.args.dialogue.now.debugger.start room line count (at_prompt c.args.dialogue.now) (at_prompt c.answer_line.new.dialogue) c.answer_line.new.said typed.cut wide (c.answer_line.ensures.answers goes_on);
       put = c.in_ok-put_answer.ensures.ok;
     }
 
@@ -55,13 +55,13 @@ returns-in_err-put_answer-clause-turn g c =
     let goes_on : is_quit (take count room) ≡ false = sym c.is_quit.ensures ∙ c.if-is_quit.false in
     let seen = streams_of g.R.Source.failures g.R.Source.typed g.W.Sink.failures g.W.Sink.contents in
     let is : c.from_residual-in_err-put_answer.result ≡ Err WriteFailed = search rules in
-    let P : Result Turn SessionFault → Type 0 = λ r. IsTurn c.args.limits c.args.dialogue.now.debugger.start (at_prompt c.args.dialogue.now) (at_prompt c.answer_line.new.dialogue) r (seen c.args.reader.now c.args.writer.now) (seen c.next_line.new.self c.put_answer.new.writer) in
+    let P : Result Turn SessionFault → Type 0 = λ r. IsTurn c.args.naming.now c.args.dialogue.now.debugger.start (at_prompt c.args.dialogue.now) (at_prompt c.answer_line.new.dialogue) r (seen c.args.reader.now c.args.writer.now) (seen c.next_line.new.self c.put_answer.new.writer) in
     subst P (sym is)
     (record {
       ask = record { line = line; seen = held };
       asked = record { typed = typed.typed; seen = refl };
       goes_on = sym (cut_quits room line count typed.cut wide) ∙ goes_on;
       said = c.answer_line.new.said;
-      answers = cut_answers c.args.limits c.args.dialogue.now.debugger.start room line count (at_prompt c.args.dialogue.now) (at_prompt c.answer_line.new.dialogue) c.answer_line.new.said typed.cut wide (c.answer_line.ensures.answers goes_on);
+      answers = cut_answers c.args.naming.now c.args.dialogue.now.debugger.start room line count (at_prompt c.args.dialogue.now) (at_prompt c.answer_line.new.dialogue) c.answer_line.new.said typed.cut wide (c.answer_line.ensures.answers goes_on);
       put = c.in_err-put_answer.ensures.err;
     })

@@ -1,0 +1,202 @@
+//! How the nodes, links and flows of a scenario are called.
+ghost use Rattle.std.specs.Prelude.{◌≡◌, ◌==◌, [], length, slice_index_or, IfOk, map};
+ghost use Rattle.scenario_asm.specs.Text.{number_among};
+ghost use Rattle.debug_session.specs.Input.{words_in};
+ghost use Rattle.debug_session.specs.Namings.{naming_by, by_numbers, count_of, names_of, sort_of, part_meant, one_part};
+
+use crate::command::Limits;
+use crate::grammar::{is, is_numeral, number_below, one_word};
+use crate::refusal::Refusal;
+use scenario_asm::NamedParts;
+use std::alloc::{AllocError, Global};
+use std::marker::Model;
+
+/// A sort of the parts of a scenario that have names.
+#[derive(Clone, Copy, Debug, PartialEq, Eq)]
+pub enum PartSort {
+    /// The nodes.
+    Node,
+    /// The links.
+    Link,
+    /// The flows.
+    Flow,
+}
+
+/// The names of all parts of a sort, in the order of their numbers; none of an image.
+#[derive(Drop)]
+pub struct PartNames {
+    names: Vec<Vec<u8>>,
+}
+
+impl Model for PartNames {
+    ghost use Rattle.std.specs.Prelude.{ℕ, List, map};
+
+    ghost Value = { List (List ℕ) };
+
+    ghost view = { λ n. map (λ name. name.items) n.names.items };
+}
+
+impl PartNames {
+    /// No names.
+    fn none(alloc: Global) -> PartNames
+        ensures { result ≡ [] }
+    {
+        PartNames {
+            names: Vec::new(alloc),
+        }
+    }
+
+    /// These names.
+    fn of(alloc: Global, names: &[&[u8]]) -> Result<PartNames, AllocError>
+        ensures { IfOk result (λ copies. copies ≡ map (λ name. name.now) names.now) }
+    {
+        let mut copies = Vec::new(alloc);
+        for name in names {
+            copies.push(Vec::from_slice(alloc, *name)?)?;
+        }
+        Ok(PartNames { names: copies })
+    }
+
+    /// How many there are.
+    pub(crate) fn len(&self) -> usize
+        ensures { result ≡ length self.now }
+    {
+        self.names.len()
+    }
+
+    /// Whether there is none.
+    pub(crate) fn is_empty(&self) -> bool
+        ensures { result ≡ (length self.now == 0) }
+    {
+        self.names.len() == 0
+    }
+
+    /// The name of the part of a number; no byte where it has none.
+    pub(crate) fn get(&self, number: usize) -> &[u8]
+        ensures { result.now ≡ slice_index_or self.now number [] }
+    {
+        if number < self.names.len() {
+            self.names[number].as_slice()
+        } else {
+            b""
+        }
+    }
+
+    /// The number of the part that has a name.
+    fn number_of(&self, name: &[u8]) -> Option<usize>
+        ensures { result ≡ number_among self.now name.now }
+    {
+        for index in 0..self.names.len() {
+            if is(self.names[index].as_slice(), name) {
+                return Some(index);
+            }
+        }
+        None
+    }
+}
+
+/// How the nodes, links and flows of a scenario are called.
+#[derive(Drop)]
+pub struct Naming {
+    /// Their numbers are below these.
+    pub limits: Limits,
+    /// The nodes' names.
+    pub nodes: PartNames,
+    /// The links' names.
+    pub links: PartNames,
+    /// The flows' names.
+    pub flows: PartNames,
+}
+
+impl Naming {
+    /// The names that a text declares, and numbers below these.
+    pub fn of(alloc: Global, limits: Limits, named: &NamedParts<'_>) -> Result<Naming, AllocError>
+        ensures { IfOk result (λ naming. naming ≡ naming_by limits named.now) }
+    {
+        let nodes = PartNames::of(alloc, &named.nodes)?;
+        let links = PartNames::of(alloc, &named.links)?;
+        let flows = PartNames::of(alloc, &named.flows)?;
+        Ok(Naming {
+            limits,
+            nodes,
+            links,
+            flows,
+        })
+    }
+
+    /// Numbers alone.
+    pub fn of_numbers(alloc: Global, limits: Limits) -> Naming
+        ensures { result ≡ by_numbers limits }
+    {
+        Naming {
+            limits,
+            nodes: PartNames::none(alloc),
+            links: PartNames::none(alloc),
+            flows: PartNames::none(alloc),
+        }
+    }
+
+    /// How many parts of a sort there are.
+    fn count(&self, sort: PartSort) -> u16
+        ensures { result ≡ count_of self.now.limits sort }
+    {
+        match sort {
+            PartSort::Node => self.limits.nodes,
+            PartSort::Link => self.limits.links,
+            PartSort::Flow => self.limits.flows,
+        }
+    }
+
+    /// The number of the part of a sort that has a name.
+    fn number_named(&self, sort: PartSort, name: &[u8]) -> Option<usize>
+        ensures { result ≡ number_among (names_of self.now sort) name.now }
+    {
+        match sort {
+            PartSort::Node => self.nodes.number_of(name),
+            PartSort::Link => self.links.number_of(name),
+            PartSort::Flow => self.flows.number_of(name),
+        }
+    }
+
+    /// The sort of the part that has a name.
+    pub(crate) fn sort_named(&self, name: &[u8]) -> Option<PartSort>
+        ensures { result ≡ sort_of self.now name.now }
+    {
+        if self.nodes.number_of(name).is_some() {
+            Some(PartSort::Node)
+        } else if self.links.number_of(name).is_some() {
+            Some(PartSort::Link)
+        } else if self.flows.number_of(name).is_some() {
+            Some(PartSort::Flow)
+        } else {
+            None
+        }
+    }
+
+    /// The number of the part of a sort that a word means.
+    pub fn part(&self, sort: PartSort, word: &[u8]) -> Option<u16>
+        ensures { result ≡ part_meant self.now sort word.now }
+    {
+        let count = self.count(sort);
+        if is_numeral(word) {
+            let number = number_below(word, u64::from(count))?;
+            return Some(number as u16);
+        }
+        let number = self.number_named(sort, word)?;
+        if number < usize::from(count) {
+            Some(number as u16)
+        } else {
+            None
+        }
+    }
+
+    /// The number of the part of a sort that the only word of a line means.
+    pub(crate) fn one_part(&self, sort: PartSort, line: &[u8]) -> Result<u16, Refusal>
+        ensures { result ≡ one_part self.now sort (words_in line.now) }
+    {
+        match one_word(line) {
+            None => Err(Refusal::B2),
+            Some(word) => self.part(sort, word).ok_or(Refusal::B3),
+        }
+    }
+}
