@@ -351,7 +351,8 @@ def prompts(pick, args):
     """Sessions at a prompt, over texts and images; now and then one that is refused."""
     for _ in range(args.count):
         scenario = short_scenario(pick)
-        data = image.save(scenario) if pick.random() < 0.1 else spelling.spelt(scenario, pick)
+        data = image.save(scenario) if pick.random() < 0.1 else spelling.spelt(scenario, pick, sessions.GRAMMAR)
+        scenario = command_line.read(data)
         if pick.random() < 0.03:
             data = spelling.mutated(data, pick)
         keys = sessions.any_session(pick, scenario, moments(scenario) or [0], args.steps)

@@ -11,7 +11,7 @@ import pytest
 import compare
 from compare import debugger, prompt
 from clone import TOP, ran
-from tcpsim_model import grammar, waits
+from tcpsim_model import conditions, grammar, marked, naming, waits
 from tcpsim_model.scenario import Refused
 
 ENOUGH = 400        # sessions in which a fault has to show
@@ -28,7 +28,9 @@ at_prompt = prompt.Prompt
 right = {name: getattr(place, name) for place, name in (
     (at_prompt, 'answer'), (at_prompt, 'quits'), (at_prompt, 'on_break'), (at_prompt, 'where'), (at_prompt, 'on_where'), (at_prompt, 'of_node'),
     (at_prompt, 'of_flow'), (at_prompt, 'move'), (prompt, 'time_in'), (prompt, 'numbered'), (prompt.Marked, 'is_met'), (waits, 'standing'),
-    (waits, 'waiting'), (prompt, 'edits'))}
+    (waits, 'waiting'), (prompt, 'edits'), (naming.Names, 'number_of'), (naming.Names, 'sort_of'),
+    (marked.Valued, 'changed_from'), (marked, 'of_port'), (marked, 'is_so'), (prompt, 'words_of'))}
+right['is_met on values'] = marked.Valued.is_met
 
 
 def empty_lines_do_nothing(self, line):
@@ -102,6 +104,48 @@ def only_the_present_position_is_known(self, words):
     return right['on_where'](self, words)
 
 
+def a_name_of_any_sort(self, sort, word):
+    return self.meant[word][1] if word in self.meant and self.meant[word][1] < self.counts[sort] else right['number_of'](self, sort, word)
+
+
+def names_cut_short(self, sort, word):
+    begun = [name for name in self.meant if name.startswith(word) and self.meant[name][0] == sort]
+    return right['number_of'](self, sort, min(begun, default=word))
+
+
+def words_of_the_grammar_are_no_names(self, sort, word):
+    if word in conditions.BEHIND:
+        raise Refused('B3')
+    return right['number_of'](self, sort, word)
+
+
+def seen_one_line_late(self, change, position):
+    return right['changed_from'](self, change, position - 1) if position > 1 else None
+
+
+def values_before_the_line(self, sort, value, position, drops):
+    if sort == b'change':
+        return right['is_met on values'](self, sort, value, position, drops)
+    self.seen[position - 1], kept = self.seen[position - 1][:1] * 2, self.seen[position - 1]
+    try:
+        return right['is_met on values'](self, sort, value, position, drops)
+    finally:
+        self.seen[position - 1] = kept
+
+
+def links_match_where_nothing_changes_them(port, now):
+    return {**right['of_port'](port, now), 'changes': object()}
+
+
+def the_wait_of_the_last(port, now):
+    return {**right['of_port'](port, now), b'wait': now - port.queue.entries[-1][1] if port.queue.entries else None}
+
+
+def droptail_counts_nothing(port, now):
+    found = right['of_port'](port, now)
+    return {**found, b'count': found[b'count'] or 0}
+
+
 def names_the_congestion_window(net, flow):
     return right['standing'](net, flow).replace('rwnd', 'cwnd')
 
@@ -118,7 +162,7 @@ FAULTS = {
     'a refused line takes the last move away': (1, at_prompt, 'answer', refused_lines_count_as_moves),
     'quit may have words behind': (1, at_prompt, 'quits', quit_may_have_words_behind),
     'one that is set answers the last number': (2, at_prompt, 'on_break', the_last_number_is_answered),
-    'a line is missing in help': (2, at_prompt, 'LAST_OF_HELP', ''),
+    'a line is missing in help': (2, prompt, 'last_of_help', lambda steps: ''),
     'breaks is break': (2, at_prompt, 'NAMES', {b'breaks': 2, **prompt.NAMES}),
     'eleven lines are shown': (3, prompt, 'MOST_SHOWN', 11),
     'a thousand lines are too many': (3, prompt, 'MOST_LINES', 999),
@@ -132,7 +176,7 @@ FAULTS = {
     'r is reverse': (6, at_prompt, 'NAMES', {b'reverse': 5, **prompt.NAMES}),
     'reverse stops where it is': (6, debugger.Debugger, 'reverse', back_to_where_it_is),
     'a breakpoint of two conditions matches either': (7, prompt.Marked, 'is_matched', matches_either),
-    'conditions are told in another order': (7, grammar, 'CONDITIONS', grammar.CONDITIONS[::-1]),
+    'conditions are told in another order': (7, conditions, 'OF_VALUES', dict(reversed(conditions.OF_VALUES.items()))),
     'a drop is at no link': (7, prompt.Marked, 'is_met', drops_are_at_no_link),
     'a stall that goes on matches again': (8, prompt.Marked, 'event', stalls_match_as_long_as_they_last),
     'the first ten lines are shown': (9, prompt, 'last_shown', prompt.first_shown),
@@ -140,6 +184,25 @@ FAULTS = {
     'goto goes one event further': (9, prompt.Marked, 'goto', a_position_is_one_further),
     'where knows where it is alone': (9, at_prompt, 'on_where', only_the_present_position_is_known),
     'w is where': (9, at_prompt, 'NAMES', {b'where': 9, **prompt.NAMES}),
+    'a name means the number of another sort': (10, naming.Names, 'number_of', a_name_of_any_sort),
+    'names can be cut short': (10, naming.Names, 'number_of', names_cut_short),
+    'a word of the grammar is no name': (10, naming.Names, 'number_of', words_of_the_grammar_are_no_names),
+    'the other sort is not told': (10, naming.Names, 'sort_of', lambda self, word: next((it for it in [right['sort_of'](self, word)] if it != 'link'), None)),
+    'links are listed first': (10, naming, 'SORTS', ('link', 'node', 'flow')),
+    'an image has names': (10, naming, 'NO_NAMES', 'node 0 n0\n'),
+    'n is no name behind help': (10, prompt, 'BEFORE_TOPICS', grammar.BEFORE_TOPICS[:-1]),
+    '< is <=': (11, marked, 'COMPARES', {**marked.COMPARES, '<': marked.COMPARES['<=']}),
+    '= is >=': (11, marked, 'COMPARES', {**marked.COMPARES, '=': marked.COMPARES['>=']}),
+    'a change is seen one line late': (11, marked.Valued, 'changed_from', seen_one_line_late),
+    'values are those before the line': (11, marked.Valued, 'is_met', values_before_the_line),
+    'a link matches where nothing changes it': (11, marked, 'of_port', links_match_where_nothing_changes_them),
+    'the last packet\'s wait is told': (11, marked, 'of_port', the_wait_of_the_last),
+    'drop-tail counts 0': (11, marked, 'of_port', droptail_counts_nothing),
+    'where none waits a wait is 0': (11, marked, 'is_so', lambda value, sign, bound: right['is_so'](value or 0, sign, bound)),
+    'a sign stands apart': (11, prompt, 'words_behind_break', lambda words, steps: words),
+    'a time is told without its unit': (11, prompt, 'words_of', lambda it: right['words_of'](it).replace('0ns', '0')),
+    'a moment is only forwards': (11, marked.Valued, 'moment', marked.Valued.until),
+    'a word with a unit is no moment': (11, prompt, 'UNIT', ()),
     'a word of four bytes has no nearest name': (1, prompt, 'MOST_WORD', 3),
     'the last of the nearest is told': (1, prompt, 'edits', lambda word, name: right['edits'](word, name) - list(prompt.NAMES).index(name) / 99),
     'a 64th breakpoint is refused': (1, debugger, 'MOST_BREAKS', 63),

@@ -20,7 +20,7 @@ def test_the_sources_are_read():
     """Some calls of each sort, read from the sources, so that no test here goes over nothing."""
     for crate, name, clauses in (('packet_chain', 'PacketCell::new', ['ok', 'err']),
                                  ('net_machine', 'Net::copy', ['']),
-                                 ('window_core', 'Window::new', None), ('window_engine', 'Sink::put', None),
+                                 ('window_core', 'Window::new', None), ('window_text', 'Sink::put', None),
                                  ('trace_text', 'line_text', ['ok', 'err'])):
         assert (crate, name) in calls()
         if clauses:

@@ -5,11 +5,14 @@ import re
 from clone import paths, read, read_text
 from tcpsim_model import prompt
 from tcpsim_model.scenario import Refused
+from tcpsim_model.texts import topics_in
 from tcpsim_model.command_line import read as scenario_in
+
+SHOWN = 10      # of the grammar's steps, those that the page has
 
 
 def session():
-    return prompt.Prompt(scenario_in(read(paths('two_timeouts_in_a_row')[0])), prompt.BUILT)
+    return prompt.Prompt(scenario_in(read(paths('two_timeouts_in_a_row')[0])), SHOWN)
 
 
 def refusal(line):
@@ -43,12 +46,12 @@ def test_names():
             found.append(name.encode())
             short = [name[:size] for size in range(1, len(name))]
             assert words(also) == [it for it in short if at_prompt.name_of(it.encode()) == name.encode()]
-    assert found == [name for name, step in prompt.NAMES.items() if step <= prompt.BUILT]
+    assert found == [name for name, step in prompt.NAMES.items() if step <= SHOWN]
 
 
 def test_topics():
     row, = (cells for cells in tables()['Line'] if 'help numbers' in cells[0])
-    assert words(row[0]) == [f'help {topic.decode()}' for topic in prompt.TOPICS]
+    assert words(row[0]) == [f'help {topic.decode()}' for topic in topics_in(SHOWN)]
     for topic in words(row[0]):
         assert refusal(topic) is None
 

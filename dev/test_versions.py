@@ -17,7 +17,7 @@ from build import declared, toolchain
 from clone import BUILT as PROGRAM, TOP, read, read_text
 from tcpsim import FORMATS, VERSIONS, __version__
 from tcpsim.sweeps.columns import FROM
-from tcpsim_model import figures, grammar, image, prompt
+from tcpsim_model import conditions, figures, grammar, image, prompt, texts
 from tcpsim_model.text import assemble
 
 BY_TIME = 4         # the number of the figures' format from which on they are there by time and with names
@@ -32,7 +32,8 @@ SUMS = {
                 3: '9a91d5ca7836e1db6338b0c9b9abbaa4966552d9744570a8f1eee96d5727dca2',
                 4: 'bf2d1450e862c4265a6f7b480fba19cbdcef70af53146c9474878741151a30d5'},
     'prompt': {8: '591e69b6d09eb58b3a7706631c570633ae5cbb70f80251582ec97e076f89f2be',
-               9: '2b3ffb7d232e7f32ed4c4fdef66fa8fb9482c1ae70ba3c084103ccf6512d9213'},
+               9: '2b3ffb7d232e7f32ed4c4fdef66fa8fb9482c1ae70ba3c084103ccf6512d9213',
+               10: 'cff69870124a5b401b163837671e65512d3d52bcf73fde372ebe619b716632c3'},
 }
 
 
@@ -44,9 +45,10 @@ def images(version):
     return [image.save(assemble(text), version) for text in samples('txt')]
 
 
-def prompt_words():
+def prompt_words(number):
     """All that the prompt's grammar has: its names with the steps that they came with, conditions, topics."""
-    return [repr(sorted(grammar.NAMES.items())).encode(), *grammar.CONDITIONS, *sorted(grammar.TOPICS)]
+    names = sorted((name, step) for name, step in grammar.NAMES.items() if step <= number)
+    return [repr(names).encode(), *conditions.behind(number), *sorted(texts.topics_in(number))]
 
 
 def named_by_time(scenario):
@@ -58,7 +60,7 @@ def named_by_time(scenario):
 def sum_of(format_, number):
     """What the samples of a format come to."""
     first = assemble(read('examples', 'one_segment.txt'))
-    parts = {'trace': lambda: samples('trace'), 'image': lambda: images(number), 'prompt': prompt_words,
+    parts = {'trace': lambda: samples('trace'), 'image': lambda: images(number), 'prompt': lambda: prompt_words(number),
              'figures': lambda: [re.sub(r'[^,]*$', '', figures.figures(first), flags=re.M).encode(),
                                  *([figures.figures(first, 2_000_000).encode()] if number >= FROM else []),
                                  *([named_by_time(first)] if number >= BY_TIME else [])]}[format_]()
@@ -92,7 +94,7 @@ def test_images_of_the_first_version_are_what_they_were():
 
 
 def test_the_model_has_the_same_numbers():
-    assert FORMATS['prompt'] == prompt.STEPS == prompt.BUILT
+    assert FORMATS['prompt'] == prompt.BUILT <= prompt.STEPS
     assert FORMATS['image'] == max(image.MAGIC)
 
 

@@ -1,18 +1,16 @@
-"""The grammar of the prompt: names, numbers, times and conditions as they are typed, and what help and refusals say."""
+"""The grammar of the prompt: names, numbers and times as they are typed, and what help and refusals say."""
 import re
 
-from tcpsim_model.debugger import MOST, breakpoint_of, number_to
+from tcpsim_model.debugger import MOST, number_to
 from tcpsim_model.scenario import Refused
 
 MOST_LINE = 65_536      # bytes
 MOST_WORD = 32          # bytes of a word whose nearest name is told
 # The names that a first word can begin, the first of them first, and the step that each came with.
 NAMES = {b'step': 1, b'back': 1, b'break': 1, b'breaks': 2, b'run': 1, b'reverse': 6, b'until': 1, b'state': 1, b'lines': 3,
-         b'delete': 2, b'clear': 1, b'help': 2, b'quit': 1, b'why': 5, b'goto': 9, b'where': 9}
-BEFORE_TOPICS = 8       # names of these steps go before a topic behind `help`, later ones behind it
-# The conditions of a breakpoint, in the order in which its words are told.
-CONDITIONS = (b'node', b'flow', b'kind', b'drop', b'link', b'byte')
-MOST_BYTE = 9 * 10**12      # of the greatest flow
+         b'delete': 2, b'clear': 1, b'help': 2, b'quit': 1, b'why': 5, b'goto': 9, b'where': 9, b'names': 10}
+# Names that go before a topic behind `help`; others go behind it.
+BEFORE_TOPICS = (*(name for name, step in NAMES.items() if step <= 8), b'names')
 # Of each name in the order of `help`: how it is used, what it does, what else there is to say, and an example.
 HELP = {
     b'step': ('step [K]', 'run the next K events (1)',
@@ -119,6 +117,7 @@ UNITS_TOLD = 'a time has a unit, ns, us, ms or s, as 1.5s: see help until'
 # The commands that can have the number of a node, a link or a flow: where one is refused, those that there are are told.
 NUMBERED = (b'break', b'state', b'why')
 PLACES = {b'ns': 0, b'us': 3, b'ms': 6, b's': 9}     # of a time's unit: how many digits a nanosecond is behind it
+UNIT = tuple(PLACES)
 TIME = re.compile(rb'(0|[1-9][0-9]*)(?:(?:\.([0-9]+))?(ns|us|ms|s))?')
 
 
@@ -147,37 +146,7 @@ def count_in(words, most, default):
     return number_to(most, words[0]) if words else default
 
 
-def words_of(breakpoint):
-    """A breakpoint's words behind `break`."""
-    if isinstance(breakpoint[0], tuple):
-        return ' '.join(map(words_of, breakpoint))
-    sort, value = breakpoint
-    return sort.decode() + ('' if value is None else f' {value}')
-
-
-def conditions_in(words, scenario):
-    """The conditions that the words behind `break` are, in their order; of each its sort and its value."""
-    found = {}
-    while words:
-        sort, wanted = words[0], 1 if words[0] == b'drop' else 2
-        if sort not in CONDITIONS:
-            raise Refused('B1')
-        if len(words) < wanted or sort in found:
-            raise Refused('B2')
-        found[sort], words = words[:wanted], words[wanted:]
-    if not found:
-        raise Refused('B2')
-    values = {sort: value_of(found[sort], scenario) for sort in found}
-    return tuple((sort, values[sort]) for sort in CONDITIONS if sort in values)
-
-
-def value_of(words, scenario):
-    if words[0] in (b'node', b'flow', b'kind', b'drop'):
-        return breakpoint_of([b'break', *words], scenario)[1]
-    return number_to(len(scenario.links) - 1 if words[0] == b'link' else MOST_BYTE, words[1])
-
-
-def usage(name, of=HELP):
+def usage(name, of):
     used, what, _, _ = of[name]
     return f'{used:12} {what}\n'
 

@@ -15,18 +15,24 @@ none reads lines as a session whose commands are all there (`debugger.obey`).
 8. Breakpoints where a flow is stalled and was not before.
 9. Of a move the last lines, with the one that matched; to a position, either way; where the session is; what there is in
    the place of what is refused.
+10. Nodes, links and flows by the names of a text.
+11. Breakpoints on values; to a moment, either way.
 """
-from tcpsim_model.debugger import MOST, Debugger, breakpoint_of, matches, number_to, obey, set_breakpoint, words_in, words_wanted
-from tcpsim_model.grammar import (BEFORE_TOPICS, ELSEWHERE, HELP, LAST_OF_HELP, MEANINGS, MOST_LINE, MOST_WORD, NAMES, NUMBERED, SORTS_TOLD, TOPICS,
-                                  UNITS_TOLD, at_most, conditions_in, count_in, edits, printable, time_in, usage, words_of)
+from tcpsim_model.conditions import NAMED, conditions_in, named_in, words_behind_break, words_of
+from tcpsim_model.debugger import MOST, breakpoint_of, number_to, obey, set_breakpoint, words_in, words_wanted
+from tcpsim_model.grammar import (BEFORE_TOPICS, ELSEWHERE, MEANINGS, MOST_LINE, MOST_WORD, NAMES, NUMBERED, UNIT, UNITS_TOLD, at_most, count_in, edits,
+                                  printable, time_in, usage)
+from tcpsim_model.marked import Marked, Valued
+from tcpsim_model.naming import names_in
 from tcpsim_model.scenario import Refused
 from tcpsim_model.simulate import line_text
-from tcpsim_model.text import NUMBER
+from tcpsim_model.text import FLOW, NUMBER
+from tcpsim_model.texts import help_in, last_of_help, sorts_told, topics_in
 from tcpsim_model.waits import why
 
-STEPS = 9
+STEPS = 11
 # How many of them the program has.
-BUILT = 9
+BUILT = 10
 PROMPT = '(tcpsim) '
 MOST_SHOWN = 10         # lines that a move passed
 MOST_LINES = 1_000      # of `lines`
@@ -47,59 +53,12 @@ def last_shown(passed):
     return (f'.. {more} more\n' if more > 0 else '') + ''.join(passed[-MOST_SHOWN:])
 
 
-class Marked(Debugger):
-    """A debugger that marks each event with the links where packets were sent or dropped, and with the flows that
-    are stalled after it and were not before."""
-
-    def __init__(self, scenario):
-        super().__init__(scenario)
-        self.marks = []
-
-    def stalled(self):
-        return {flow for flow in range(len(self.scenario.flows)) if self.net.is_stalled(flow)}
-
-    def event(self):
-        before = self.stalled()
-        line = super().event()
-        if line is not None:
-            self.marks.append((self.net.touched, self.stalled() - before))
-        return line
-
-    def back(self, count):
-        self.marks = self.marks[:0]
-        super().back(count)
-
-    def goto(self, position):
-        if position < self.net.position:
-            self.back(self.net.position - position)
-        else:
-            self.step(position - self.net.position)
-
-    def is_matched(self, breakpoint, position):
-        if not isinstance(breakpoint[0], tuple):
-            return super().is_matched(breakpoint, position)
-        drops = any(sort == b'drop' for sort, _ in breakpoint)
-        return all(self.is_met(*condition, position, drops) for condition in breakpoint)
-
-    def is_met(self, sort, value, position, drops):
-        line, (links, stalled) = self.lines[position - 1], self.marks[position - 1]
-        if sort == b'stall':
-            return bool(stalled) if value is None else value in stalled
-        if sort == b'link':
-            return value in links
-        if sort == b'byte' and drops:
-            return value in (int(act.split(':')[2]) for act in line.acts if act.startswith(' drop='))
-        if sort == b'byte':
-            return line.kind in ('data', 'ack') and int(line.names.split()[1]) == value
-        return matches((sort, value), line)
-
-
 class Prompt:
-    NAMES, HELP, LAST_OF_HELP, TOPICS = NAMES, HELP, LAST_OF_HELP, TOPICS
-    DEBUGGER = Marked
+    NAMES = NAMES
 
-    def __init__(self, scenario, steps=STEPS):
-        self.debugger, self.steps = self.DEBUGGER(scenario), steps
+    def __init__(self, scenario, steps=BUILT):
+        self.debugger = (Valued if steps >= 11 else Marked)(scenario)
+        self.steps, self.names = steps, names_in(scenario, steps)
         self.last = None        # the last move: its name and its numbers
         self.known, self.ends = 0, False        # the greatest position where the session was; whether the run ends there
 
@@ -111,9 +70,9 @@ class Prompt:
         raise Refused('B1')
 
     def topic_of(self, word):
-        """The first name that the word begins, else the first topic, else a later name."""
-        old = any(name.startswith(word) for name, step in self.NAMES.items() if step <= min(self.steps, BEFORE_TOPICS))
-        return next((topic for topic in self.TOPICS if topic.startswith(word) and not old), None) or self.name_of(word)
+        """The first name that the word begins, else the first topic, else a name that goes behind the topics."""
+        first = any(name.startswith(word) for name in BEFORE_TOPICS if self.NAMES[name] <= self.steps)
+        return next((topic for topic in topics_in(self.steps) if topic.startswith(word) and not first), None) or self.name_of(word)
 
     def quits(self, line):
         words = words_in(line)
@@ -142,11 +101,13 @@ class Prompt:
         note += MEANINGS[refusal.code] + '\n'
         if refusal.code == 'B3' and self.steps >= 9 and self.has_time(line):
             note += f'tcpsim: {UNITS_TOLD}\n'
+        if refusal.code == 'B3':
+            note += self.other_sort(words_in(line))
         return note + {'B1': self.nearest, 'B3': self.numbers}.get(refusal.code, lambda word: '')((words_in(line) or [b''])[0])
 
     def has_time(self, line):
         """Whether a line can have a time."""
-        return self.name_of(words_in(line)[0]) == b'until'
+        return self.name_of(words_in(line)[0]) in (b'until', b'goto')[:1 if self.steps < 11 else 2]
 
     def nearest(self, word):
         """The line that tells what there is in the place of a word that is none: the nearest name to one that begins none."""
@@ -154,11 +115,20 @@ class Prompt:
         if self.steps >= 9 and word:
             begun = next((name for name in (*names, *ELSEWHERE) if name.startswith(word)), None)
             if begun == b'break' or begun in ELSEWHERE:
-                return f'tcpsim: {SORTS_TOLD if begun == b"break" else ELSEWHERE[begun]}\n'
+                return f'tcpsim: {sorts_told(self.steps) if begun == b"break" else ELSEWHERE[begun]}\n'
         if len(word) > MOST_WORD or any(name.startswith(word) for name in names):
             return ''
         nearest = min(names, key=lambda name: edits(word, name))
         return f'tcpsim: no command {printable(word)}; the nearest is {nearest.decode()}\n'
+
+    def other_sort(self, words):
+        """The line that tells of the first name of another sort than its place is for, if there is one."""
+        name = self.name_of(words[0])
+        for sort, word in named_in(name, words[1:], self.steps) if name in NUMBERED else ():
+            found = self.names.sort_of(word)
+            if found not in (None, sort):
+                return f'tcpsim: {word.decode()} is a {found}: see help numbers\n'
+        return ''
 
     def numbers(self, word):
         """The line that tells which nodes, links and flows there are, behind a command that can name one."""
@@ -197,7 +167,7 @@ class Prompt:
         """The line of the first breakpoint that matches the last line, if one does."""
         for place, breakpoint in enumerate(self.debugger.breaks):
             if self.debugger.is_matched(breakpoint, self.debugger.net.position):
-                return self.named(place)
+                return self.named(place, self.debugger.net.position)
         return ''
 
     # For each name: what its line answers, of the words behind the name.
@@ -224,6 +194,8 @@ class Prompt:
     def on_goto(self, words):
         if len(words) != 1:
             raise Refused('B2')
+        if self.steps >= 11 and words[0].endswith(UNIT):
+            return self.move('moment', time_in(words[0]))
         return self.move('goto', number_to(MOST, words[0]))
 
     def on_where(self, words):
@@ -237,13 +209,12 @@ class Prompt:
         if not words or self.steps < 4:
             at_most(words, 0)
             return self.debugger.net.dump()
-        parts, scenario = {b'node': self.of_node, b'link': self.of_link, b'flow': self.of_flow}, self.debugger.scenario
+        parts = {b'node': self.of_node, b'link': self.of_link, b'flow': self.of_flow}
         if words[0] not in parts:
             raise Refused('B1')
         if len(words) != 2:
             raise Refused('B2')
-        count = {b'node': len(scenario.nodes), b'link': len(scenario.links), b'flow': len(scenario.flows)}[words[0]]
-        return parts[words[0]](number_to(count - 1, words[1]))
+        return parts[words[0]](self.names.number_of(NAMED[words[0]], words[1]))
 
     def of_node(self, node):
         return self.debugger.net.dump_node(node)
@@ -275,15 +246,20 @@ class Prompt:
     def on_why(self, words):
         if len(words) != 1:
             raise Refused('B2')
-        return why(self.debugger.net, number_to(len(self.debugger.scenario.flows) - 1, words[0]))
+        return why(self.debugger.net, self.names.number_of(FLOW, words[0]))
+
+    def on_names(self, words):
+        at_most(words, 0)
+        return self.names.listed()
 
     def breakpoint(self, words):
         """The breakpoint of `break`'s words, which stood as in a session whose commands are all there."""
+        words = words_behind_break(words, self.steps)
         if self.steps >= 8 and words[:1] == [b'stall']:
             at_most(words, 2)
-            return ((b'stall', number_to(len(self.debugger.scenario.flows) - 1, words[1]) if words[1:] else None),)
+            return ((b'stall', self.names.number_of(FLOW, words[1]) if words[1:] else None),)
         if self.steps >= 7:
-            return conditions_in(words, self.debugger.scenario)
+            return conditions_in(words, self.names, self.steps)
         words = [b'break', *words]
         if len(words) != words_wanted(words):
             raise Refused('B2')
@@ -296,9 +272,14 @@ class Prompt:
             return f'break {len(self.debugger.breaks)}\n'
         return self.named(self.debugger.breaks.index(new))
 
-    def named(self, place):
-        """The line of a breakpoint, by its place from 0."""
-        return f'break {place + 1}: {words_of(self.debugger.breaks[place])}\n'
+    def named(self, place, position=None):
+        """The line of a breakpoint, by its place from 0; where it matches at a position, with what a value changed from there."""
+        conditions, told = self.debugger.breaks[place], ''
+        if position and self.steps >= 11 and conditions[-1][0] == b'change':
+            name = conditions[-1][1][0]
+            old = self.debugger.changed_from(conditions[-1][1], position)
+            told = f' ({name} from {old}{"ns" * (name == "rto")})'
+        return f'break {place + 1}: {words_of(conditions)}{told}\n'
 
     def on_breaks(self, words):
         at_most(words, 0)
@@ -314,17 +295,18 @@ class Prompt:
         return f'deleted {words[0].decode()}: {words_of(self.debugger.breaks.pop(int(words[0]) - 1))}\n'
 
     def on_help(self, words):
+        rows, topics = help_in(self.steps), topics_in(self.steps)
         if not words:
-            return ''.join(usage(name, self.HELP) for name in self.HELP if self.NAMES[name] <= self.steps) + self.LAST_OF_HELP
+            return ''.join(usage(name, rows) for name in rows) + last_of_help(self.steps)
         topic = self.topic_of(words[0])
         at_most(words, 1)
-        if topic in self.TOPICS:
-            return self.TOPICS[topic]
-        _, _, more, example = self.HELP[topic]
-        return f'{usage(topic, self.HELP)}{more}{example}\n'
+        if topic in topics:
+            return topics[topic]
+        _, _, more, example = rows[topic]
+        return f'{usage(topic, rows)}{more}{example}\n'
 
 
-def typed(scenario, lines, steps=STEPS):
+def typed(scenario, lines, steps=BUILT):
     """A session of the lines over a scenario."""
     return typed_into(Prompt(scenario, steps), lines)
 

@@ -1,6 +1,7 @@
 """Random lines that are typed at a prompt: valid ones, names cut short, times in each unit, refused ones, empty
 lines, long ones, and spaces of all kinds."""
 from tcpsim_model.debugger import KINDS, MOST, MOST_BREAKS
+from tcpsim_model.conditions import BEHIND, NAMED, OF_LINK, OF_RECEIVER, OF_SENDER, OF_VALUES, PHASES, SIGNS, TIME
 from tcpsim_model.grammar import MOST_LINE, NAMES, PLACES, TOPICS
 
 # Numbers and times of a wrong form or out of range, and some at a bound.
@@ -16,6 +17,8 @@ WRONG_TIMES = (b'1.5', b'1.s', b'.5s', b's', b'ms', b'.', b'.s', b'01s', b'00.5s
 NO_COMMANDS = (b'bak', b'stepp', b'Step', b'S', b'steps', b'runn', b'x', b'?', b'---', b'#', b'# step', b'0', b'w', b'why', b'quitt',
                b'exit', b'cl ear', b'unti1', b'\xff', b'\0', b'step\t1', b'step\r', b'\tstep', b'\t', b'\r', b'\xc2\xa0', b'\x0b',
                b'step\xc2\xa01', b'run\x0c', b'gotos', b'goto', b'whe', b'where 1', b'print', b'p', b'print 3', b'watch', b'wa', b'inf', b'i', b'break foo', b'bre', b'infos')
+# Words of the grammar, which a text can have for names.
+GRAMMAR = (*BEHIND, b'cwnd', b'queue', b'next', *KINDS, b'stall', b'names', b'state', b'why')
 SPACES = (b' ', b' ', b' ', b' ', b' ', b'  ', b'   ', b'      ')
 
 
@@ -26,6 +29,17 @@ def cut_short(pick, name):
 
 def number(pick, *values):
     return pick.choice(WRONG_NUMBERS) if pick.random() < 0.12 else b'%d' % pick.choice(values)
+
+
+def place(pick, scenario, steps, sort, *values):
+    """The number of one of a sort, or where there are names, often its name, seldom another's."""
+    value = pick.choice(values)
+    if not scenario.names or steps < 10 or pick.random() < 0.4:
+        return number(pick, value)
+    if pick.random() < 0.2:
+        name = pick.choice((*scenario.names, *scenario.names, *GRAMMAR, b'zz'))
+        return name if pick.random() < 0.6 else name[:pick.randint(1, len(name))]
+    return next((name for name, meant in scenario.names.items() if meant == (NAMED[sort], value)), b'%d' % value)
 
 
 def time(pick, moments, end):
@@ -50,12 +64,17 @@ def spelled(pick, moment):
     return b'%d' % whole + (b'.' + digits if digits else b'') + unit
 
 
-def breakpoint_of(pick, scenario, steps):
+def breakpoint_of(pick, scenario, moments, steps):
     """The words of a breakpoint, most of them right."""
+    if steps >= 11 and pick.random() < 0.5:
+        words = on_value(pick, scenario, moments, steps)
+        while pick.random() < 0.3:
+            words += (on_value(pick, scenario, moments, steps) if pick.random() < 0.5 else condition(pick, scenario, steps))
+        return words
     if steps >= 8 and pick.random() < 0.3:
-        return [b'stall'] + [number(pick, pick.randrange(len(scenario.flows)))] * pick.choice((0, 1, 1))
+        return [b'stall'] + [place(pick, scenario, steps, b'flow', pick.randrange(len(scenario.flows)))] * pick.choice((0, 1, 1))
     if steps >= 7 and pick.random() < 0.1:
-        return [b'link', value_of(pick, b'link', scenario), b'drop']
+        return [b'link', value_of(pick, b'link', scenario, steps), b'drop']
     words = condition(pick, scenario, steps)
     while steps >= 7 and pick.random() < 0.4:
         words += condition(pick, scenario, steps)
@@ -70,23 +89,62 @@ def condition(pick, scenario, steps):
         sort = pick.choice((b'nod', b'n', b'f', b'link', b'kinds', b'queue', b'Drop', b'tx', b'break', b'', b'stall', b'byt'))
     words = [sort]
     if sort != b'drop' or pick.random() < 0.05:
-        words.append(pick.choice(KINDS + (b'tx', b'Rto', b'rt')) if sort == b'kind' else value_of(pick, sort, scenario))
+        words.append(pick.choice(KINDS + (b'tx', b'Rto', b'rt')) if sort == b'kind' else value_of(pick, sort, scenario, steps))
     return words
 
 
-def value_of(pick, sort, scenario):
-    """The number behind the sort of a condition."""
+def value_of(pick, sort, scenario, steps):
+    """The number or the name behind the sort of a condition."""
     if sort == b'byte':
         return number(pick, pick.choice(scenario.flows).mss * pick.choice((0, 1, 2, 3, 8)), pick.choice((1, 9 * 10**12, 9 * 10**12 + 1)))
-    count = {b'node': len(scenario.nodes), b'flow': len(scenario.flows), b'link': len(scenario.links)}.get(sort, 2)
-    return number(pick, pick.randrange(count), pick.randrange(count + 1))
+    count = counts(scenario).get(sort)
+    if count is None:
+        return number(pick, 0, 1)
+    return place(pick, scenario, steps, sort, pick.randrange(count), pick.randrange(count + 1))
 
 
-def part(pick, scenario):
+def on_value(pick, scenario, moments, steps):
+    """The words of a condition on a value, most of them right, with or without spaces around a sign."""
+    sort = pick.choice((*OF_SENDER, *OF_LINK, *OF_LINK, *OF_LINK, *OF_RECEIVER, b'time', b'change', b'change'))
+    if sort == b'change':
+        value = pick.choice((*OF_SENDER, *OF_RECEIVER)) if pick.random() < 0.95 else pick.choice((b'queue', b'time', b'cwn', b'0'))
+        return [sort, value, value_of(pick, b'flow', scenario, steps)]
+    if sort == b'phase':
+        return [sort, pick.choice((*PHASES, b'xx') if pick.random() < 0.9 else (b'=', b'<ss', b'SS'))]
+    slowest = min(range(len(scenario.links)), key=lambda number: scenario.links[number].rate)
+    link = [place(pick, scenario, steps, b'link', slowest, pick.randrange(len(scenario.links)))] if sort in OF_LINK else []
+    sign = pick.choice(SIGNS) if pick.random() < 0.95 else pick.choice((b'==', b'=<', b'<>', b'<<', b'!', b'=>', b''))
+    words = [sort, *link, sign, bound_of(pick, sort, scenario, moments)]
+    at = len(words) - 2
+    if pick.random() < 0.5:
+        words[at:] = [words[at] + words[at + 1]]
+    if pick.random() < 0.5:
+        words[at - 1:at + 1] = [words[at - 1] + words[at]]
+    return words
+
+
+def bound_of(pick, sort, scenario, moments):
+    """What a value is compared with, often what it can be."""
+    if sort == b'time':
+        return time(pick, moments, scenario.end)
+    if OF_VALUES[sort][-1] == TIME:
+        return spelled(pick, pick.choice((0, 0, 1, 1000, 10**6, 3 * 10**6, 10**9, 2 * 10**9, *(b - a for a, b in zip(moments[:9], moments[1:])))))
+    mss = pick.choice(scenario.flows).mss
+    least = pick.choice((0, 1, 2, 3, 4, 5, 8))
+    return number(pick, least if sort in (b'queue', b'count', b'dups') else least * mss, pick.choice((least * mss, 64_000, MOST, MOST + 1)))
+
+
+def counts(scenario):
+    return {b'node': len(scenario.nodes), b'link': len(scenario.links), b'flow': len(scenario.flows)}
+
+
+def part(pick, scenario, steps):
     """The words of a part of a state, most of them right."""
-    counts = {b'node': len(scenario.nodes), b'link': len(scenario.links), b'flow': len(scenario.flows)}
-    sort = pick.choice((b'node', b'link', b'flow', b'flow')) if pick.random() < 0.92 else pick.choice((b'nod', b'l', b'flows', b'kind', b'drop'))
-    return [sort, number(pick, *(pick.randrange(counts.get(sort, 2)) for _ in range(4)), counts.get(sort, 1))]
+    if pick.random() < 0.08:
+        return [pick.choice((b'nod', b'l', b'flows', b'kind', b'drop')), number(pick, 0, 1)]
+    sort = pick.choice((b'node', b'link', b'flow', b'flow'))
+    count = counts(scenario)[sort]
+    return [sort, place(pick, scenario, steps, sort, *(pick.randrange(count) for _ in range(4)), count)]
 
 
 def words_behind(pick, name, scenario, moments, steps):
@@ -96,20 +154,20 @@ def words_behind(pick, name, scenario, moments, steps):
     if name == b'until':
         return [time(pick, moments, scenario.end)]
     if name == b'goto':
-        return [number(pick, 0, 1, 5, 11, 12, 40, 300, MOST, MOST + 1) if steps < 10 or pick.random() < 0.5 else time(pick, moments, scenario.end)]
+        return [number(pick, 0, 1, 5, 11, 12, 40, 300, MOST, MOST + 1) if steps < 11 or pick.random() < 0.5 else time(pick, moments, scenario.end)]
     if name == b'break':
-        return breakpoint_of(pick, scenario, steps)
+        return breakpoint_of(pick, scenario, moments, steps)
     if name == b'why':
-        return [number(pick, *(pick.randrange(len(scenario.flows)) for _ in range(5)), len(scenario.flows))]
+        return [place(pick, scenario, steps, b'flow', *(pick.randrange(len(scenario.flows)) for _ in range(5)), len(scenario.flows))]
     if name == b'state' and pick.random() < 0.65:
-        return part(pick, scenario)
+        return part(pick, scenario, steps)
     if name == b'lines':
         return [number(pick, 0, 1, 3, 9, 10, 11, 40, 999, 1000, 1001)] if pick.random() < 0.6 else []
     if name == b'delete':
         return [number(pick, 0, 1, 1, 1, 2, 2, 3, 5, 64, 65, 100)]
     if name == b'help':
         return pick.choice(([], [cut_short(pick, pick.choice(list(NAMES)))], [cut_short(pick, pick.choice(list(NAMES)))],
-                            [cut_short(pick, pick.choice(list(TOPICS)))], [pick.choice(NO_COMMANDS[:-3])]))
+                            [cut_short(pick, pick.choice(list(TOPICS)))], [pick.choice((b'n', b'k', b's', b'w', b'g'))], [pick.choice(NO_COMMANDS[:-3])]))
     return []
 
 
@@ -154,7 +212,7 @@ def any_line(pick, scenario, moments, steps):
         return pick.choice((b'', b'', b'', b' ', b'   '))
     if chance < 0.17:
         return pick.choice(NO_COMMANDS)
-    weights = {b'quit': 0.08, b'clear': 0.5, b'run': 2, b'reverse': 2, b'step': 2, b'break': 2, b'until': 2, b'goto': 2}
+    weights = {b'quit': 0.08, b'clear': 0.5, b'run': 2, b'reverse': 2, b'step': 2, b'break': 2 if steps < 11 else 3, b'until': 2, b'goto': 2}
     names = [name for name, step in NAMES.items() if step <= max(steps, 1) or pick.random() < 0.05]
     name = pick.choices(names, [weights.get(name, 1) for name in names])[0]
     words = [cut_short(pick, name) if steps else name, *words_behind(pick, name, scenario, moments, steps)]

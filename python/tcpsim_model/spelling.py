@@ -67,13 +67,13 @@ STRANGE = (b'0', b'00', b'01', b'1', b'+1', b'-1', b'1.', b'1e3', b'0x1', b'1_0'
            b'1\x0b')
 
 
-def spelt(scenario, pick):
-    """A text of the scenario with other names, spaces, comments and another order of its lines."""
+def spelt(scenario, pick, names_too=()):
+    """A text of the scenario with other names, now and then one of these, with spaces, comments and another order of its lines."""
     lines = [words_of(line) for line in lines_of(disassemble(scenario))]
     names = {}
     for words in lines:
         if words[0] in (b'node', b'link', b'flow'):
-            names[words[1]] = any_name(pick, names)
+            names[words[1]] = any_name(pick, names, names_too)
     lines = [[words[0]] + [names.get(word, word) for word in words[1:]] for words in lines]
     lines = [words[:9] if words[9:] == [b'reno', b'iw3'] and pick.random() < 0.6 else words for words in lines]
     sorts = [[words for words in lines if words[0] == sort] for sort in PLACES]
@@ -86,10 +86,12 @@ def spelt(scenario, pick):
     return text if pick.random() < 0.8 else text[:-1]
 
 
-def any_name(pick, taken):
+def any_name(pick, taken, names_too=()):
     while True:
         letters = 'abcdefghijklmnopqrstuvwxyz'
         name = pick.choice(letters) + ''.join(pick.choices(letters + '0123456789', k=pick.choice((0, 1, 2, 3, 14))))
+        if names_too and pick.random() < 0.15:
+            name = pick.choice(names_too).decode()
         if name.encode() not in taken.values():
             return name.encode()
 

@@ -16,6 +16,9 @@ pexpect = pytest.importorskip('pexpect', reason='no pexpect: apt-get install pyt
 from clone import BIN, EXAMPLES, MODEL, PROGRAM, TOP, of_model, read, read_text, tool  # noqa: E402
 from tcpsim.console.completion import Completion  # noqa: E402
 from tcpsim.prompt import Prompt  # noqa: E402
+from tcpsim_model import image  # noqa: E402
+from tcpsim_model.command_line import read as scenario_in  # noqa: E402
+from typed_lines import Session  # noqa: E402
 
 TWO = os.path.join(EXAMPLES, 'two_timeouts_in_a_row.txt')
 FAIR = os.path.join(EXAMPLES, 'two_flows_share_fairly.txt')
@@ -222,7 +225,7 @@ def test_an_image(terminal, tmp_path):
     image.write_bytes(of_model(['asm', TWO])[2])
     session = terminal(image)
     session.begin()
-    assert session.ask('step 2') == at_once(TWO, 'step 2')[0]
+    assert session.ask('step 2') == at_once(image, 'step 2')[0]
 
 
 # ---- Ctrl-C
@@ -384,9 +387,8 @@ def test_output_that_is_no_terminal(tmp_path):
 
 @pytest.fixture(scope='module')
 def completion():
-    prompt = Prompt([PROGRAM, 'debug'], read(FAIR))
-    yield Completion(prompt.ask)
-    prompt.end()
+    """Of a prompt that has numbers alone, with the first nine steps of its grammar."""
+    return Completion(Session(FAIR, 9).ask)
 
 
 COMMANDS = ['step', 'back', 'run', 'reverse', 'until', 'goto', 'where', 'state', 'break', 'breaks', 'delete', 'clear', 'lines', 'why', 'help', 'quit']
@@ -411,10 +413,27 @@ def test_words_have_their_meaning(completion):
     assert completion.words('delete ', ('drop', 'stall 1')) == [('1', 'drop'), ('2', 'stall 1')]
 
 
-def test_every_word_that_fits_is_taken(completion):
+@pytest.mark.parametrize('before, words', [
+    ('state node ', ['p', 'q', 'sa', 'ra', 'sb', 'rb']), ('break flow ', ['fa', 'fb']),
+    ('break drop link ', ['pq', 'qp', 'sap', 'psa', 'qra', 'raq', 'sbp', 'psb', 'qrb', 'rbq']), ('break stall ', ['fa', 'fb']),
+    ('why ', ['fa', 'fb']), ('why fa ', []), ('names ', []), ('break byte ', [])])
+def test_names_that_fit(before, words):
+    found = Completion(Session(FAIR, 10).ask).words(before)
+    assert [word for word, _ in found] == words
+    assert {what.split()[0] for _, what in found} <= {'node', 'link', 'flow'}
+
+
+def test_an_image_has_numbers_that_fit():
+    completion = Completion(Session(scenario_in(image.save(scenario_in(read(FAIR)))), 10).ask)
+    assert completion.words('why ') == [('0', ''), ('1', '')]
+    assert [word for word, _ in completion.words('')][-5:] == ['lines', 'why', 'names', 'help', 'quit']
+
+
+def test_every_word_that_fits_is_taken():
     """No word that is completed as the last is refused."""
     prompt = Prompt([PROGRAM, 'debug'], read(FAIR))
     try:
+        completion = Completion(prompt.ask)
         for before in ('state node ', 'state flow ', 'break kind ', 'break flow ', 'break stall ', 'why ', 'help '):
             for word, _ in completion.words(before):
                 assert not prompt.ask(before + word).note, before + word

@@ -8,7 +8,7 @@ from collections import namedtuple
 import pytest
 
 from clone import EXAMPLES, TOP, of_model, read, read_text
-from tcpsim_model import command_line, image, prompt, simulate
+from tcpsim_model import command_line, grammar, image, prompt, simulate, texts as pages
 from tcpsim_model.queues import COUNT_STOPS, Codel, gap
 from tcpsim_model.receiver import Receiver
 from tcpsim_model.scenario import Refused
@@ -430,7 +430,7 @@ NO_NAME = 'B1: no command has this name, or no sort of breakpoint'
 
 
 class TestPrompts:
-    def typed(self, text, *lines, steps=prompt.STEPS):
+    def typed(self, text, *lines, steps=9):
         """What is written and what is noted, without the prompts."""
         out, notes, keys = [], [], io.BytesIO(''.join(line + '\n' for line in lines).encode())
         status, note = command_line.main(('debug', 'FILE', '--steps', str(steps)), keys, out.append, notes.append,
@@ -647,24 +647,24 @@ class TestPrompts:
                               'T is a number of nanoseconds, or has a unit: ns, us, ms or s. It only goes forwards, and else says so.', 'until 20ms']
         assert self.typed(ONE_SEGMENT, 'h breaks')[0].startswith('breaks ')
         # Each example is a line that is not refused, but for what is not there.
-        for name, (_, _, _, example) in prompt.HELP.items():
+        for name, (_, _, _, example) in pages.help_in(9).items():
             assert example.encode().startswith(name)
             assert self.typed(ONE_SEGMENT, example)[1][:2] in ([], ['refused', 'B5'])
 
     def test_help_on_topics(self):
         for words, topic in (('n num numbers', b'numbers'), ('t tra trace', b'trace'), ('k ki kinds', b'kinds'), ('stal stall', b'stall')):
             for word in words.split():
-                assert self.typed(ONE_SEGMENT, f'help {word}') == (prompt.TOPICS[topic], [])
+                assert self.typed(ONE_SEGMENT, f'help {word}') == (grammar.TOPICS[topic], [])
         # A command comes first.
         for word, name in (('s', 'step'), ('st', 'step'), ('sta', 'state'), ('l', 'lines')):
             assert self.typed(ONE_SEGMENT, f'help {word}')[0].startswith(f'{name} ')
         self.refuses('B1', 'help stalls', 'help numbers1', 'help traces 1')
         self.refuses('B2', 'help kinds rto', 'h k k')
         # The last line of each can be typed; a terminal holds it.
-        for text in prompt.TOPICS.values():
+        for text in grammar.TOPICS.values():
             lines = text.splitlines()
             assert self.typed(ONE_SEGMENT, lines[-1])[1] == []
             assert max(map(len, lines)) <= 110
         # The kinds are those that a breakpoint takes.
-        for line in prompt.TOPICS[b'kinds'].splitlines()[1:-1]:
+        for line in grammar.TOPICS[b'kinds'].splitlines()[1:-1]:
             assert self.typed(ONE_SEGMENT, f'break kind {line.split()[0]}')[1] == []

@@ -7,55 +7,11 @@ import sys
 
 import pytest
 
-from clone import EXAMPLES, paths, read, read_text
-from tcpsim_model import prompt
-from tcpsim_model.command_line import read as scenario_in
-from tcpsim_model.scenario import Refused
+from clone import paths
+from typed_lines import START, Session, at, refuses, trace_of
 
 TWO, STALLS, CODEL, FAIR = (paths(name)[0] for name in ('two_timeouts_in_a_row', 'two_stalls_of_different_causes', 'four_flows_before_codel',
                                                         'two_flows_share_fairly'))
-START = 'at 0 of the run, time 0 ns, the beginning\n'
-
-
-class Session:
-    """A session over a file, or over a scenario."""
-
-    def __init__(self, path, steps=prompt.STEPS):
-        self.prompt = prompt.Prompt(scenario_in(read(path)) if isinstance(path, str) else path, steps)
-
-    def __call__(self, *lines):
-        """What the lines are answered, with what is noted of them."""
-        told = ''
-        for line in lines:
-            try:
-                told += self.prompt.answer(line.encode())
-            except Refused as refusal:
-                told += self.prompt.noted(line.encode(), refusal)
-        return told
-
-    @property
-    def position(self):
-        return self.prompt.debugger.net.position
-
-
-def trace_of(path):
-    """The lines of a run, as its trace has them."""
-    return read_text(path.replace('.txt', '.trace')).splitlines(True)[:-1]
-
-
-def time_of(line):
-    return int(line.split(' ', 2)[1])
-
-
-def at(lines, position):
-    """The line that says where a session is."""
-    time = time_of(lines[position - 1]) if position else 0
-    return f'at {position} of the run, time {time} ns{", the end" * (position == len(lines)) or ", the beginning" * (position == 0)}\n'
-
-
-def refuses(session, code, *lines):
-    for line in lines:
-        assert session(line).startswith(f'refused {code}\n'), line
 
 
 # ---- what a move shows
@@ -139,7 +95,7 @@ def test_where():
 # ---- refusals
 
 def test_what_there_is_in_the_place_of_what_is_refused():
-    session, meaning = Session(TWO, 9), 'refused B1\nB1: no command has this name, or no sort of breakpoint\n'
+    session, meaning = Session(TWO), 'refused B1\nB1: no command has this name, or no sort of breakpoint\n'
     for line in ('break foo', 'br node 0 foo', 'bre n 0', 'break drop 1'):
         assert session(line) == f'{meaning}tcpsim: conditions are node N, flow F, kind K, drop, link L, byte B; or stall: see help break\n', line
     for word, told in (('print', 'state flow F shows all values of a flow, state link L those of a link: see help state'),

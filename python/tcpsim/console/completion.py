@@ -1,5 +1,5 @@
 """What can be typed at the debugger's prompt, as the program itself says it: from its `help`, from the pages that this
-names, and from the numbers that it names where one is refused. No command, condition or kind stands here.
+names, from `names`, and from the numbers that it names where one is refused. No command, condition or kind stands here.
 
 A line of `help` is a usage and what it does: `why F        tell what flow F waits for`. Words in capitals are places; behind
 a colon stand the words that can fill them, each with a place of its own: `.. or of it: node N, link L or flow F`. On the
@@ -21,9 +21,9 @@ BETWEEN = re.compile(r', | or ')
 ALONE = '; or '                 # before those that stand alone
 LISTED = re.compile(r'(?:[a-z]+, )+[a-z]+ or [a-z]+: help ([a-z]+)')
 COUNTED = re.compile(r'([a-z])[a-z]*s (\d+) to (\d+)')
-SORTS = re.compile(r'conditions are ([a-z, ]+); or ')
-# A row of `names`, where the program has it: a sort, a number, a name (- where there is none), and what it is.
-NAMED = re.compile(r'^([a-z])[a-z]* (\d+) (\S+) (.*)$', re.M)
+SORTS = re.compile(r'conditions are ([A-Za-z, ]+); or ')
+# A row of `names`, where the program has it: a sort, a number, and the name.
+NAMED = re.compile(r'^(([a-z])[a-z]* \d+) (\S+)$', re.M)
 COMMANDS = 'a command'          # in a list: any of them
 OF_A_BREAKPOINT = re.compile(r'breakpoint ([A-Z])\b')
 NO_NUMBER = '?'
@@ -33,13 +33,14 @@ Word = tuple[str, str]          # and what it means
 
 class Usage:
     """How a command is used: `items` can fill its first place, and all further ones where `many` can stand there; those of
-    `alone` can fill it alone. Of each word its own place, or None, and what it means."""
+    `alone` can fill it alone. Of each word its own place, or None, and what it means. Behind one that is `signed` stands more."""
 
     def __init__(self, places: str, what: str, page: Callable[[], str]):
         self.what, self.place = what, places.strip(' []') or None
         self.many = places.endswith('..')
         self.commands = COMMANDS in what
         listed = what.partition(': ')[2] if places else ''
+        self.signed: set[str] = set()
         self.rows = dict(ROW.findall(page())) if listed else {}
         self.items, self.alone = ({found[1]: found[2] for found in map(ITEM.fullmatch, BETWEEN.split(part)) if found}
                                   for part in listed.partition(ALONE)[::2])
@@ -63,12 +64,13 @@ class Completion:
             for sort, least, most in COUNTED.findall(note):
                 self._numbers[sort.upper()] = [(str(number), '') for number in range(int(least), int(most) + 1)]
             for sorts in SORTS.findall(note):
-                usage.items.update({sort: None for sort in sorts.split(', ') if sort not in usage.items})
+                found = [ITEM.fullmatch(sort).groups() for sort in sorts.split(', ')]
+                usage.signed.update(sort for sort, place in found if sort not in usage.items)
+                usage.items.update({sort: place for sort, place in found if sort not in usage.items})
         if 'names' in self._usages:
             rows = NAMED.findall(ask('names').text)
-            for sort in {row[0] for row in rows}:
-                self._numbers[sort.upper()] = [(number if name == '-' else name, f'{number} {what}')
-                                               for of, number, name, what in rows if of == sort]
+            for sort in {row[1] for row in rows}:
+                self._numbers[sort.upper()] = [(name, numbered) for numbered, of, name in rows if of == sort]
 
     def words(self, before: str, breakpoints: Sequence[str] = ()) -> list[Word]:
         """What can stand behind the words of a line, each with what it means."""
@@ -85,7 +87,7 @@ class Completion:
         if not given[1:]:
             found = usage.words({**usage.items, **usage.alone}) + (self.words('') if usage.commands else [])
             return found or self._filling(usage, breakpoints)
-        if not usage.many or set(given[1:]) & set(usage.alone):
+        if not usage.many or set(given[1:]) & set(usage.alone) or given[-1] in usage.signed:
             return []
         return usage.words({word: place for word, place in usage.items.items() if word not in given[1:]})
 

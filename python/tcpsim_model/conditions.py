@@ -1,0 +1,99 @@
+"""The conditions of a breakpoint, as they are typed and as they are told. Since step 11 of the prompt's grammar they can be on
+values: `cwnd<3000`, `queue L>50`, `time>=5s`, `change cwnd F`."""
+import re
+
+from tcpsim_model.debugger import KINDS, MOST, number_to
+from tcpsim_model.grammar import time_in
+from tcpsim_model.scenario import Refused
+from tcpsim_model.text import FLOW, LINK, NODE
+
+MOST_BYTE = 9 * 10**12      # of the greatest flow
+SIGN, NUMBER, TIME, KIND, BYTE, PHASE, VALUE = 'sign', 'number', 'time', 'kind', 'byte', 'phase', 'value'
+SIGNS = (b'<=', b'>=', b'<', b'>', b'=')
+PARTS = re.compile(rb'<=|>=|[<>=]|[^<>=]+')
+PHASES = (b'ss', b'ca', b'fr')
+# Of each sort, in the order in which its words are told, what stands behind it.
+BEHIND = {b'node': (NODE,), b'flow': (FLOW,), b'kind': (KIND,), b'drop': (), b'link': (LINK,), b'byte': (BYTE,)}
+OF_SENDER = {b'cwnd': (SIGN, NUMBER), b'flight': (SIGN, NUMBER), b'ssthresh': (SIGN, NUMBER), b'una': (SIGN, NUMBER), b'nxt': (SIGN, NUMBER),
+             b'rto': (SIGN, TIME), b'dups': (SIGN, NUMBER), b'phase': (PHASE,)}
+OF_RECEIVER = {b'next': (SIGN, NUMBER)}
+OF_LINK = {b'queue': (LINK, SIGN, NUMBER), b'wait': (LINK, SIGN, TIME), b'count': (LINK, SIGN, NUMBER)}
+OF_VALUES = {**BEHIND, **OF_SENDER, **OF_RECEIVER, **OF_LINK, b'time': (SIGN, TIME), b'change': (VALUE, FLOW)}
+# What stands behind the sorts that have a node, a link or a flow alone behind them, in whatever command.
+NAMED = {b'node': NODE, b'link': LINK, b'flow': FLOW, b'stall': FLOW}
+
+
+def behind(steps):
+    """What stands behind each sort of condition, of a grammar of so many steps."""
+    return BEHIND if steps < 11 else OF_VALUES
+
+
+def words_behind_break(words, steps):
+    """The words behind `break`, which since step 11 are parted at signs."""
+    return words if steps < 11 else [part for word in words for part in PARTS.findall(word)]
+
+
+def parted(words, steps):
+    """The words of each condition behind `break`."""
+    while words:
+        wanted = 1 + len(behind(steps).get(words[0], (VALUE,)))
+        yield words[:wanted]
+        words = words[wanted:]
+
+
+def conditions_in(words, names, steps):
+    """The conditions that the words behind `break` are, in the order in which they are told; of each its sort and its value."""
+    sorts, found = behind(steps), {}
+    for part in parted(words, steps):
+        if part[0] not in sorts or part[0] == b'change' and part[1:] and part[1] not in {**OF_SENDER, **OF_RECEIVER}:
+            raise Refused('B1')
+        if len(part) < 1 + len(sorts[part[0]]) or part[0] in found:
+            raise Refused('B2')
+        found[part[0]] = part[1:]
+    if not found:
+        raise Refused('B2')
+    values = {sort: tuple(read(place, word, names) for place, word in zip(sorts[sort], those)) for sort, those in found.items()}
+    return tuple((sort, alone(values[sort])) for sort in sorts if sort in values)
+
+
+def alone(values):
+    """None of no value, one by itself, several together."""
+    return (values or (None,))[0] if len(values) < 2 else values
+
+
+def read(place, word, names):
+    """The value of a word at a place."""
+    if place in (NODE, LINK, FLOW):
+        return names.number_of(place, word)
+    if place == TIME:
+        return time_in(word)
+    if place in (NUMBER, BYTE):
+        return number_to(MOST if place == NUMBER else MOST_BYTE, word)
+    if word not in {SIGN: SIGNS, KIND: KINDS, PHASE: PHASES, VALUE: OF_VALUES}[place]:
+        raise Refused('B3')
+    return word.decode()
+
+
+def words_of(breakpoint):
+    """A breakpoint's words behind `break`."""
+    if isinstance(breakpoint[0], tuple):
+        return ' '.join(map(words_of, breakpoint))
+    sort, value = breakpoint
+    words = () if value is None else value if isinstance(value, tuple) else (value,)
+    told = sort.decode()
+    for place, word in zip(OF_VALUES.get(sort, (FLOW,)), words):
+        signed = place == SIGN or told.endswith(('<', '=', '>'))
+        told += f'{"" if signed else " "}{word}{"ns" if place == TIME else ""}'
+    return told
+
+
+def named_in(name, words, steps):
+    """The words of a line that stand where a node, a link or a flow can, each with what it should be; `words` are those
+    behind the command's name."""
+    if name == b'why':
+        return [(FLOW, word) for word in words[:1]]
+    if name == b'state' or words[:1] == [b'stall']:
+        return [(NAMED[words[0]], word) for word in words[1:2] if words[0] in NAMED]
+    sorts = behind(steps)
+    return [(place, word) for part in parted(words_behind_break(words, steps), steps) for place, word in zip(sorts.get(part[0], ()), part[1:])
+            if place in (NODE, LINK, FLOW)]

@@ -1,0 +1,93 @@
+"""What help says of the prompt's grammar after each of its steps: what `grammar` has, which is that of the ninth, and what a later
+step says in its place or besides."""
+from tcpsim_model.grammar import HELP, LAST_OF_HELP, NAMES, SORTS_TOLD, TOPICS
+
+# Of each later step: rows of `help`, each with the name before which it stands if it is new.
+ROWS = {
+    10: {
+        b'state': ('state [PART]', 'show all of the state, or of it: node N, link L or flow F',
+            'node N and link L show one line each, flow F all that there is of a flow: both of its ends, the links\n'
+            'where its packets wait, and its events to come. N, L and F are names or numbers: help numbers\n', 'state flow 0'),
+        b'break': ('break COND..', 'stop where all match: node N, flow F, kind K, drop, link L, byte B; or stall [F]',
+            HELP[b'break'][2].replace('(N, L and F are numbers from 0: help numbers)', '(N, L and F are names or numbers: help numbers)'),
+            'break flow 0 kind rto'),
+        b'why': ('why F', 'tell what flow F waits for',
+            'F is the name of a flow, or its number: the first flow line of the text is flow 0, the next one flow 1.\n'
+            'It tells how the flow stands, where its packets are, and when its alarms are due.\n', 'why 0'),
+        b'names': ('names', 'list the names of nodes, links and flows with their numbers',
+            'A name can stand wherever a number of a node, a link or a flow can: help numbers. An image has none.\n', 'names'),
+    },
+    11: {
+        b'goto': ('goto N', 'go to position N, or to a moment as 1.5s, forwards or back',
+            'N is how many events were run there, as the first number of a line of the trace; past the end it is the end.\n'
+            'A moment has a unit, as of until: all events before it are run, and no other.\n', 'goto 25'),
+        b'help': ('help [NAME]', 'show this, or more of NAME: a command, numbers, trace, kinds, stall or values', HELP[b'help'][2], 'help until'),
+    },
+}
+ROWS[11][b'break'] = ('break COND..', 'stop where all match: node N, flow F, kind K, drop, link L, byte B, a value; or stall [F]',
+    ROWS[10][b'break'][2].replace('stall [F]    ', 'cwnd<3000    and other values of a sender, a receiver, a link, or of the time: help values\nstall [F]    '),
+    'break flow 0 kind rto')
+# Before which row of `help` those of a later step stand.
+BEFORE = {b'names': b'help'}
+SORTS = {
+    11: 'conditions are node N, flow F, kind K, drop, link L, byte B, cwnd, flight, ssthresh, una, nxt, rto, dups, phase, next, queue L, wait L, '
+        'count L, time, change V; or stall: see help break',
+}
+LAST = {
+    10: '(nodes N, links L and flows F go by their names, or by numbers from 0: help numbers)\n'
+        '(an empty line does the last move again)\n',
+}
+PAGES = {
+    10: {b'numbers':
+        'A node, a link or a flow goes by its name in the text, or by its number. Each sort is counted from 0, in the\n'
+        'order of its lines there. So the first flow line is flow 0, the second one flow 1. An image has no names.\n'
+        'Lines of the trace and answers have the numbers, and names lists both. In the shell, tcpsim dis FILE names\n'
+        'all by their numbers: n0, l0, f0. Bytes of a flow are counted from 0 too, breakpoints from 1.\n'
+        'names\n'},
+    11: {b'values':
+        'A condition on a value is of the lines after which it holds. Its sign is <, <=, >, >= or =, with or without spaces.\n'
+        'cwnd<3000    at a sender, of its state: cwnd, flight (bytes in flight), ssthresh, una, nxt or dups (duplicates)\n'
+        'rto>1s       at a sender: how long its retransmission timer runs\n'
+        'phase fr     at a sender: ss (slow start), ca (congestion avoidance) or fr (fast recovery)\n'
+        'next>=4000   at a receiver: the byte that it waits for\n'
+        'queue L>50   an event that changes link L: how many packets wait there\n'
+        'wait L>100ms the same: how long the first of them has waited\n'
+        'count L>4    the same: the count of CoDel; a drop-tail queue has none\n'
+        'time>=5s     the moment\n'
+        'change V F   an event that changes a value of flow F: V is one of those of a sender, or next. It tells from what\n'
+        'flow F beside these asks for the sender or the receiver of flow F, else it is any.\n'
+        'break cwnd<3000 flow 0\n'},
+}
+
+
+def later(of, steps):
+    """What the later steps that there are have, in turn."""
+    return [of[step] for step in sorted(of) if step <= steps]
+
+
+def help_in(steps):
+    """The rows of `help`, in their order."""
+    found = dict(HELP)
+    for rows in later(ROWS, steps):
+        found.update(rows)
+    order = list(HELP)
+    for name, before in BEFORE.items():
+        order.insert(order.index(before), name)
+    return {name: found[name] for name in order if name in found and NAMES[name] <= steps}
+
+
+def last_of_help(steps):
+    return [LAST_OF_HELP, *later(LAST, steps)][-1]
+
+
+def topics_in(steps):
+    """The pages of what is no name, in their order."""
+    found = dict(TOPICS)
+    for pages in later(PAGES, steps):
+        found.update(pages)
+    return found
+
+
+def sorts_told(steps):
+    """What is told behind `break` where no condition is."""
+    return [SORTS_TOLD, *later(SORTS, steps)][-1]
