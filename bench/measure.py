@@ -78,7 +78,7 @@ TOLD = 16
 # The functions that make a run's text.
 TEXT = 'trace_text::'
 # The most instructions that an event's figures are to cost above the same run without its text.
-ABOVE = 120
+ABOVE = 45
 
 
 def text(segments, delack=0, losses='', end=10**15, link='100000000 1000000 droptail 20', window=44):
