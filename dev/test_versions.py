@@ -190,7 +190,7 @@ def test_third_party_has_what_pages_hold():
     vendor = os.path.join(TOP, 'python', 'tcpsim', 'replay', 'web', 'vendor')
     with open(os.path.join(vendor, 'LICENSE'), encoding='utf-8') as file:
         first, _, terms = file.read().partition('\n\n')
-    version, license_, _ = listed(2)['D3.js']
+    version, license_, _ = listed(2)['d3.js']
     assert version.partition(' ')[0] in first and license_ == 'BSD-3-Clause'
     assert ' '.join(terms.split()) in ' '.join(read_text('THIRD-PARTY').split())
 
