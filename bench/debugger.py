@@ -28,7 +28,7 @@ PLACE, STRETCH = 900_000, 100_000   # the line to which `reverse` goes, and how 
 ANSWER, BACK, DUMP = 0.050, 0.5, 0.020   # seconds: an answer, `reverse`, a dump
 STALL = 1.15                    # times the time of a breakpoint on timeouts
 STEP = 1.3                      # times the instructions of `run`
-SAVED = 64 * 2**20              # bytes of saved states
+SAVED = 64 * 2**20              # bytes of checkpoints
 Timed = namedtuple('Timed', 'mean longest')
 
 
@@ -214,7 +214,7 @@ def dump(rounds, before):
 
 
 def crowded(before):
-    """Bytes that are resident after a run with 100,000 packets under way, with the debugger's saved states and without."""
+    """Bytes that are resident after a run with 100,000 packets under way, with the debugger's checkpoints and without."""
     path = path_of('under_way_100000', SCENARIOS['under_way_100000']())
     with Session(path, before=before) as session:
         session.type('run')
@@ -271,7 +271,7 @@ def page(args, before):
     kept, plain = crowded(before)
     rows = [(f'`state` of the largest scenario: 256 nodes, 1,024 links, 64 flows, {size // 1000} KB of text', shown(taken), shown(DUMP), within(taken, DUMP)),
             ('resident after `run` with 100,000 packets under way', f'{kept / 10**6:.0f} MB',
-             f'{(plain + SAVED) / 10**6:.0f} MB: {plain / 10**6:.0f} of `tcpsim run`, {SAVED / 10**6:.0f} of saved states', within(kept, plain + SAVED))]
+             f'{(plain + SAVED) / 10**6:.0f} MB: {plain / 10**6:.0f} of `tcpsim run`, {SAVED / 10**6:.0f} of checkpoints', within(kept, plain + SAVED))]
     if costs := counted():
         most = STEP * costs[1]
         rows.append(('`step 100000`, instructions per event', f'{costs[0]:,.0f}', f'{most:,.0f}: {STEP} times those of `run`', within(costs[0], most)))

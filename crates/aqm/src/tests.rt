@@ -61,7 +61,7 @@ fn control(queue: &Queue) -> Option<(u32, Time, bool)> {
 
 /// A moment of a take, the packets dropped and the one given, the control afterwards, and the
 /// packets that are offered then, with the number of those that are refused.
-type Row<'a> = (
+type DropRow<'a> = (
     Time,
     &'a [u64],
     Option<u64>,
@@ -76,7 +76,7 @@ fn follow(
     alloc: Global,
     mut queue: Queue,
     first: &[u64],
-    rows: &[Row<'_>],
+    rows: &[DropRow<'_>],
 ) -> Result<(), AllocError> {
     enter(rt, alloc, &mut queue, first, 0, 0)?;
     for (now, numbers, given, after, offered, refused) in rows {
@@ -94,7 +94,7 @@ fn follow(
 
 #[test]
 fn drops_once_and_never_the_last_packet(rt: HostRuntime) -> Result<(), Fail> {
-    let rows: [Row<'_>; 4] = [
+    let rows: [DropRow<'_>; 4] = [
         (10_000_000, &[], Some(0), Some((0, 0, false)), &[], 0),
         (
             110_000_000,
@@ -129,7 +129,7 @@ fn drops_once_and_never_the_last_packet(rt: HostRuntime) -> Result<(), Fail> {
 #[test]
 fn drops_ever_closer_and_goes_on_soon_after(rt: HostRuntime) -> Result<(), Fail> {
     let offered = [12, 13, 14, 15, 16, 17];
-    let rows: [Row<'_>; 8] = [
+    let rows: [DropRow<'_>; 8] = [
         (10_000_000, &[], Some(0), Some((0, 0, false)), &[], 0),
         (
             110_000_000,
@@ -196,7 +196,7 @@ fn drops_ever_closer_and_goes_on_soon_after(rt: HostRuntime) -> Result<(), Fail>
 
 #[test]
 fn drop_tail_refuses_what_is_beyond_its_capacity(rt: HostRuntime) -> Result<(), Fail> {
-    let rows: [Row<'_>; 3] = [
+    let rows: [DropRow<'_>; 3] = [
         (8, &[], Some(0), None, &[2, 3], 1),
         (1_000_000_000, &[], Some(1), None, &[4, 5], 1),
         (1_000_000_000, &[], Some(2), None, &[], 0),

@@ -12,7 +12,7 @@ use Rattle.debug_session.specs.declared.naming.Naming.{Naming}
 use Rattle.debug_session.specs.declared.refusal.Refusal.TheVariants.{B2}
 use Rattle.debug_session.specs.declared.window_move.WindowMove.{WindowMove}
 use Rattle.debug_session.specs.declared.window_move.WindowMove.TheVariants.{Run, Until}
-use Rattle.debug_session.specs.Answers.{Standing, standing, Obeys, Follows, Answers, refusal_line}
+use Rattle.debug_session.specs.Answers.{SessionState, session_state, Obeys, Follows, Answers, refusal_line}
 use Rattle.debug_session.specs.Grammar.{Reading, reading}
 use Rattle.debug_session.specs.Memos.{knowing}
 use Rattle.debug_session.specs.Prompt.{AtPrompt, Rests, ObeysAtPrompt, AnswersTyped, TypedAnswers, at_prompt, memo_after, is_long, is_quit}
@@ -32,31 +32,31 @@ typed_plain (Some left) asked command old new P Q is says move = (is ∙ ap (λ 
 
 -- a line asks for what is obeyed, or for a move
 pub line_obeyed : (limits : Limits) (line : List ℕ) (command : Command) (old new : Debugging) (r : Option WindowMove) (out : List ℕ) → Some (Ok command) ≡ reading limits line
-    → MatchOption r (Obeys old.start command (standing old) (standing new) out) (IsAsked command old new)
-    → MatchOption r (Answers limits old.start line (standing old) (standing new) out) (IsLeft old new (Answers limits old.start line (standing old)))
-line_obeyed limits line command old new None out read obeys = subst (λ (r : Option Reading). Follows old.start r (standing old) (standing new) out) read obeys
+    → MatchOption r (Obeys old.start command (session_state old) (session_state new) out) (IsAsked command old new)
+    → MatchOption r (Answers limits old.start line (session_state old) (session_state new) out) (IsLeft old new (Answers limits old.start line (session_state old)))
+line_obeyed limits line command old new None out read obeys = subst (λ (r : Option Reading). Follows old.start r (session_state old) (session_state new) out) read obeys
 line_obeyed limits line command old new (Some left) out read move = record {
   same = move.1;
   answers = λ at said obeys.
-      subst (λ (r : Option Reading). Follows old.start r (standing old) at said) read (subst (λ (k : Command). Obeys old.start k (standing old) at said) (sym move.0) obeys);
+      subst (λ (r : Option Reading). Follows old.start r (session_state old) at said) read (subst (λ (k : Command). Obeys old.start k (session_state old) at said) (sym move.0) obeys);
 }
 
 -- so at a prompt
 pub typed_obeyed : (naming : Naming) (asked : Typed) (old new : Dialogue) (r : Option WindowMove) (out : List ℕ) → new.memo ≡ memo_after asked (at_prompt old)
-    → MatchOption r (ObeysTyped naming old.debugger.start (knowing new.memo.known asked) (standing old.debugger) (standing new.debugger) out) (IsTyped (knowing new.memo.known asked) old.debugger new.debugger)
+    → MatchOption r (ObeysTyped naming old.debugger.start (knowing new.memo.known asked) (session_state old.debugger) (session_state new.debugger) out) (IsTyped (knowing new.memo.known asked) old.debugger new.debugger)
     → MatchOption r (ObeysAtPrompt naming old.debugger.start asked (at_prompt old) (at_prompt new) out) (IsTypedLeft naming old new (ObeysAtPrompt naming old.debugger.start asked (at_prompt old)))
 typed_obeyed naming asked old new None out memo obeys = record { obeyed = obeys; memo = memo }
 typed_obeyed naming asked old new (Some left) out memo move = record {
   same = move.1;
   answers = λ at said obeys.
-      record { obeyed = subst (λ (k : Typed). ObeysTyped naming old.debugger.start k (standing old.debugger) at said) (sym move.0) obeys; memo = memo };
+      record { obeyed = subst (λ (k : Typed). ObeysTyped naming old.debugger.start k (session_state old.debugger) at said) (sym move.0) obeys; memo = memo };
 }
 
 -- what is done or left comes to what follows of it
 pub typed_as : (naming : Naming) (old new : Dialogue) (P Q : AtPrompt → List ℕ → Type 0) (r : Option WindowMove) (out : List ℕ) → ((at : AtPrompt) (said : List ℕ) → P at said → Q at said)
     → MatchOption r (P (at_prompt new) out) (IsTypedLeft naming old new P) → MatchOption r (Q (at_prompt new) out) (IsTypedLeft naming old new Q)
 typed_as naming old new P Q None out says is = says (at_prompt new) out is
-typed_as naming old new P Q (Some left) out says is = record { same = is.same; answers = λ at said obeys. says (record { standing = at; memo = new.memo }) said (is.answers at said obeys) }
+typed_as naming old new P Q (Some left) out says is = record { same = is.same; answers = λ at said obeys. says (record { session_state = at; memo = new.memo }) said (is.answers at said obeys) }
 
 module _ (naming : Naming) (start : State) (line : List ℕ) (old new : AtPrompt) (out : List ℕ) where
   abbrev Short : Type 0
@@ -73,20 +73,20 @@ module _ (naming : Naming) (start : State) (line : List ℕ) (old new : AtPrompt
       subst (λ (b : Bool). MatchBool b (Rests old new out (refusal_line B2)) Short) (sym short) here
 
 -- the move was made and told, and so its command was obeyed
-move_obeyed : (left : WindowMove) (old new : Debugging) (out : List ℕ) → Gone (MoveGoesTo left old) old new out → Obeys old.start (command_of left) (standing old) (standing new) out
+move_obeyed : (left : WindowMove) (old new : Debugging) (out : List ℕ) → Gone (MoveGoesTo left old) old new out → Obeys old.start (command_of left) (session_state old) (session_state new) out
 move_obeyed Run old new out gone = gone.went
 move_obeyed (Until time) old new out gone = gone.went
 
-typed_move_obeyed : (naming : Naming) (left : WindowMove) (old new : Debugging) (out : List ℕ) → GonePast (report_of left old.shown.position) (MoveGoesTo left old) old new out → ObeysTyped naming old.start (Plain (command_of left)) (standing old) (standing new) out
+typed_move_obeyed : (naming : Naming) (left : WindowMove) (old new : Debugging) (out : List ℕ) → GonePast (report_of left old.shown.position) (MoveGoesTo left old) old new out → ObeysTyped naming old.start (Plain (command_of left)) (session_state old) (session_state new) out
 typed_move_obeyed naming Run old new out gone = gone.went
 typed_move_obeyed naming (Until time) old new out gone = gone.went
 
 -- and the line was answered
-pub left_answered : (old here new : Debugging) (IsAnswer : Standing → List ℕ → Type 0) (left : WindowMove) (out : List ℕ) → IsLeft old here IsAnswer left → Gone (MoveGoesTo left here) here new out → IsAnswer (standing new) out
+pub left_answered : (old here new : Debugging) (IsAnswer : SessionState → List ℕ → Type 0) (left : WindowMove) (out : List ℕ) → IsLeft old here IsAnswer left → Gone (MoveGoesTo left here) here new out → IsAnswer (session_state new) out
 left_answered old here new IsAnswer left out is gone =
-    is.answers (standing new) out (move_obeyed left old new out (subst (λ (d : Debugging). Gone (MoveGoesTo left d) d new out) is.same gone))
+    is.answers (session_state new) out (move_obeyed left old new out (subst (λ (d : Debugging). Gone (MoveGoesTo left d) d new out) is.same gone))
 
 pub typed_left_answered : (naming : Naming) (old here : Dialogue) (new : Debugging) (IsAnswer : AtPrompt → List ℕ → Type 0) (left : WindowMove) (out : List ℕ) → IsTypedLeft naming old here IsAnswer left
-    → GonePast (report_of left here.debugger.shown.position) (MoveGoesTo left here.debugger) here.debugger new out → IsAnswer (record { standing = standing new; memo = here.memo }) out
+    → GonePast (report_of left here.debugger.shown.position) (MoveGoesTo left here.debugger) here.debugger new out → IsAnswer (record { session_state = session_state new; memo = here.memo }) out
 typed_left_answered naming old here new IsAnswer left out is gone =
-    is.answers (standing new) out (typed_move_obeyed naming left old.debugger new out (subst (λ (d : Debugging). GonePast (report_of left d.shown.position) (MoveGoesTo left d) d new out) is.same gone))
+    is.answers (session_state new) out (typed_move_obeyed naming left old.debugger new out (subst (λ (d : Debugging). GonePast (report_of left d.shown.position) (MoveGoesTo left d) d new out) is.same gone))

@@ -9,7 +9,7 @@ use Rattle.debugger.specs.Debugging.{debugging_opened}
 use Rattle.debug_session.specs.declared.session.DialogueFault.TheVariants.{OutputFailed}
 use Rattle.debug_session.specs.Input.{text_lines, command_lines}
 use Rattle.debug_session.specs.Taking.{Takes, IsBeginningOf}
-use Rattle.debug_session.specs.Answers.{standing}
+use Rattle.debug_session.specs.Answers.{session_state}
 use Rattle.debug_session.specs.Sessions.{Output, OutputStart, limits_of, HasScenario, HasFault, IsOutput, IsOutputStart, IsEnding}
 
 -- texts of the same lines mean the same
@@ -31,7 +31,7 @@ module _ (input text commands : List ℕ) (p : ScenarioParts) (before after : Op
   -- what a session over the scenario puts out, that is done, is the input's output
   pub whole_output : Takes (IsEnding p (lines_of_text commands) (Ok tt)) before after → Takes (IsOutput input) before after
   whole_output took =
-      (took.0, took.1, record { scenario = p; meant = (text, same, means); answers = subst (λ (ls : List (List ℕ)). Output (limits_of p) (initial p) ls (standing (debugging_opened (initial p))) took.0) behind took.2 })
+      (took.0, took.1, record { scenario = p; meant = (text, same, means); answers = subst (λ (ls : List (List ℕ)). Output (limits_of p) (initial p) ls (session_state (debugging_opened (initial p))) took.0) behind took.2 })
 
   -- and where the output failed, a beginning of that of the first commands
   pub begun_output : Takes (IsEnding p (lines_of_text commands) (Err OutputFailed)) before after → Takes (IsBeginningOf (IsOutputStart input)) before after
@@ -39,5 +39,5 @@ module _ (input text commands : List ℕ) (p : ScenarioParts) (before after : Op
       let all = took.0 ++ took.2.0 in (
         took.0,
         took.1,
-        (took.2.0, record { scenario = p; meant = (text, same, means); answers = subst (λ (ls : List (List ℕ)). OutputStart (limits_of p) (initial p) ls (standing (debugging_opened (initial p))) all) behind took.2.1 }),
+        (took.2.0, record { scenario = p; meant = (text, same, means); answers = subst (λ (ls : List (List ℕ)). OutputStart (limits_of p) (initial p) ls (session_state (debugging_opened (initial p))) all) behind took.2.1 }),
       )

@@ -7,7 +7,7 @@ use Rattle.debugger.specs.Moves.{Passes}
 use Rattle.debugger.specs.Debugging.{Debugging, HasMoved}
 use Rattle.table_run.specs.State.{State}
 use Rattle.debug_session.specs.declared.refusal.Refusal.TheVariants.{M}
-use Rattle.debug_session.specs.Answers.{Standing, standing, Stays, Shows, refusal_line}
+use Rattle.debug_session.specs.Answers.{SessionState, session_state, Stays, Shows, refusal_line}
 use Rattle.debug_session.specs.Reported.{Reported, GoesBack}
 
 -- what holds where a move was made, and where it was not
@@ -24,12 +24,12 @@ pub no_ok : (Q : Type 0) (moved : Result ℕ MoveFault) (fault : MoveFault) → 
 no_ok Q moved fault is = subst (λ (r : Result ℕ MoveFault). IfOk r (λ _. Q)) (sym is) tt
 
 -- the move is shown, or nothing changed and memory was refused
-abbrev pub Went : State → (ℕ → Type 0) → Standing → Standing → List ℕ → Type 0
+abbrev pub Went : State → (ℕ → Type 0) → SessionState → SessionState → List ℕ → Type 0
 Went start goes old new out = Shows start goes old new out ⊎ (Unit {0} × Stays old new out (refusal_line M))
 
 pub record Gone (goes : ℕ → Type 0) (old new : Debugging) (out : List ℕ) : Type 0 where
   pub start : new.start ≡ old.start
-  pub went : Went old.start goes (standing old) (standing new) out
+  pub went : Went old.start goes (session_state old) (session_state new) out
 
 -- the record of a change, field by field
 pub left_of : (old new : Debugging) (p : ℕ) → HasMoved old new p → new.left ≡ Some old.shown
@@ -65,7 +65,7 @@ gone_back goes old between new p out moved back reported =
 pub stays_put : (goes : ℕ → Type 0) (old new : Debugging) (out : List ℕ) → new ≡ old → out ≡ refusal_line M → Gone goes old new out
 stays_put goes old new out same reported = record {
   start = ap (λ (d : Debugging). d.start) same;
-  went = inr (tt, record { same = ap standing same; reported = reported });
+  went = inr (tt, record { same = ap session_state same; reported = reported });
 }
 
 pub moved_reported : (goes : ℕ → Type 0) (old between new : Debugging) (moved : Result ℕ MoveFault) (out : List ℕ)
@@ -81,6 +81,6 @@ moved_reported goes old between new (Err fault) out has there err reported refus
 
 -- the state that is shown is told, or memory was refused
 pub reported_here : (d : Debugging) (reported : Bool) (out : List ℕ) → Passes d.start d.shown → MatchBool reported (out ≡ dump_bytes d.shown) (out ≡ refusal_line M)
-    → Went d.start (λ p. p ≡ d.shown.position) (standing d) (standing d) out
+    → Went d.start (λ p. p ≡ d.shown.position) (session_state d) (session_state d) out
 reported_here d true out here reported = inl (record { at = refl; on_run = here; breaks = refl; reported = reported })
 reported_here d false out here reported = inr (tt, record { same = refl; reported = reported })

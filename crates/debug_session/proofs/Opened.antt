@@ -6,17 +6,17 @@ use Rattle.debugger.specs.Debugging.{Debugging, debugging_opened}
 use Rattle.debug_session.specs.declared.command.Limits.{Limits}
 use Rattle.debug_session.specs.declared.session.DialogueFault.TheVariants.{OutputFailed}
 use Rattle.debug_session.specs.Taking.{Takes, IsBeginningOf}
-use Rattle.debug_session.specs.Answers.{standing}
+use Rattle.debug_session.specs.Answers.{session_state}
 use Rattle.debug_session.specs.Sessions.{Output, OutputStart, limits_of, IsEnding}
 
 module _ (lines : List (List ℕ)) (p : ScenarioParts) (d : Debugging) (limits : Limits) (before after : Option (List ℕ)) (is : d ≡ debugging_opened (initial p)) (bounds : limits ≡ limits_of p) where
-  pub all_put : Takes (Output limits d.start lines (standing d)) before after → Takes (IsEnding p lines (Ok tt)) before after
+  pub all_put : Takes (Output limits d.start lines (session_state d)) before after → Takes (IsEnding p lines (Ok tt)) before after
   all_put took =
-      let one = subst (λ (l : Limits). Output l d.start lines (standing d) took.0) bounds took.2 in
-      (took.0, took.1, subst (λ (e : Debugging). Output (limits_of p) e.start lines (standing e) took.0) is one)
+      let one = subst (λ (l : Limits). Output l d.start lines (session_state d) took.0) bounds took.2 in
+      (took.0, took.1, subst (λ (e : Debugging). Output (limits_of p) e.start lines (session_state e) took.0) is one)
 
-  pub first_put : Takes (IsBeginningOf (OutputStart limits d.start lines (standing d))) before after → Takes (IsEnding p lines (Err OutputFailed)) before after
+  pub first_put : Takes (IsBeginningOf (OutputStart limits d.start lines (session_state d))) before after → Takes (IsEnding p lines (Err OutputFailed)) before after
   first_put took =
       let all = took.0 ++ took.2.0 in
-      let one = subst (λ (l : Limits). OutputStart l d.start lines (standing d) all) bounds took.2.1 in
-      (took.0, took.1, (took.2.0, subst (λ (e : Debugging). OutputStart (limits_of p) e.start lines (standing e) all) is one))
+      let one = subst (λ (l : Limits). OutputStart l d.start lines (session_state d) all) bounds took.2.1 in
+      (took.0, took.1, (took.2.0, subst (λ (e : Debugging). OutputStart (limits_of p) e.start lines (session_state e) all) is one))

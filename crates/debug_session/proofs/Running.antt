@@ -11,14 +11,14 @@ use Rattle.scenario_asm.specs.Lines.{lines_of_text}
 use Rattle.scenario_asm.proofs.Pieces.{pieces_first, pieces_none}
 use Rattle.debug_session.specs.declared.command.Limits.{Limits}
 use Rattle.debug_session.specs.Taking.{Takes, IsBeginningOf}
-use Rattle.debug_session.specs.Answers.{Standing, Answers}
+use Rattle.debug_session.specs.Answers.{SessionState, Answers}
 use Rattle.debug_session.specs.Sessions.{Ran, Output, OutputStart}
 
 -- one line more is answered
-pub ran_more : (limits : Limits) (start : State) (lines : List (List ℕ)) (line : List ℕ) (old between new : Standing) (made said : List ℕ)
+pub ran_more : (limits : Limits) (start : State) (lines : List (List ℕ)) (line : List ℕ) (old between new : SessionState) (made said : List ℕ)
     → Ran limits start lines old between made → Answers limits start line between new said → Ran limits start (lines ++ line ∷ []) old new (made ++ said)
 ran_more limits start [] line old between new made said ran one =
-    (new, said, [], subst (λ (at : Standing). Answers limits start line at new said) ran.same one, record { same = refl; reported = refl }, ap (λ l. l ++ said) ran.reported ∙ sym (append-nil said))
+    (new, said, [], subst (λ (at : SessionState). Answers limits start line at new said) ran.same one, record { same = refl; reported = refl }, ap (λ l. l ++ said) ran.reported ∙ sym (append-nil said))
 ran_more limits start (l ∷ lines) line old between new made said ran one =
     (ran.0, ran.1, ran.2 ++ said, ran.3, ran_more limits start lines line ran.0 between new ran.2 said ran.4 one, ap (λ x. x ++ said) ran.5 ∙ append_assoc ran.1 ran.2 said)
 
@@ -27,12 +27,12 @@ pub first_taken : (bytes : List ℕ) (before after : Option (List ℕ)) (count :
 first_taken bytes before after count took = (take count bytes, took.1, (drop count bytes, take-append-drop count bytes))
 
 -- so far lines were answered, and the answers were taken
-pub record SoFar (limits : Limits) (start : State) (commands rest : List ℕ) (old now : Standing) (before after : Option (List ℕ)) : Type 0 where
+pub record SoFar (limits : Limits) (start : State) (commands rest : List ℕ) (old now : SessionState) (before after : Option (List ℕ)) : Type 0 where
   pub done : List (List ℕ)
   pub parted : lines_of_text commands ≡ done ++ lines_of_text rest
   pub made : Takes (Ran limits start done old now) before after
 
-pub none_yet : (limits : Limits) (start : State) (commands : List ℕ) (at : Standing) (contents : Option (List ℕ)) → SoFar limits start commands commands at at contents contents
+pub none_yet : (limits : Limits) (start : State) (commands : List ℕ) (at : SessionState) (contents : Option (List ℕ)) → SoFar limits start commands commands at at contents contents
 none_yet limits start commands at contents = record { done = []; parted = refl; made = ([], Appends-nil contents, record { same = refl; reported = refl }) }
 
 -- the next line: it is the first of the rest
@@ -41,7 +41,7 @@ next_line : (commands rest line after : List ℕ) (done : List (List ℕ)) → l
 next_line commands rest line after done parted some is behind =
     parted ∙ ap (λ ls. done ++ ls) (pieces_first 10 rest some ∙ (λ i. sym is i ∷ lines_of_text (sym behind i))) ∙ sym (append_assoc done (line ∷ []) (lines_of_text after))
 
-module _ (limits : Limits) (start : State) (commands rest line after said : List ℕ) (old between new : Standing) (first was now : Option (List ℕ)) where
+module _ (limits : Limits) (start : State) (commands rest line after said : List ℕ) (old between new : SessionState) (first was now : Option (List ℕ)) where
   -- one line more is answered, and the answer is taken
   pub one_more : SoFar limits start commands rest old between first was → 0 < length rest → line ≡ before_first (λ b. b == 10) rest → after ≡ after_first (λ b. b == 10) rest
       → Answers limits start line between new said → Appends was now said → SoFar limits start commands after old new first now
@@ -67,7 +67,7 @@ module _ (limits : Limits) (start : State) (commands rest line after said : List
       )
 
 -- nothing is left: all lines are answered
-pub all_answered : (limits : Limits) (start : State) (commands rest : List ℕ) (old now : Standing) (before after : Option (List ℕ)) → SoFar limits start commands rest old now before after → length rest ≡ 0
+pub all_answered : (limits : Limits) (start : State) (commands rest : List ℕ) (old now : SessionState) (before after : Option (List ℕ)) → SoFar limits start commands rest old now before after → length rest ≡ 0
     → Takes (Output limits start (lines_of_text commands) old) before after
 all_answered limits start commands rest old now before after s none =
     let all : s.done ≡ lines_of_text commands = sym (s.parted ∙ ap (λ ls. s.done ++ ls) (pieces_none 10 rest none) ∙ append-nil s.done) in

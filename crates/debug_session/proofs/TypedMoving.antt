@@ -23,7 +23,7 @@ use Rattle.debugger.proofs.Walks.{has_earlier, none_due, passes_next, step_done}
 use Rattle.debug_session.specs.declared.memo.Extent.{Extent}
 use Rattle.debug_session.specs.declared.refusal.Refusal.TheVariants.{M}
 use Rattle.debug_session.specs.declared.report.Report.{Report}
-use Rattle.debug_session.specs.Answers.{Standing, standing, Stays, refusal_line}
+use Rattle.debug_session.specs.Answers.{SessionState, session_state, Stays, refusal_line}
 use Rattle.debug_session.specs.Reported.{GoesBack, ReportedPast, ReportedMove, AddsPlace, AddsMove, passed_count, reported_hit, shown_stretch}
 use Rattle.debug_session.specs.TypedMoves.{lowest, passed, more_line, last_ten, passed_lines, last_time, place_line, where_line, hit_line, onwards, next_text, known_line, where_text, TellsPast, MovesPast}
 use Rattle.debug_session.proofs.Moved.{left_of, start_of, breaks_of}
@@ -140,7 +140,7 @@ time_at : (start : State) (line : TraceLine) (p : ℕ) → GivesAt start line p 
 time_at start line p given =
     ap (λ ls. last_time 0 (drop 0 ls)) (one_line start given.before (record { state = given.after; position = p }) line given.passes (given.gives, given.is_next)) ∙ last_append 0 given.passes.lines line
 
-module _ (start : State) (m : ℕ) (at : Standing) (out made : List ℕ) (at_end : Bool) (end_is : at_end ≡ is_none (due at.shown.state)) where
+module _ (start : State) (m : ℕ) (at : SessionState) (out made : List ℕ) (at_end : Bool) (end_is : at_end ≡ is_none (due at.shown.state)) where
   -- at the beginning there is no event
   pub begin_reported : at.shown.position ≡ 0 → made ≡ out ++ place_line 0 0 at_end → AddsPlace start m at out made
   begin_reported none is =
@@ -166,24 +166,24 @@ module _ (start : State) (m : ℕ) (at : Standing) (out made : List ℕ) (at_end
       )
 
 -- what was passed, and then where that is
-pub move_reported : (start : State) (m : ℕ) (report : Report) (at : Standing) (out made all : List ℕ) → made ≡ out ++ passed_lines start m report at.shown.position → AddsPlace start report.bound at made all → AddsMove start m report at out all
+pub move_reported : (start : State) (m : ℕ) (report : Report) (at : SessionState) (out made all : List ℕ) → made ≡ out ++ passed_lines start m report at.shown.position → AddsPlace start report.bound at made all → AddsMove start m report at out all
 move_reported start m report at out made all lines place =
     let texts = passed_lines start m report at.shown.position in
     let behind = where_line start at.shown ++ place.0 in
     (texts ++ behind, record { matched = place.0; matches = place.1; reported = refl }, place.2 ∙ ap (λ l. l ++ behind) lines ∙ append_assoc out texts behind)
 
 -- the answer alone
-pub only_move : (start : State) (m : ℕ) (report : Report) (at : Standing) (out all : List ℕ) → out ≡ [] → AddsMove start m report at out all → TellsPast start m report at all
+pub only_move : (start : State) (m : ℕ) (report : Report) (at : SessionState) (out all : List ℕ) → out ≡ [] → AddsMove start m report at out all → TellsPast start m report at all
 only_move start m report at out all none adds =
     subst (TellsPast start m report at) (sym (adds.2 ∙ ap (λ l. l ++ adds.0) none)) adds.1
 
 -- the move is told, or nothing changed and memory was refused
-abbrev pub WentPast : State → Report → (ℕ → Type 0) → Standing → Standing → List ℕ → Type 0
+abbrev pub WentPast : State → Report → (ℕ → Type 0) → SessionState → SessionState → List ℕ → Type 0
 WentPast start report goes old new out = MovesPast start report goes old new out ⊎ (Unit {0} × Stays old new out (refusal_line M))
 
 pub record GonePast (report : Report) (goes : ℕ → Type 0) (old new : Debugging) (out : List ℕ) : Type 0 where
   pub start : new.start ≡ old.start
-  pub went : WentPast old.start report goes (standing old) (standing new) out
+  pub went : WentPast old.start report goes (session_state old) (session_state new) out
 
 -- so a move that a breakpoint stops forwards alone
 abbrev pub GoneOn : (ℕ → Type 0) → Debugging → Debugging → List ℕ → Type 0
@@ -194,7 +194,7 @@ pub has_from : (old between : Debugging) (moved : Result ℕ MoveFault) (m : ℕ
 has_from old between (Ok p) m is here has err = subst (λ (s : State). HasPosition s m) (sym (start_of old between p has)) (subst (HasPosition old.start) (sym is) (old.shown.state, here))
 has_from old between (Err fault) m is here has err = subst (λ (d : Debugging). HasPosition d.start m) (sym err) (subst (HasPosition old.start) (sym is) (old.shown.state, here))
 
-on_reported : (report : Report) (goes : ℕ → Type 0) (old new : Debugging) (m : ℕ) (w : Report) (p : ℕ) (out : List ℕ) → m ≡ old.shown.position → w ≡ report → HasMoved old new p → goes p → TellsPast new.start m w (standing new) out → GonePast report goes old new out
+on_reported : (report : Report) (goes : ℕ → Type 0) (old new : Debugging) (m : ℕ) (w : Report) (p : ℕ) (out : List ℕ) → m ≡ old.shown.position → w ≡ report → HasMoved old new p → goes p → TellsPast new.start m w (session_state new) out → GonePast report goes old new out
 on_reported report goes old new m w p out is report_is moved there reported =
     let same = start_of old new p moved in
     record {
@@ -204,8 +204,8 @@ on_reported report goes old new m w p out is report_is moved there reported =
         on_run = subst (λ (s : State). Passes s new.shown) same moved.on_run;
         breaks = breaks_of old new p moved;
         reported =
-            subst (λ n. TellsPast old.start n report (standing new) out) is
-            (subst (λ (v : Report). TellsPast old.start m v (standing new) out) report_is (subst (λ (s : State). TellsPast s m w (standing new) out) same reported));
+            subst (λ n. TellsPast old.start n report (session_state new) out) is
+            (subst (λ (v : Report). TellsPast old.start m v (session_state new) out) report_is (subst (λ (s : State). TellsPast s m w (session_state new) out) same reported));
       });
     }
 
@@ -224,13 +224,13 @@ pub gone_past : (report : Report) (goes : ℕ → Type 0) (old between new : Deb
     → IfOk moved (λ _. ReportedPast m w between new out) → OnErr moved ((new ≡ between) × (out ≡ refusal_line M)) → GonePast report goes old new out
 gone_past report goes old between new m w (Ok p) out is report_is has there err reported refused =
     ⊎_elim
-    (λ (t : (new ≡ between) × TellsPast between.start m w (standing between) out).
+    (λ (t : (new ≡ between) × TellsPast between.start m w (session_state between) out).
     subst (λ (d : Debugging). GonePast report goes old d out) (sym t.0) (on_reported report goes old between m w p out is report_is has there t.1))
     (λ (t : GoesBack between new × (out ≡ refusal_line M)). back_again report goes old between new p out has t.0 t.1)
     reported
 gone_past report goes old between new m w (Err fault) out is report_is has there err reported refused =
     let same = refused.0 ∙ err in
-    record { start = ap (λ (d : Debugging). d.start) same; went = inr (tt, record { same = ap standing same; reported = refused.1 }) }
+    record { start = ap (λ (d : Debugging). d.start) same; went = inr (tt, record { same = ap session_state same; reported = refused.1 }) }
 
 pub gone_on : (goes : ℕ → Type 0) (old between new : Debugging) (m : ℕ) (moved : Result ℕ MoveFault) (out : List ℕ) → m ≡ old.shown.position
     → IfOk moved (HasMoved old between) → IfOk moved goes → OnErr moved (between ≡ old)
@@ -238,7 +238,7 @@ pub gone_on : (goes : ℕ → Type 0) (old between new : Debugging) (m : ℕ) (m
 gone_on goes old between new m moved out is has there err reported refused = gone_past (onwards old.shown.position) goes old between new m (onwards m) moved out is (ap onwards is) has there err reported refused
 
 -- `where`: behind the place, where no breakpoint is told, the next event and how far the run is known to go
-pub where_reported : (start : State) (at : Standing) (known : Extent) (out made all : List ℕ) → AddsPlace start at.shown.position at out made → all ≡ made ++ (next_text start at.shown ++ known_line known) → all ≡ out ++ where_text start at.shown known
+pub where_reported : (start : State) (at : SessionState) (known : Extent) (out made all : List ℕ) → AddsPlace start at.shown.position at out made → all ≡ made ++ (next_text start at.shown ++ known_line known) → all ≡ out ++ where_text start at.shown known
 where_reported start at known out made all place more =
     let behind = next_text start at.shown ++ known_line known in
     let none : place.0 ≡ [] = place.1.before (omega arith) in

@@ -15,12 +15,12 @@ use Rattle.debug_session.specs.declared.refusal.Refusal.TheVariants.{B1, B2, B3,
 use Rattle.debug_session.specs.Grammar.{Reading, reading}
 
 -- the state that is shown with its position, and the breakpoints that are set
-pub record Standing : Type 0 where
+pub record SessionState : Type 0 where
   pub shown : Reached
   pub breaks : List Break
 
-abbrev pub standing : Debugging → Standing
-standing d = record { shown = d.shown; breaks = d.breaks }
+abbrev pub session_state : Debugging → SessionState
+session_state d = record { shown = d.shown; breaks = d.breaks }
 
 abbrev pub refusal_code : Refusal → List ℕ
 refusal_code B1 = codes "B1"
@@ -41,38 +41,38 @@ abbrev pub clear_line : List ℕ
 clear_line = line_of_words (codes "clear" ∷ [])
 
 -- nothing changes, and this is answered
-pub record Stays (old new : Standing) (out said : List ℕ) : Type 0 where
+pub record Stays (old new : SessionState) (out said : List ℕ) : Type 0 where
   pub same : new ≡ old
   pub reported : out ≡ said
 
 -- the state at a position that the move goes to is shown, and its dump is answered
-pub record Shows (start : NetState) (goes : ℕ → Type 0) (old new : Standing) (out : List ℕ) : Type 0 where
+pub record Shows (start : NetState) (goes : ℕ → Type 0) (old new : SessionState) (out : List ℕ) : Type 0 where
   pub at : goes new.shown.position
   pub on_run : Passes start new.shown
   pub breaks : new.breaks ≡ old.breaks
   pub reported : out ≡ dump_bytes new.shown
 
 -- a breakpoint that is not set yet joins the others
-pub record Joins (b : Break) (old new : Standing) (out : List ℕ) : Type 0 where
+pub record Joins (b : Break) (old new : SessionState) (out : List ℕ) : Type 0 where
   pub fresh : ¬ Contains old.breaks b
   pub few : length old.breaks < 64
   pub joined : new ≡ record old { breaks = old.breaks ++ b ∷ [] }
   pub reported : out ≡ break_line (length old.breaks + 1)
 
 -- a breakpoint is set: one that is set already stays, and there are at most 64
-abbrev pub Sets : Break → Standing → Standing → List ℕ → Type 0
+abbrev pub Sets : Break → SessionState → SessionState → List ℕ → Type 0
 Sets b old new out =
     (Contains old.breaks b × Stays old new out (break_line (length old.breaks)))
     ⊎ Joins b old new out
     ⊎ (¬ Contains old.breaks b × (length old.breaks ≡ 64) × Stays old new out (refusal_line B4))
 
 -- all breakpoints are taken away
-pub record Clears (old new : Standing) (out : List ℕ) : Type 0 where
+pub record Clears (old new : SessionState) (out : List ℕ) : Type 0 where
   pub cleared : new ≡ record old { breaks = [] }
   pub reported : out ≡ clear_line
 
 -- a command is done
-abbrev pub Does : NetState → Command → Standing → Standing → List ℕ → Type 0
+abbrev pub Does : NetState → Command → SessionState → SessionState → List ℕ → Type 0
 Does start (Step count) old new out = Shows start (StepGoesTo start old.shown.position count) old new out
 Does start (Back count) old new out = Shows start (λ p. p ≡ old.shown.position - count) old new out
 Does start (Until time) old new out = Shows start (UntilGoesTo start time old.shown.position) old new out
@@ -82,7 +82,7 @@ Does start (SetBreak b) old new out = Sets b old new out
 Does start Clear old new out = Clears old new out
 
 -- the command takes memory, runs events or has workers: so it can be refused for want of memory or of workers, or as too many events were run
-abbrev pub CanBeRefused : Command → Standing → Type 0
+abbrev pub CanBeRefused : Command → SessionState → Type 0
 CanBeRefused (SetBreak b) old = ¬ Contains old.breaks b × (length old.breaks < 64)
 CanBeRefused Clear old = ⊥
 CanBeRefused (Step count) old = Unit {0}
@@ -92,14 +92,14 @@ CanBeRefused Run old = Unit {0}
 CanBeRefused State old = Unit {0}
 
 -- a command is done, or refused for want of memory or of workers
-abbrev pub Obeys : NetState → Command → Standing → Standing → List ℕ → Type 0
+abbrev pub Obeys : NetState → Command → SessionState → SessionState → List ℕ → Type 0
 Obeys start command old new out = Does start command old new out ⊎ (CanBeRefused command old × Stays old new out (refusal_line M))
 
-abbrev pub Follows : NetState → Option Reading → Standing → Standing → List ℕ → Type 0
+abbrev pub Follows : NetState → Option Reading → SessionState → SessionState → List ℕ → Type 0
 Follows start None old new out = Stays old new out []
 Follows start (Some (Err refusal)) old new out = Stays old new out (refusal_line refusal)
 Follows start (Some (Ok command)) old new out = Obeys start command old new out
 
 -- what a line says is followed
-abbrev pub Answers : Limits → NetState → List ℕ → Standing → Standing → List ℕ → Type 0
+abbrev pub Answers : Limits → NetState → List ℕ → SessionState → SessionState → List ℕ → Type 0
 Answers limits start line old new out = Follows start (reading limits line) old new out

@@ -5,14 +5,14 @@ use Rattle.debug_session.specs.declared.command.Typed.{Typed}
 use Rattle.debug_session.specs.declared.command.Typed.TheVariants.{Plain, Reverse, Goto, Part, Why, Breaks, Delete, Lines, Where, Names, Help, HelpOn}
 use Rattle.debug_session.specs.declared.memo.Extent.{Extent}
 use Rattle.debug_session.specs.declared.memo.Memo.{Memo}
-use Rattle.debug_session.specs.Answers.{Standing}
+use Rattle.debug_session.specs.Answers.{SessionState}
 
 -- the run begins
 abbrev pub nothing_known : Extent
 nothing_known = record { upto = 0; ends = false }
 
 -- and it goes on to where a session stands
-abbrev pub known_after : Extent → Standing → Extent
+abbrev pub known_after : Extent → SessionState → Extent
 known_after known at = record { upto = max known.upto at.shown.position; ends = known.ends || is_none (due at.shown.state) }
 
 -- no line was typed yet

@@ -45,13 +45,13 @@ abbrev pub number_said : List Word → Word → Option ℕ
 number_said names word = if is_numeral word then Some (number word) else number_among names word
 
 -- a number that a part has
-abbrev pub below : ℕ → Option ℕ → Option ℕ
-below bound None = None
-below bound (Some n) = if nat_lt n bound then Some n else None
+abbrev pub if_below : ℕ → Option ℕ → Option ℕ
+if_below bound None = None
+if_below bound (Some n) = if nat_lt n bound then Some n else None
 
 -- the part of a sort that a word means
 abbrev pub part_meant : Naming → PartSort → Word → Option ℕ
-part_meant naming sort word = below (count_of naming.limits sort) (number_said (names_of naming sort) word)
+part_meant naming sort word = if_below (count_of naming.limits sort) (number_said (names_of naming sort) word)
 
 -- that of the only word
 abbrev pub one_part : Naming → PartSort → List Word → Result ℕ Refusal

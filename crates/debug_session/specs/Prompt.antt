@@ -7,7 +7,7 @@ use Rattle.debug_session.specs.declared.dialogue.Dialogue.{Dialogue}
 use Rattle.debug_session.specs.declared.memo.Memo.{Memo}
 use Rattle.debug_session.specs.declared.naming.Naming.{Naming}
 use Rattle.debug_session.specs.declared.refusal.Refusal.TheVariants.{B2}
-use Rattle.debug_session.specs.Answers.{Standing, standing, refusal_line}
+use Rattle.debug_session.specs.Answers.{SessionState, session_state, refusal_line}
 use Rattle.debug_session.specs.Input.{words_in}
 use Rattle.debug_session.specs.Memos.{known_after, knowing, no_memo}
 use Rattle.debug_session.specs.Names.{begins}
@@ -17,15 +17,15 @@ use Rattle.debug_session.specs.TypedGrammar.{TypedReading, typed_reading}
 
 -- where a session at a prompt stands, with what it keeps in mind
 pub record AtPrompt : Type 0 where
-  pub standing : Standing
+  pub session_state : SessionState
   pub memo : Memo
 
 abbrev pub at_prompt : Dialogue → AtPrompt
-at_prompt d = record { standing = standing d.debugger; memo = d.memo }
+at_prompt d = record { session_state = session_state d.debugger; memo = d.memo }
 
 -- no line was typed yet
-abbrev pub unmoved : Standing → AtPrompt
-unmoved s = record { standing = s; memo = no_memo }
+abbrev pub unmoved : SessionState → AtPrompt
+unmoved s = record { session_state = s; memo = no_memo }
 
 -- nothing changes, and this is answered
 pub record Rests (old new : AtPrompt) (out said : List ℕ) : Type 0 where
@@ -48,11 +48,11 @@ is_quit line = if is_long line then false else quits (words_in line)
 
 -- what is in mind once a command was read: a move is the last of `step`, `back`, `run`, `reverse`, `until` and `goto`; and the run goes on to where the session stood
 abbrev pub memo_after : TypedCommand → AtPrompt → Memo
-memo_after asked at = record { last = last_after asked at.memo.last; known = known_after at.memo.known at.standing }
+memo_after asked at = record { last = last_after asked at.memo.last; known = known_after at.memo.known at.session_state }
 
 -- a command is done, or refused for want of memory or of workers; a move is the last one either way
 pub record ObeysAtPrompt (naming : Naming) (start : State) (asked : TypedCommand) (old new : AtPrompt) (out : List ℕ) : Type 0 where
-  pub obeyed : ObeysTyped naming start (knowing new.memo.known asked) old.standing new.standing out
+  pub obeyed : ObeysTyped naming start (knowing new.memo.known asked) old.session_state new.session_state out
   pub memo : new.memo ≡ memo_after asked old
 
 -- the last move is done again, where there was one

@@ -11,7 +11,7 @@ use Rattle.debug_session.specs.declared.command.Typed.{Typed}
 use Rattle.debug_session.specs.declared.naming.Naming.{Naming}
 use Rattle.debug_session.specs.declared.refusal.Refusal.TheVariants.{M}
 use Rattle.debug_session.specs.declared.report.Report.{Report}
-use Rattle.debug_session.specs.Answers.{Standing, standing, refusal_line}
+use Rattle.debug_session.specs.Answers.{SessionState, session_state, refusal_line}
 use Rattle.debug_session.specs.TypedAnswers.{ObeysTyped}
 use Rattle.debug_session.specs.TypedMoves.{where_line, onwards, TellsMatch, TellsPast}
 
@@ -25,18 +25,18 @@ Reported old new out = ((new ≡ old) × (out ≡ dump_bytes old.shown)) ⊎ (Go
 
 -- a move from a position is told with a breakpoint past a bound, or that memory was refused, and then it is undone
 abbrev pub ReportedPast : ℕ → Report → Debugging → Debugging → List ℕ → Type 0
-ReportedPast m report old new out = ((new ≡ old) × TellsPast old.start m report (standing old) out) ⊎ (GoesBack old new × (out ≡ refusal_line M))
+ReportedPast m report old new out = ((new ≡ old) × TellsPast old.start m report (session_state old) out) ⊎ (GoesBack old new × (out ≡ refusal_line M))
 
 -- and so one that a breakpoint stops forwards alone
 abbrev pub ReportedMove : ℕ → Debugging → Debugging → List ℕ → Type 0
 ReportedMove m old new out = ReportedPast m (onwards m) old new out
 
 -- where a session stands after a move, and past a bound which breakpoint stopped it, behind other bytes
-abbrev pub AddsPlace : NetState → ℕ → Standing → List ℕ → List ℕ → Type 0
+abbrev pub AddsPlace : NetState → ℕ → SessionState → List ℕ → List ℕ → Type 0
 AddsPlace start bound at old new = (matched : List ℕ) × TellsMatch start at.breaks bound at.shown.position matched × (new ≡ old ++ (where_line start at.shown ++ matched))
 
 -- a move's answer behind other bytes
-abbrev pub AddsMove : NetState → ℕ → Report → Standing → List ℕ → List ℕ → Type 0
+abbrev pub AddsMove : NetState → ℕ → Report → SessionState → List ℕ → List ℕ → Type 0
 AddsMove start m report at old new = (reported : List ℕ) × TellsPast start m report at reported × (new ≡ old ++ reported)
 
 -- the breakpoint that is told at a position
@@ -53,5 +53,5 @@ shown_stretch m low p =
     if nat_lt m p then record { from = p - min (p - m) 10; count = min (p - m) 10; order = Rising } else record { from = low; count = min (m - low) 10; order = Falling }
 
 -- a command is obeyed whatever the nodes, links and flows are called
-abbrev pub ObeysUnnamed : NetState → Typed → Standing → Standing → List ℕ → Type 0
+abbrev pub ObeysUnnamed : NetState → Typed → SessionState → SessionState → List ℕ → Type 0
 ObeysUnnamed start asked old new out = (naming : Naming) → ObeysTyped naming start asked old new out

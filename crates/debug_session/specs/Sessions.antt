@@ -12,20 +12,20 @@ use Rattle.debug_session.specs.declared.session.DialogueFault.TheVariants.{NoMem
 use Rattle.window_engine.specs.Failures.{counted}
 use Rattle.debug_session.specs.Taking.{IsBeginningOf}
 use Rattle.debug_session.specs.Input.{text_lines, command_lines}
-use Rattle.debug_session.specs.Answers.{Standing, standing, Stays, Answers}
+use Rattle.debug_session.specs.Answers.{SessionState, session_state, Stays, Answers}
 
 -- the lines are answered one after another, from where the session stands
-abbrev pub Ran : Limits → State → List (List ℕ) → Standing → Standing → List ℕ → Type 0
+abbrev pub Ran : Limits → State → List (List ℕ) → SessionState → SessionState → List ℕ → Type 0
 Ran limits start [] old new out = Stays old new out []
 Ran limits start (line ∷ lines) old new out =
-    (between : Standing) × (first rest : List ℕ) × Answers limits start line old between first × Ran limits start lines between new rest × (out ≡ first ++ rest)
+    (between : SessionState) × (first rest : List ℕ) × Answers limits start line old between first × Ran limits start lines between new rest × (out ≡ first ++ rest)
 
 -- these lines give this output, wherever the session stands in the end
-abbrev pub Output : Limits → State → List (List ℕ) → Standing → List ℕ → Type 0
-Output limits start lines old out = (new : Standing) × Ran limits start lines old new out
+abbrev pub Output : Limits → State → List (List ℕ) → SessionState → List ℕ → Type 0
+Output limits start lines old out = (new : SessionState) × Ran limits start lines old new out
 
 -- so do the first of them
-abbrev pub OutputStart : Limits → State → List (List ℕ) → Standing → List ℕ → Type 0
+abbrev pub OutputStart : Limits → State → List (List ℕ) → SessionState → List ℕ → Type 0
 OutputStart limits start lines old out = (count : ℕ) × Output limits start (take count lines) old out
 
 abbrev pub limits_of : ScenarioParts → Limits
@@ -43,22 +43,22 @@ HasFault input line fault = (text : List ℕ) × (lines_of_text text ≡ text_li
 pub record IsOutput (input out : List ℕ) : Type 0 where
   pub scenario : ScenarioParts
   pub meant : HasScenario input scenario
-  pub answers : Output (limits_of scenario) (initial scenario) (command_lines input) (standing (debugging_opened (initial scenario))) out
+  pub answers : Output (limits_of scenario) (initial scenario) (command_lines input) (session_state (debugging_opened (initial scenario))) out
 
 -- the output of its first commands
 pub record IsOutputStart (input out : List ℕ) : Type 0 where
   pub scenario : ScenarioParts
   pub meant : HasScenario input scenario
-  pub answers : OutputStart (limits_of scenario) (initial scenario) (command_lines input) (standing (debugging_opened (initial scenario))) out
+  pub answers : OutputStart (limits_of scenario) (initial scenario) (command_lines input) (session_state (debugging_opened (initial scenario))) out
 
 abbrev pub Ended : Type 0
 Ended = Result (Unit {0}) DialogueFault
 
 -- what a session over a scenario that ended so has put out: the answers to all its lines; nothing, where memory was refused; a beginning of the answers to the first of them, where the output failed
 abbrev pub IsEnding : ScenarioParts → List (List ℕ) → Ended → List ℕ → Type 0
-IsEnding p lines (Ok done) out = Output (limits_of p) (initial p) lines (standing (debugging_opened (initial p))) out
+IsEnding p lines (Ok done) out = Output (limits_of p) (initial p) lines (session_state (debugging_opened (initial p))) out
 IsEnding p lines (Err NoMemory) out = out ≡ []
-IsEnding p lines (Err OutputFailed) out = IsBeginningOf (OutputStart (limits_of p) (initial p) lines (standing (debugging_opened (initial p)))) out
+IsEnding p lines (Err OutputFailed) out = IsBeginningOf (OutputStart (limits_of p) (initial p) lines (session_state (debugging_opened (initial p)))) out
 
 -- the output's count of failures after what ended so
 abbrev pub failures_of : Ended → ℕ → ℕ

@@ -11,28 +11,28 @@ use Rattle.debug_session.specs.declared.command.Typed.{Typed}
 use Rattle.debug_session.specs.declared.command.Typed.TheVariants.{Plain, Reverse, Goto, Part, Why, Breaks, Delete, Lines, Where, Names, Help, HelpOn}
 use Rattle.debug_session.specs.declared.naming.Naming.{Naming}
 use Rattle.debug_session.specs.declared.refusal.Refusal.TheVariants.{B4, B5, M}
-use Rattle.debug_session.specs.Answers.{Standing, Stays, Does, CanBeRefused, refusal_line}
+use Rattle.debug_session.specs.Answers.{SessionState, Stays, Does, CanBeRefused, refusal_line}
 use Rattle.debug_session.specs.Help.{help_text, help_on}
 use Rattle.debug_session.specs.NamesReported.{names_text}
 use Rattle.debug_session.specs.Numbered.{IsNumber, HasNumber, set_line, deleted_line, listing}
 use Rattle.debug_session.specs.TypedMoves.{MovesPast, Moves, back_to_break, until_report, last_lines, where_text}
 
 -- a breakpoint that is not set yet joins the others, as the last of them
-pub record JoinsLast (b : Break) (old new : Standing) (out : List ℕ) : Type 0 where
+pub record JoinsLast (b : Break) (old new : SessionState) (out : List ℕ) : Type 0 where
   pub fresh : ¬ Contains old.breaks b
   pub few : length old.breaks < 64
   pub joined : new ≡ record old { breaks = old.breaks ++ b ∷ [] }
   pub reported : out ≡ set_line (length old.breaks + 1) b
 
 -- a breakpoint is set: one that is set already keeps its number, and there are at most 64
-abbrev pub SetsNumbered : Break → Standing → Standing → List ℕ → Type 0
+abbrev pub SetsNumbered : Break → SessionState → SessionState → List ℕ → Type 0
 SetsNumbered b old new out =
     ((i : ℕ) × IsNumber old.breaks b i × Stays old new out (set_line i b))
     ⊎ JoinsLast b old new out
     ⊎ (¬ Contains old.breaks b × (length old.breaks ≡ 64) × Stays old new out (refusal_line B4))
 
 -- the breakpoint of a number is taken away, and the later ones move up
-pub record TakesAway (i : ℕ) (old new : Standing) (out : List ℕ) : Type 0 where
+pub record TakesAway (i : ℕ) (old new : SessionState) (out : List ℕ) : Type 0 where
   pub index : ℕ
   pub b : Break
   pub number : i ≡ index + 1
@@ -40,11 +40,11 @@ pub record TakesAway (i : ℕ) (old new : Standing) (out : List ℕ) : Type 0 wh
   pub same : new ≡ record old { breaks = new.breaks }
   pub reported : out ≡ deleted_line i b
 
-abbrev pub Deletes : ℕ → Standing → Standing → List ℕ → Type 0
+abbrev pub Deletes : ℕ → SessionState → SessionState → List ℕ → Type 0
 Deletes i old new out = TakesAway i old new out ⊎ (¬ HasNumber old.breaks i × Stays old new out (refusal_line B5))
 
 -- a command is done, where the nodes, links and flows are called so: moves go where they go in a session whose lines are all there, `goto` where `step` goes from the beginning, and `state` and `clear` are answered as there
-abbrev pub DoesTyped : Naming → NetState → Typed → Standing → Standing → List ℕ → Type 0
+abbrev pub DoesTyped : Naming → NetState → Typed → SessionState → SessionState → List ℕ → Type 0
 DoesTyped naming start (Plain (Step count)) old new out = Moves start (StepGoesTo start old.shown.position count) old new out
 DoesTyped naming start (Plain (Back count)) old new out = Moves start (λ p. p ≡ old.shown.position - count) old new out
 DoesTyped naming start (Plain (Until time)) old new out = MovesPast start (until_report time old.shown.position) (UntilGoesTo start time old.shown.position) old new out
@@ -65,7 +65,7 @@ DoesTyped naming start Help old new out = Stays old new out help_text
 DoesTyped naming start (HelpOn topic) old new out = Stays old new out (help_on topic)
 
 -- the command can be refused for want of memory or of workers, or as too many events were run
-abbrev pub TypedCanBeRefused : Typed → Standing → Type 0
+abbrev pub TypedCanBeRefused : Typed → SessionState → Type 0
 TypedCanBeRefused (Plain asked) old = CanBeRefused asked old
 TypedCanBeRefused Reverse old = Unit {0}
 TypedCanBeRefused (Goto target) old = Unit {0}
@@ -80,7 +80,7 @@ TypedCanBeRefused Help old = Unit {0}
 TypedCanBeRefused (HelpOn topic) old = Unit {0}
 
 -- a command is done, or refused for want of memory or of workers
-abbrev pub ObeysTyped : Naming → NetState → Typed → Standing → Standing → List ℕ → Type 0
+abbrev pub ObeysTyped : Naming → NetState → Typed → SessionState → SessionState → List ℕ → Type 0
 ObeysTyped naming start asked old new out = DoesTyped naming start asked old new out ⊎ (TypedCanBeRefused asked old × Stays old new out (refusal_line M))
 
 -- the last move, once a command was read

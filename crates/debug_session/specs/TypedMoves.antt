@@ -11,7 +11,7 @@ use Rattle.debugger.specs.Moves.{Passes, GivesAt}
 use Rattle.debugger.specs.Passed.{lines_between, texts_between}
 use Rattle.debug_session.specs.declared.memo.Extent.{Extent}
 use Rattle.debug_session.specs.declared.report.Report.{Report}
-use Rattle.debug_session.specs.Answers.{Standing}
+use Rattle.debug_session.specs.Answers.{SessionState}
 use Rattle.debug_session.specs.Numbered.{set_line}
 
 -- the position behind which the lines of a move backwards begin: where a breakpoint is told, its line is among them
@@ -78,13 +78,13 @@ pub record TellsMatch (start : NetState) (breaks : List Break) (bound p : ℕ) (
   pub before : p ≤ bound → reported ≡ []
 
 -- a move from a position m is told: the lines that it passed, where it came to, and past a bound which breakpoint matches there
-pub record TellsPast (start : NetState) (m : ℕ) (report : Report) (at : Standing) (out : List ℕ) : Type 0 where
+pub record TellsPast (start : NetState) (m : ℕ) (report : Report) (at : SessionState) (out : List ℕ) : Type 0 where
   pub matched : List ℕ
   pub matches : TellsMatch start at.breaks report.bound at.shown.position matched
   pub reported : out ≡ passed_lines start m report at.shown.position ++ (where_line start at.shown ++ matched)
 
 -- the state at a position that the move goes to is shown, and the move is told
-pub record MovesPast (start : NetState) (report : Report) (goes : ℕ → Type 0) (old new : Standing) (out : List ℕ) : Type 0 where
+pub record MovesPast (start : NetState) (report : Report) (goes : ℕ → Type 0) (old new : SessionState) (out : List ℕ) : Type 0 where
   pub at : goes new.shown.position
   pub on_run : Passes start new.shown
   pub breaks : new.breaks ≡ old.breaks
@@ -102,7 +102,7 @@ until_report time m = record { bound = m; until = Some time }
 abbrev pub back_to_break : Report
 back_to_break = record { bound = 0; until = None }
 
-abbrev pub Moves : NetState → (ℕ → Type 0) → Standing → Standing → List ℕ → Type 0
+abbrev pub Moves : NetState → (ℕ → Type 0) → SessionState → SessionState → List ℕ → Type 0
 Moves start goes old new out = MovesPast start (onwards old.shown.position) goes old new out
 
 -- the line that the next event gives, where one is due

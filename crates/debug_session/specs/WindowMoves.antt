@@ -11,7 +11,7 @@ use Rattle.debug_session.specs.declared.naming.Naming.{Naming}
 use Rattle.debug_session.specs.declared.window_move.WindowMove.{WindowMove}
 use Rattle.debug_session.specs.declared.window_move.WindowMove.TheVariants.{Run, Until}
 use Rattle.debug_session.specs.declared.report.Report.{Report}
-use Rattle.debug_session.specs.Answers.{Standing, standing, Obeys}
+use Rattle.debug_session.specs.Answers.{SessionState, session_state, Obeys}
 use Rattle.debug_session.specs.Prompt.{AtPrompt}
 use Rattle.debug_session.specs.TypedAnswers.{ObeysTyped}
 use Rattle.debug_session.specs.TypedMoves.{onwards, until_report}
@@ -40,11 +40,11 @@ abbrev pub IsTyped : Typed → Debugging → Debugging → WindowMove → Type 0
 IsTyped asked old new left = (asked ≡ Plain (command_of left)) × (new ≡ old)
 
 -- it is left: nothing has changed, and what it comes to is an answer
-pub record IsLeft (old new : Debugging) (IsAnswer : Standing → List ℕ → Type 0) (left : WindowMove) : Type 0 where
+pub record IsLeft (old new : Debugging) (IsAnswer : SessionState → List ℕ → Type 0) (left : WindowMove) : Type 0 where
   pub same : new ≡ old
-  pub answers : (at : Standing) (out : List ℕ) → Obeys old.start (command_of left) (standing old) at out → IsAnswer at out
+  pub answers : (at : SessionState) (out : List ℕ) → Obeys old.start (command_of left) (session_state old) at out → IsAnswer at out
 
 -- so at a prompt, where it may be the last move now
 pub record IsTypedLeft (naming : Naming) (old new : Dialogue) (IsAnswer : AtPrompt → List ℕ → Type 0) (left : WindowMove) : Type 0 where
   pub same : new.debugger ≡ old.debugger
-  pub answers : (at : Standing) (out : List ℕ) → ObeysTyped naming old.debugger.start (Plain (command_of left)) (standing old.debugger) at out → IsAnswer (record { standing = at; memo = new.memo }) out
+  pub answers : (at : SessionState) (out : List ℕ) → ObeysTyped naming old.debugger.start (Plain (command_of left)) (session_state old.debugger) at out → IsAnswer (record { session_state = at; memo = new.memo }) out

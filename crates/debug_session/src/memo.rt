@@ -1,6 +1,6 @@
 //! What a session at a prompt keeps in mind from line to line.
 ghost use Rattle.std.specs.Prelude.{◌≡◌};
-ghost use Rattle.debug_session.specs.Answers.{standing};
+ghost use Rattle.debug_session.specs.Answers.{session_state};
 ghost use Rattle.debug_session.specs.Memos.{nothing_known, known_after, knowing, no_memo};
 
 use crate::command::Typed;
@@ -37,7 +37,7 @@ impl Extent {
 
     /// The run goes on to where a debugger stands, too.
     pub(crate) fn and(self, debugger: &Debugger) -> Extent
-        ensures { result ≡ known_after self (standing debugger.now) }
+        ensures { result ≡ known_after self (session_state debugger.now) }
     {
         Extent {
             upto: self.upto.max(debugger.position()),

@@ -1,7 +1,7 @@
 //! A session's answer to a line of commands.
 ghost use Rattle.std.specs.Prelude.{◌≡◌, IfOk, OnErr, MatchBool, MatchOption};
 ghost use Rattle.trace_text.specs.Dump.{dump_bytes};
-ghost use Rattle.debug_session.specs.Answers.{standing, refusal_line, Sets, Obeys, Answers};
+ghost use Rattle.debug_session.specs.Answers.{session_state, refusal_line, Sets, Obeys, Answers};
 ghost use Rattle.debug_session.specs.Reported.{Reported};
 ghost use Rattle.debug_session.specs.WindowMoves.{IsAsked, IsLeft};
 
@@ -46,7 +46,7 @@ fn show_move(debugger: &mut Debugger, moved: Result<u64, MoveFault>, said: &mut 
 /// Sets a breakpoint.
 #[tactic(none)]
 fn set_break(debugger: &mut Debugger, b: Break, said: &mut Said)
-    ensures obeyed { Obeys debugger.old.start (Command.SetBreak b) (standing debugger.old) (standing debugger.new) said.new }
+    ensures obeyed { Obeys debugger.old.start (Command.SetBreak b) (session_state debugger.old) (session_state debugger.new) said.new }
     ensures start { debugger.new.start ≡ debugger.old.start }
 {
     let _is_set = debugger.has_break(b);
@@ -60,7 +60,7 @@ fn set_break(debugger: &mut Debugger, b: Break, said: &mut Said)
 /// Does what a command asks for, but for a move by windows, which is left.
 #[tactic(none)]
 pub(crate) fn obey(debugger: &mut Debugger, command: Command, said: &mut Said) -> Option<WindowMove>
-    ensures obeyed { MatchOption result (Obeys debugger.old.start command (standing debugger.old) (standing debugger.new) said.new) (IsAsked command debugger.old debugger.new) }
+    ensures obeyed { MatchOption result (Obeys debugger.old.start command (session_state debugger.old) (session_state debugger.new) said.new) (IsAsked command debugger.old debugger.new) }
     ensures start { debugger.new.start ≡ debugger.old.start }
 {
     match command {
@@ -101,7 +101,7 @@ fn begin_answer(
     line: &[u8],
     said: &mut Said,
 ) -> Option<WindowMove>
-    ensures answers { MatchOption result (Answers limits debugger.old.start line.now (standing debugger.old) (standing debugger.new) said.new) (IsLeft debugger.old debugger.new (Answers limits debugger.old.start line.now (standing debugger.old))) }
+    ensures answers { MatchOption result (Answers limits debugger.old.start line.now (session_state debugger.old) (session_state debugger.new) said.new) (IsLeft debugger.old debugger.new (Answers limits debugger.old.start line.now (session_state debugger.old))) }
     ensures start { debugger.new.start ≡ debugger.old.start }
 {
     match read_line(limits, line) {
@@ -129,7 +129,7 @@ pub fn answer<H: Hands>(
     said: &mut Said,
 )
     requires ready { H.ready hands.now }
-    ensures answers { Answers limits debugger.old.start line.now (standing debugger.old) (standing debugger.new) said.new }
+    ensures answers { Answers limits debugger.old.start line.now (session_state debugger.old) (session_state debugger.new) said.new }
     ensures start { debugger.new.start ≡ debugger.old.start }
 {
     match begin_answer(debugger, limits, line, said) {

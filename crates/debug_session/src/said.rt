@@ -4,7 +4,7 @@ ghost use Rattle.trace_text.specs.Dump.{dump_bytes};
 ghost use Rattle.trace_text.specs.DumpParts.{part_bytes};
 ghost use Rattle.flow_waits.specs.Waits.{waits_bytes};
 ghost use Rattle.debugger.specs.Moves.{HasPosition};
-ghost use Rattle.debug_session.specs.Answers.{standing, refusal_line, break_line, clear_line};
+ghost use Rattle.debug_session.specs.Answers.{session_state, refusal_line, break_line, clear_line};
 ghost use Rattle.debug_session.specs.Help.{help_text, help_on};
 ghost use Rattle.debug_session.specs.NamesReported.{names_text};
 ghost use Rattle.debug_session.specs.Numbered.{set_line, deleted_line, listing};
@@ -219,7 +219,7 @@ impl Said {
         report: Report,
     ) -> Result<(), MoveFault>
         requires { HasPosition debugger.old.start from }
-        ensures ok { OnOk result (TellsPast debugger.old.start from report (standing debugger.old) self.new) }
+        ensures ok { OnOk result (TellsPast debugger.old.start from report (session_state debugger.old) self.new) }
         ensures same { debugger.new ≡ debugger.old }
     {
         self.dump.clear();

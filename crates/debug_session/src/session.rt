@@ -5,7 +5,7 @@ ghost use Rattle.table_run.specs.State.{initial};
 ghost use Rattle.debugger.specs.Debugging.{debugging_opened};
 ghost use Rattle.window_engine.specs.Failures.{failures_after};
 ghost use Rattle.debug_session.specs.Taking.{Takes, IsBeginningOf};
-ghost use Rattle.debug_session.specs.Answers.{standing};
+ghost use Rattle.debug_session.specs.Answers.{session_state};
 ghost use Rattle.debug_session.specs.Sessions as sessions;
 
 use crate::command::Limits;
@@ -40,8 +40,8 @@ pub fn run_commands<H: Hands, S: Sink>(
     out: &mut S,
 ) -> Result<(), SinkFail>
     requires ready { H.ready hands.now }
-    ensures ok { OnOk result (Takes (sessions.Output limits debugger.old.start (lines_of_text commands.now) (standing debugger.old)) (S.contents out.old) (S.contents out.new)) }
-    ensures err { OnErr result (Takes (IsBeginningOf (sessions.OutputStart limits debugger.old.start (lines_of_text commands.now) (standing debugger.old))) (S.contents out.old) (S.contents out.new)) }
+    ensures ok { OnOk result (Takes (sessions.Output limits debugger.old.start (lines_of_text commands.now) (session_state debugger.old)) (S.contents out.old) (S.contents out.new)) }
+    ensures err { OnErr result (Takes (IsBeginningOf (sessions.OutputStart limits debugger.old.start (lines_of_text commands.now) (session_state debugger.old))) (S.contents out.old) (S.contents out.new)) }
     ensures failures { S.failures out.new ≡ failures_after result (S.failures out.old) }
 {
     let mut rest = commands;

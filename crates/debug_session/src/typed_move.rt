@@ -4,7 +4,7 @@ ghost use Rattle.table_run.specs.State.{due};
 ghost use Rattle.std.specs.List.{concat};
 ghost use Rattle.debugger.specs.Moves.{HasPosition};
 ghost use Rattle.debugger.specs.Passed.{texts_between};
-ghost use Rattle.debug_session.specs.Answers.{standing};
+ghost use Rattle.debug_session.specs.Answers.{session_state};
 ghost use Rattle.debug_session.specs.Reported.{passed_count, shown_stretch, reported_hit, AddsPlace, AddsMove};
 ghost use Rattle.debug_session.specs.TypedMoves.{lowest, passed, more_line, last_ten, idle_line, passed_lines, end_words, time_words, place_line, hit_line, next_text, known_line, where_text, last_lines};
 
@@ -247,7 +247,7 @@ fn append_event(
 /// Appends where a session stands, and past a bound the breakpoint that matches there.
 #[tactic(none)]
 fn append_where(out: &mut Vec<u8>, debugger: &mut Debugger, bound: u64) -> Result<(), MoveFault>
-    ensures ok { OnOk result (AddsPlace debugger.old.start bound (standing debugger.old) out.old.items out.new.items) }
+    ensures ok { OnOk result (AddsPlace debugger.old.start bound (session_state debugger.old) out.old.items out.new.items) }
     ensures same { debugger.new ≡ debugger.old }
 {
     let at_end = debugger.is_at_end();
@@ -271,7 +271,7 @@ pub(crate) fn append_move(
     report: Report,
 ) -> Result<(), MoveFault>
     requires { HasPosition debugger.old.start from }
-    ensures ok { OnOk result (AddsMove debugger.old.start from report (standing debugger.old) out.old.items out.new.items) }
+    ensures ok { OnOk result (AddsMove debugger.old.start from report (session_state debugger.old) out.old.items out.new.items) }
     ensures same { debugger.new ≡ debugger.old }
 {
     match append_lines(out, debugger, from, report) {

@@ -4,7 +4,7 @@ ghost use Rattle.trace_text.specs.DumpParts.{part_bytes};
 ghost use Rattle.flow_waits.specs.Waits.{waits_bytes};
 ghost use Rattle.debugger.specs.Debugging.{HasMoved};
 ghost use Rattle.debugger.specs.Moves.{HasPosition, StepGoesTo};
-ghost use Rattle.debug_session.specs.Answers.{standing, refusal_line};
+ghost use Rattle.debug_session.specs.Answers.{session_state, refusal_line};
 ghost use Rattle.debug_session.specs.Help.{help_text, help_on};
 ghost use Rattle.debug_session.specs.Numbered.{IsNumber, HasNumber, set_line};
 ghost use Rattle.debug_session.specs.NamesReported.{names_text};
@@ -43,7 +43,7 @@ fn tell_number(debugger: &Debugger, b: Break, said: &mut Said)
 fn set_fresh(debugger: &mut Debugger, b: Break, said: &mut Said)
     requires fresh { ¬ Contains debugger.old.breaks b }
     requires few { length debugger.old.breaks ≤ 64 }
-    ensures obeyed { ObeysUnnamed debugger.old.start (Typed.Plain (Command.SetBreak b)) (standing debugger.old) (standing debugger.new) said.new }
+    ensures obeyed { ObeysUnnamed debugger.old.start (Typed.Plain (Command.SetBreak b)) (session_state debugger.old) (session_state debugger.new) said.new }
     ensures start { debugger.new.start ≡ debugger.old.start }
 {
     match debugger.add_break(b) {
@@ -56,7 +56,7 @@ fn set_fresh(debugger: &mut Debugger, b: Break, said: &mut Said)
 /// Sets a breakpoint, and tells its number.
 #[tactic(none)]
 fn set_numbered(debugger: &mut Debugger, b: Break, said: &mut Said)
-    ensures obeyed { ObeysUnnamed debugger.old.start (Typed.Plain (Command.SetBreak b)) (standing debugger.old) (standing debugger.new) said.new }
+    ensures obeyed { ObeysUnnamed debugger.old.start (Typed.Plain (Command.SetBreak b)) (session_state debugger.old) (session_state debugger.new) said.new }
     ensures start { debugger.new.start ≡ debugger.old.start }
 {
     if debugger.has_break(b) {
@@ -75,7 +75,7 @@ fn has_number(breaks: &[Break], number: u64) -> bool
 
 /// Takes a breakpoint away.
 fn delete(debugger: &mut Debugger, number: u64, said: &mut Said)
-    ensures obeyed { ObeysUnnamed debugger.old.start (Typed.Delete number) (standing debugger.old) (standing debugger.new) said.new }
+    ensures obeyed { ObeysUnnamed debugger.old.start (Typed.Delete number) (session_state debugger.old) (session_state debugger.new) said.new }
     ensures start { debugger.new.start ≡ debugger.old.start }
 {
     if has_number(debugger.breaks(), number) {
@@ -89,7 +89,7 @@ fn delete(debugger: &mut Debugger, number: u64, said: &mut Said)
 /// Tells the breakpoints.
 #[tactic(none)]
 fn tell_breaks(debugger: &Debugger, said: &mut Said)
-    ensures { ObeysUnnamed debugger.now.start Typed.Breaks (standing debugger.now) (standing debugger.now) said.new }
+    ensures { ObeysUnnamed debugger.now.start Typed.Breaks (session_state debugger.now) (session_state debugger.now) said.new }
 {
     match said.say_breaks(debugger.breaks()) {
         Ok(()) => {}
@@ -151,7 +151,7 @@ fn tell_help_on(topic: Topic, said: &mut Said)
 #[tactic(none)]
 fn tell_move(debugger: &mut Debugger, from: u64, report: Report, said: &mut Said) -> bool
     requires { HasPosition debugger.old.start from }
-    ensures reported { MatchBool result (TellsPast debugger.old.start from report (standing debugger.old) said.new) (said.new ≡ refusal_line Refusal.M) }
+    ensures reported { MatchBool result (TellsPast debugger.old.start from report (session_state debugger.old) said.new) (said.new ≡ refusal_line Refusal.M) }
     ensures same { debugger.new ≡ debugger.old }
 {
     match said.say_move(debugger, from, report) {
@@ -211,7 +211,7 @@ fn show_passed(debugger: &mut Debugger, from: u64, moved: Result<u64, MoveFault>
 /// Goes back until a breakpoint matches, and tells that one.
 #[tactic(none)]
 fn reverse(debugger: &mut Debugger, said: &mut Said)
-    ensures obeyed { ObeysUnnamed debugger.old.start Typed.Reverse (standing debugger.old) (standing debugger.new) said.new }
+    ensures obeyed { ObeysUnnamed debugger.old.start Typed.Reverse (session_state debugger.old) (session_state debugger.new) said.new }
     ensures start { debugger.new.start ≡ debugger.old.start }
 {
     let from = debugger.position();
@@ -237,7 +237,7 @@ fn move_to(debugger: &mut Debugger, target: u64) -> Result<u64, MoveFault>
 /// Goes to a position.
 #[tactic(none)]
 fn go_to(debugger: &mut Debugger, target: u64, said: &mut Said)
-    ensures obeyed { ObeysUnnamed debugger.old.start (Typed.Goto target) (standing debugger.old) (standing debugger.new) said.new }
+    ensures obeyed { ObeysUnnamed debugger.old.start (Typed.Goto target) (session_state debugger.old) (session_state debugger.new) said.new }
     ensures start { debugger.new.start ≡ debugger.old.start }
 {
     let from = debugger.position();
@@ -248,7 +248,7 @@ fn go_to(debugger: &mut Debugger, target: u64, said: &mut Said)
 /// Tells where a session stands.
 #[tactic(none)]
 fn tell_where(debugger: &mut Debugger, known: Extent, said: &mut Said)
-    ensures obeyed { ObeysUnnamed debugger.old.start (Typed.Where known) (standing debugger.old) (standing debugger.new) said.new }
+    ensures obeyed { ObeysUnnamed debugger.old.start (Typed.Where known) (session_state debugger.old) (session_state debugger.new) said.new }
     ensures start { debugger.new.start ≡ debugger.old.start }
 {
     match said.say_where(debugger, known) {
@@ -260,7 +260,7 @@ fn tell_where(debugger: &mut Debugger, known: Extent, said: &mut Said)
 /// Tells the last so many lines of the trace.
 #[tactic(none)]
 fn tell_lines(debugger: &mut Debugger, count: u64, said: &mut Said)
-    ensures obeyed { ObeysUnnamed debugger.old.start (Typed.Lines count) (standing debugger.old) (standing debugger.new) said.new }
+    ensures obeyed { ObeysUnnamed debugger.old.start (Typed.Lines count) (session_state debugger.old) (session_state debugger.new) said.new }
     ensures start { debugger.new.start ≡ debugger.old.start }
 {
     match said.say_lines(debugger, count) {
@@ -278,7 +278,7 @@ fn obey_plain(
     command: Command,
     said: &mut Said,
 ) -> Option<WindowMove>
-    ensures obeyed { MatchOption result (ObeysTyped naming.now debugger.old.start (Typed.Plain command) (standing debugger.old) (standing debugger.new) said.new) (IsAsked command debugger.old debugger.new) }
+    ensures obeyed { MatchOption result (ObeysTyped naming.now debugger.old.start (Typed.Plain command) (session_state debugger.old) (session_state debugger.new) said.new) (IsAsked command debugger.old debugger.new) }
     ensures start { debugger.new.start ≡ debugger.old.start }
 {
     let from = debugger.position();
@@ -312,7 +312,7 @@ pub(crate) fn obey_typed(
     asked: Typed,
     said: &mut Said,
 ) -> Option<WindowMove>
-    ensures obeyed { MatchOption result (ObeysTyped naming.now debugger.old.start asked (standing debugger.old) (standing debugger.new) said.new) (IsTyped asked debugger.old debugger.new) }
+    ensures obeyed { MatchOption result (ObeysTyped naming.now debugger.old.start asked (session_state debugger.old) (session_state debugger.new) said.new) (IsTyped asked debugger.old debugger.new) }
     ensures start { debugger.new.start ≡ debugger.old.start }
 {
     match asked {

@@ -1,4 +1,4 @@
--- What the fields of a debugger, and of its saved states, stand for.
+-- What the fields of a debugger, and of its checkpoints, stand for.
 use Rattle.std.specs.Prelude.{◌≡◌, List, All, Some, length}
 use Rattle.net_machine.specs.Run.{Reached}
 use Rattle.debugger.specs.declared.checkpoints.Checkpoints.TheInside.{Inside as CheckpointsInside}

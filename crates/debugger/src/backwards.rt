@@ -57,7 +57,7 @@ fn last_stop(
     }
 }
 
-/// The same over the stretch up to a position that begins at the nearest saved state before it.
+/// The same over the stretch up to a position that begins at the nearest checkpoint before it.
 #[tactic(none)]
 fn search_before(
     present: &Net,
@@ -87,7 +87,7 @@ fn search_before(
     }
 }
 
-/// The last position up to one whose line a breakpoint matches, or 0. From saved state to saved state
+/// The last position up to one whose line a breakpoint matches, or 0. From checkpoint to checkpoint
 /// backwards, so that each event is run again once at most.
 #[tactic(none)]
 fn stop_upto(

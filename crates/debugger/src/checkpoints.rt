@@ -161,7 +161,7 @@ impl Checkpoints {
         put_copy(&mut self.later, self.most, net);
     }
 
-    /// A copy of the saved state, or of the one that is present, that has the greatest position up
+    /// A copy of the checkpoint, or of the one that is present, that has the greatest position up
     /// to a target.
     pub fn nearest(&self, target: u64, present: &Net) -> Result<Net, AllocError>
         requires { Passes self.now present.now }
@@ -180,7 +180,7 @@ impl Checkpoints {
         best.copy()
     }
 
-    /// A copy of the saved state, or of the one that is present, that has the greatest position of those at which an
+    /// A copy of the checkpoint, or of the one that is present, that has the greatest position of those at which an
     /// event before a time is due; of the initial one where there is no such.
     pub fn nearest_before(&self, time: Time, present: &Net) -> Result<Net, AllocError>
         requires { Passes self.now present.now }

@@ -13,7 +13,7 @@ use Rattle.scenario_image.specs.declared.parts.ScenarioParts.{ScenarioParts}
 use Rattle.scenario_image.specs.declared.paths.Path.{Path}
 use Rattle.explanations.specs.declared.counterexample.Packets.{Packets}
 use Rattle.explanations.specs.declared.counterexample.Packets.TheVariants.{Data, Acks}
-use Rattle.explanations.specs.declared.counterexample.PartSort.TheVariants.{Nodes, Links, Flows}
+use Rattle.explanations.specs.declared.counterexample.TooFew.TheVariants.{Nodes, Links, Flows}
 use Rattle.explanations.specs.declared.counterexample.PathEnd.{PathEnd}
 use Rattle.explanations.specs.declared.counterexample.Counterexample.{Counterexample}
 use Rattle.explanations.specs.declared.counterexample.Counterexample.TheVariants.{Few, Late, Ends, FlowKinds, LinkKinds, RouteKinds, Path as path_counterexample}

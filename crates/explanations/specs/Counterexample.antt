@@ -14,20 +14,20 @@ use Rattle.scenario_image.specs.declared.parts.ScenarioParts.{ScenarioParts}
 use Rattle.scenario_image.specs.declared.paths.Path.{Path}
 use Rattle.explanations.specs.declared.counterexample.Packets.{Packets}
 use Rattle.explanations.specs.declared.counterexample.Packets.TheVariants.{Data, Acks}
-use Rattle.explanations.specs.declared.counterexample.PartSort.{PartSort}
-use Rattle.explanations.specs.declared.counterexample.PartSort.TheVariants.{Nodes, Links, Flows}
+use Rattle.explanations.specs.declared.counterexample.TooFew.{TooFew}
+use Rattle.explanations.specs.declared.counterexample.TooFew.TheVariants.{Nodes, Links, Flows}
 use Rattle.explanations.specs.declared.counterexample.PathEnd.{PathEnd}
 use Rattle.explanations.specs.declared.counterexample.Counterexample.{Counterexample}
 use Rattle.explanations.specs.declared.counterexample.Counterexample.TheVariants.{Few, Late, Ends, FlowKinds, LinkKinds, RouteKinds, Path as path_counterexample}
 
 -- how many there are of a sort
-abbrev pub count_of : ScenarioParts → PartSort → ℕ
+abbrev pub count_of : ScenarioParts → TooFew → ℕ
 count_of parts Nodes = length parts.nodes
 count_of parts Links = length parts.links
 count_of parts Flows = length parts.flows
 
 -- how many there are at least
-abbrev pub fewest_of : PartSort → ℕ
+abbrev pub fewest_of : TooFew → ℕ
 fewest_of Nodes = 2
 fewest_of Links = 1
 fewest_of Flows = 1

@@ -37,7 +37,7 @@ pub struct PathEnd {
 
 /// What a scenario has of which it can have too few.
 #[derive(Clone, Copy)]
-pub enum PartSort {
+pub enum TooFew {
     /// Nodes, of which it has two at least.
     Nodes,
     /// Links.
@@ -52,7 +52,7 @@ pub enum Counterexample {
     /// Too few of a sort (L3).
     Few {
         /// Of which.
-        sort: PartSort,
+        sort: TooFew,
         /// How many there are.
         count: usize,
     },
@@ -104,9 +104,9 @@ fn too_few(parts: &ScenarioParts) -> Option<Counterexample>
     ensures { IfSome result (IsShown parts.now L3) }
 {
     for (sort, count, least) in [
-        (PartSort::Nodes, parts.nodes.len(), 2),
-        (PartSort::Links, parts.links.len(), 1),
-        (PartSort::Flows, parts.flows.len(), 1),
+        (TooFew::Nodes, parts.nodes.len(), 2),
+        (TooFew::Links, parts.links.len(), 1),
+        (TooFew::Flows, parts.flows.len(), 1),
     ] {
         if count < least {
             return Some(Counterexample::Few { sort, count });

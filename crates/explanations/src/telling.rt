@@ -1,7 +1,7 @@
 //! A counterexample as it is told: a line that says what is wrong where, and a line with a statement that
 //! would mend it.
 
-use crate::counterexample::{Counterexample, Packets, PartSort, PathEnd, first_counterexample};
+use crate::counterexample::{Counterexample, Packets, PathEnd, TooFew, first_counterexample};
 use scenario_image::{LoadFault, NodeKind, ScenarioParts};
 use std::alloc::{AllocError, Global};
 use std::fmt;
@@ -168,13 +168,13 @@ impl<'a> NamedCounterexample<'a> {
     fn tell_few<W: fmt::Write>(
         &self,
         f: &mut fmt::Formatter<W>,
-        sort: PartSort,
+        sort: TooFew,
         count: usize,
     ) -> fmt::Result {
         let (things, least, statement) = match sort {
-            PartSort::Nodes => ("nodes", 2, "node NAME KIND"),
-            PartSort::Links => ("links", 1, "link NAME FROM TO RATE DELAY droptail CAP"),
-            PartSort::Flows => (
+            TooFew::Nodes => ("nodes", 2, "node NAME KIND"),
+            TooFew::Links => ("links", 1, "link NAME FROM TO RATE DELAY droptail CAP"),
+            TooFew::Flows => (
                 "flows",
                 1,
                 "flow NAME SENDER RECEIVER MSS SEGMENTS START RWND DELACK",

@@ -1,4 +1,4 @@
--- The event that is due in a net is one of the region of all its nodes, where nothing is held back.
+-- The event that is due in a net is one of the region of all its nodes, where no message is outgoing.
 use Rattle.std.proofs.Common.{◌≡◌, ◌≢◌, ℕ, ◌+◌, ◌<◌, List, [], set, replicate, refl, sym, subst, ◌∙◌, Some, None, Option}
 use Rattle.std.specs.Option.{option_map}
 use Rattle.sim_time.specs.declared.key.Key.{Key}

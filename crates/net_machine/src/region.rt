@@ -69,7 +69,7 @@ pub trait Region {
         requires index { index < length (node_at (nodes self.now) (number_at self.now at)).part.links }
         ensures { result ≡ (link_at (node_at (nodes self.now) (number_at self.now at)).part.links index).port.link };
 
-    /// Packets that left over a link go on: to the node at its end, or they are held back for it. The
+    /// Packets that left over a link go on: to the node at its end, or they are outgoing messages for it. The
     /// chain is then empty. It takes no memory.
     fn pass_on(&mut self, links: &[LinkEnds], link: usize, packets: &mut PacketChain)
         requires known { link < length links.now }

@@ -8,13 +8,13 @@ use Rattle.node_core.specs.TraceLine.{TraceLine}
 use Rattle.node_core.specs.Node.{NodeState, delivered, HasFired}
 use Rattle.net_machine.specs.Nodes.{no_node, node_at, IsPlaced}
 use Rattle.node_group.specs.Seats.{Seats, seated, taken_nodes, number_at}
-use Rattle.node_group.specs.Numbered.{seats_of, AreMembers}
+use Rattle.node_group.specs.Numbered.{seats_of, AreNodesByNumber}
 use Rattle.node_group.proofs.Seated.{seated_set, taken_set}
 use Rattle.node_group.proofs.AtSeats.{set_at, placed_fired, placed_come}
 use Rattle.node_group.proofs.Numbered.{many, seat_at, node_among, seats_set, members_set}
 use Rattle.node_group.proofs.InRow.{in_row, read_there}
 
-module _ (nodes : List NodeState) (index : List ℕ) (is : AreMembers nodes index) (now : Seats) (view : seats_of nodes index ≡ now) (at : ℕ) (under : number_at now at < length now) where
+module _ (nodes : List NodeState) (index : List ℕ) (is : AreNodesByNumber nodes index) (now : Seats) (view : seats_of nodes index ≡ now) (at : ℕ) (under : number_at now at < length now) where
   abbrev number : ℕ
   number = number_at now at
 
@@ -65,13 +65,13 @@ module _ (nodes : List NodeState) (index : List ℕ) (is : AreMembers nodes inde
     pub same_seats : taken_nodes (seats_of new index) ≡ taken_nodes now
     same_seats = ap taken_nodes seats_new ∙ taken_set now number x (node_at nodes at) taken_by
 
-    -- its members, where each node then sits at its number
-    members_new : IsPlaced (set (seated (seats_of nodes index)) number x) → AreMembers new index
-    members_new after = subst (λ (ns : List NodeState). AreMembers ns index) (sym new_is) (members_set nodes index is.placed number within at read inside x after is)
+    -- its nodes, where each node then sits at its number
+    members_new : IsPlaced (set (seated (seats_of nodes index)) number x) → AreNodesByNumber new index
+    members_new after = subst (λ (ns : List NodeState). AreNodesByNumber ns index) (sym new_is) (members_set nodes index is.placed number within at read inside x after is)
 
     -- it has run its event
     module _ (out after : List (List Stamped)) (line : TraceLine) (has : HasFired (node_at nodes at) x out after line) where
-      pub members_fired : AreMembers new index
+      pub members_fired : AreNodesByNumber new index
       members_fired = members_new (placed_fired (seats_of nodes index) number sits is.placed (node_at nodes at) x among out after line has)
 
       pub fired_there : HasFired (node_at (seated now) number) (node_at (seated (seats_of new index)) number) out after line
@@ -79,7 +79,7 @@ module _ (nodes : List NodeState) (index : List ℕ) (is : AreMembers nodes inde
 
     -- packets have come to it
     module _ (entry : ℕ) (packets : List Stamped) (come : x ≡ delivered (node_at nodes at) entry packets) where
-      pub members_come : AreMembers new index
+      pub members_come : AreNodesByNumber new index
       members_come = members_new (placed_come (seats_of nodes index) number sits is.placed (node_at nodes at) x among entry packets come)
 
       pub nodes_come : seated (seats_of new index) ≡ set (seated now) number (delivered (node_at (seated now) number) entry packets)

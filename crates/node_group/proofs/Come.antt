@@ -128,7 +128,7 @@ module _ (g : GroupValue) (is : IsGroup g) (link : ℕ) (known : link < length g
 
   -- what comes later than all that is pending over the link can go on
   pub can_come_in : (packets : List Stamped) → IsStrictlyIncreasing (stamps_of packets) → All (λ stamp. EachKey (λ k. k.source ≡ link + 1 → k.time < stamp) (net_pending (seated g.seats))) (stamps_of packets) → came_in g link + length packets ≤ 2 ^ 50
-      → CanPass g.links record { members = g.seats; exits = g.held } link packets
+      → CanPass g.links record { nodes_by_number = g.seats; exits = g.held } link packets
   can_come_in packets rising later few =
       let entry = is.entries_are link known to_this in
       record {
@@ -144,5 +144,5 @@ module _ (g : GroupValue) (is : IsGroup g) (link : ℕ) (known : link < length g
       }
 
   -- what has gone on has come there
-  pub has_come_in : (packets : List Stamped) (new : Area) → HasPassed g.links record { members = g.seats; exits = g.held } link packets new → HasCome g.links g.seats new.members link packets × (new.exits ≡ g.held)
+  pub has_come_in : (packets : List Stamped) (new : Area) → HasPassed g.links record { nodes_by_number = g.seats; exits = g.held } link packets new → HasCome g.links g.seats new.nodes_by_number link packets × (new.exits ≡ g.held)
   has_come_in packets new has = (has.come end_taken, has.exits_stay end_taken)

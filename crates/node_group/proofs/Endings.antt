@@ -19,11 +19,11 @@ use Rattle.node_group.proofs.EndsInside.{ends_inside}
 use Rattle.node_group.proofs.EndsAcross.{ends_across}
 
 module _ {g : GroupValue} {end place : ℕ} {k : Key} {v : Event} {e : HasRun g end place k v} {l : Leaving} (s : IsSending e l) where
-  ends_passed : (new : Area) → HasPassed g.links record { members = ran e; exits = g.held } (link s) (packets s) new → IsFiring end g (next e new.members new.exits)
+  ends_passed : (new : Area) → HasPassed g.links record { nodes_by_number = ran e; exits = g.held } (link s) (packets s) new → IsFiring end g (next e new.nodes_by_number new.exits)
   ends_passed new has = by (is_seated (ran e) (place_at g.links (link s)).node) refl
     where
-      by : (b : Bool) → is_seated (ran e) (place_at g.links (link s)).node ≡ b → IsFiring end g (next e new.members new.exits)
-      by true here = subst (λ (wires : List WireState). IsFiring end g (next e new.members wires)) (sym (has.exits_stay here)) (ends_inside s here new.members (has.come here))
+      by : (b : Bool) → is_seated (ran e) (place_at g.links (link s)).node ≡ b → IsFiring end g (next e new.nodes_by_number new.exits)
+      by true here = subst (λ (wires : List WireState). IsFiring end g (next e new.nodes_by_number wires)) (sym (has.exits_stay here)) (ends_inside s here new.nodes_by_number (has.come here))
       by false here = subst (λ (all : Seats). IsFiring end g (next e all new.exits)) (sym (has.members_stay here)) (ends_across s here new.exits (has.waits here))
 
 module _ {g : GroupValue} {end place : ℕ} (d : IsDueBelow end g place) where
@@ -43,7 +43,7 @@ module _ {g : GroupValue} {end place : ℕ} (d : IsDueBelow end g place) where
   }
 
   abbrev area : Area
-  area = record { members = g.seats; exits = g.held }
+  area = record { nodes_by_number = g.seats; exits = g.held }
 
   pub can_go : CanGoOn nodes_of with_node (CanPass g.links) area place
   can_go k v l here is = can_pass (sends k v here l is)
@@ -52,17 +52,17 @@ module _ {g : GroupValue} {end place : ℕ} (d : IsDueBelow end g place) where
     abbrev e : HasRun g end place line.key line.event
     e = runs line.key line.event has.is_least
 
-    by_leaving : (o : Option Leaving) → (effect_at (seated g.seats) place line.key line.event).leaving ≡ o → IsFiring end g (next e new.members new.exits)
+    by_leaving : (o : Option Leaving) → (effect_at (seated g.seats) place line.key line.event).leaving ≡ o → IsFiring end g (next e new.nodes_by_number new.exits)
     by_leaving None none =
-        let same : new ≡ record { members = ran e; exits = g.held } = subst (λ o. GoneOn (HasPassed g.links) (effect e) o record { members = ran e; exits = g.held } new) none has.goes in
-        subst (λ (a : Area). IsFiring end g (next e a.members a.exits)) (sym same) (ends_quiet e none)
+        let same : new ≡ record { nodes_by_number = ran e; exits = g.held } = subst (λ o. GoneOn (HasPassed g.links) (effect e) o record { nodes_by_number = ran e; exits = g.held } new) none has.goes in
+        subst (λ (a : Area). IsFiring end g (next e a.nodes_by_number a.exits)) (sym same) (ends_quiet e none)
     by_leaving (Some l) is =
         let s = sends line.key line.event has.is_least l is in
-        let passed : HasPassed g.links record { members = ran e; exits = g.held } (link_left (effect e) l) (packet_left l) new = subst (λ o. GoneOn (HasPassed g.links) (effect e) o record { members = ran e; exits = g.held } new) is has.goes in
-        ends_passed s new (subst (λ n. HasPassed g.links record { members = ran e; exits = g.held } n (packet_left l) new) (number_is s) passed)
+        let passed : HasPassed g.links record { nodes_by_number = ran e; exits = g.held } (link_left (effect e) l) (packet_left l) new = subst (λ o. GoneOn (HasPassed g.links) (effect e) o record { nodes_by_number = ran e; exits = g.held } new) is has.goes in
+        ends_passed s new (subst (λ n. HasPassed g.links record { nodes_by_number = ran e; exits = g.held } n (packet_left l) new) (number_is s) passed)
 
     -- the group has fired, and the line is told behind the others
-    pub has_fired : (lines : List TraceLine) → lines ≡ g.lines ++ line ∷ [] → IsFiring end g (record g { seats = new.members; held = new.exits; lines = lines })
+    pub has_fired : (lines : List TraceLine) → lines ≡ g.lines ++ line ∷ [] → IsFiring end g (record g { seats = new.nodes_by_number; held = new.exits; lines = lines })
     has_fired lines same =
-        subst (λ (all : List TraceLine). IsFiring end g (record g { seats = new.members; held = new.exits; lines = all })) (sym (same ∙ ap (λ (x : TraceLine). g.lines ++ x ∷ []) has.reported))
+        subst (λ (all : List TraceLine). IsFiring end g (record g { seats = new.nodes_by_number; held = new.exits; lines = all })) (sym (same ∙ ap (λ (x : TraceLine). g.lines ++ x ∷ []) has.reported))
         (by_leaving (effect_at (seated g.seats) place line.key line.event).leaving refl)

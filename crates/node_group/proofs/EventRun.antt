@@ -49,7 +49,7 @@ module _ {g : GroupValue} {end place : ℕ} {k : Key} {v : Event} (e : HasRun g 
   abbrev pub due_here : IsDueInRun e.on.edge g.until (group_in g.entries) g.number (state_of g) k v
   due_here = in_run g e.on k v (is_due g e.is e.on end e.below place e.first k v e.here e.early)
 
-  -- the group afterwards, with these nodes, and this held back
+  -- the group afterwards, with these nodes, and these outgoing messages
   abbrev pub next : Seats → List WireState → GroupValue
   next last held = new g e.is e.on end e.below place e.first k v e.here e.early last held
 

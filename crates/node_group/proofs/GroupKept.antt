@@ -61,7 +61,7 @@ module _ (g : GroupValue) (is : IsGroup g) where
     abbrev pub new : GroupValue
     new = record g { seats = seats; held = held; lines = lines }
 
-    -- what a link has sent has come, or is held back
+    -- what a link has sent has come, or is an outgoing message
     pub record IsBalanced (node index : ℕ) : Type 0 where
       pub inside : group_to g (exit_at g node index).port.link ≡ g.number → came_in new (exit_at g node index).port.link ≡ (exit_at new node index).port.sent
       pub across : group_to g (exit_at g node index).port.link ≢ g.number → came_over (wire_at held (exit_at g node index).port.link) ≡ (exit_at new node index).port.sent

@@ -1,4 +1,4 @@
--- What is held back, link by link, as one map.
+-- The outgoing messages, link by link, as one map.
 use Rattle.std.proofs.Common.{◌≡◌, ℕ, zero, suc, ◌+◌, ◌-◌, ◌<◌, ◌≤◌, List, [], ◌∷◌, length, set, map, refl, sym, ap, subst, ◌∙◌, ⊎_elim, arith}
 use Rattle.std.proofs.lemmas.Bool.{cases_lt}
 use Rattle.std.proofs.lemmas.List.{map-set, length-map, get_or_past}
@@ -27,7 +27,7 @@ wire_map (w ∷ ws) zero under = refl
 wire_map (w ∷ ws) (suc i) under = wire_map ws i (omega (arith, under))
 
 module _ (wires : List WireState) (by_link : AreByLink wires) where
-  -- what is held back of a link comes over it
+  -- the outgoing messages of a link come over it
   pub held_home : AtHome over_link (map pending_on wires)
   held_home i = ⊎_elim
       (λ (under : i < length wires).
@@ -38,7 +38,7 @@ module _ (wires : List WireState) (by_link : AreByLink wires) where
       λ k v there. absurd (not_some (sym (get-empty _ k) ∙ ap (λ (m : Events). get m k) (sym (get_or_past (map pending_on wires) i (nothing_due Event) (omega (arith, past, size)))) ∙ there)))
       (cases_lt i (length wires))
 
-  -- packets join what is held back of a link
+  -- packets join the outgoing messages of a link
   module _ (link : ℕ) (within : link < length wires) (sent : List Stamped) (new : WireState)
       (change : pending_on new ≡ apply (entering (arrivals (wire_at wires link).node (wire_at wires link).link (came_over (wire_at wires link)) sent)) (pending_on (wire_at wires link))) where
     abbrev cs : List EventChange

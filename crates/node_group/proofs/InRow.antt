@@ -12,10 +12,10 @@ use Rattle.node_core.specs.declared.event.Event.{Event}
 use Rattle.node_core.specs.Node.{NodeState}
 use Rattle.net_machine.specs.Nodes.{no_node, node_at, next_keys, net_pending, IsFirst, LeadsAt}
 use Rattle.node_group.specs.Seats.{Seats, seated, taken_nodes, nth_taken, number_at}
-use Rattle.node_group.specs.Numbered.{seats_of, AreMembers}
+use Rattle.node_group.specs.Numbered.{seats_of, AreNodesByNumber}
 use Rattle.node_group.proofs.Numbered.{many, seat_at, number_among, number_in, first_within, first_member, first_time_of, none_pending}
 
-module _ (nodes : List NodeState) (index : List ℕ) (is : AreMembers nodes index) where
+module _ (nodes : List NodeState) (index : List ℕ) (is : AreNodesByNumber nodes index) where
   abbrev number : ℕ → ℕ
   number k = (node_at nodes k).number
 

@@ -13,10 +13,10 @@ use Rattle.node_core.specs.TraceLine.{shown}
 use Rattle.net_machine.specs.Nodes.{net_pending, IsFirst}
 use Rattle.net_machine.specs.Region.{HasHappened}
 use Rattle.node_group.specs.declared.area.Area.{Area}
-use Rattle.node_group.specs.declared.share.Share.TheInside.{Inside}
+use Rattle.node_group.specs.declared.group_state.GroupState.TheInside.{Inside}
 use Rattle.node_group.specs.Group.{GroupValue, IsOnRun, AfterFirings, IsFiring, IsDueBelow}
 use Rattle.node_group.specs.Passing.{nodes_of, with_node, HasPassed}
-use Rattle.node_group.specs.ShareOf.{group_of, IsShare}
+use Rattle.node_group.specs.GroupStateOf.{group_of, IsGroupState}
 use Rattle.node_group.proofs.Endings.{has_fired}
 
 pub reported_count : (lines : List Line) (count : ℕ) → count ≤ length lines → length (map shown (take count lines)) ≡ count
@@ -41,11 +41,11 @@ on_ok (Err x) h e = absurd (true≢false e)
 
 -- a share's group has fired: with a line more among those that there is memory for
 pub has_fired_into : (s : Inside) (end place : ℕ) → s.count ≤ length s.lines.items → IsDueBelow end (group_of s) place → (made : List Line) → s.count < length made → take s.count made ≡ take s.count s.lines.items → (line : Line) (new : Area)
-    → HasHappened nodes_of with_node (HasPassed s.links.items) s.area new place (shown line) → IsFiring end (group_of s) (record (group_of s) { seats = new.members; held = new.exits; lines = map shown (take (s.count + 1) (set made s.count line)) })
+    → HasHappened nodes_of with_node (HasPassed s.links.items) s.area new place (shown line) → IsFiring end (group_of s) (record (group_of s) { seats = new.nodes_by_number; held = new.exits; lines = map shown (take (s.count + 1) (set made s.count line)) })
 has_fired_into s end place within d made room kept line new has = has_fired d (shown line) new has (map shown (take (s.count + 1) (set made s.count line))) (reported_more s.lines.items made s.count line room kept)
 
--- the least event of a share is below a moment
-pub due_below : (s : Inside) → IsShare s → (g : GroupValue) → group_of s ≡ g → IsOnRun g → (end : ℕ) → end ≤ g.until → (place time : ℕ) → IsFirst (nodes_of s.area) place → Some time ≡ time_of (next_key (net_pending (nodes_of s.area))) → time < end → s.position + s.count < 1000000000000000 → IsDueBelow end (group_of s) place
+-- the least event of a group state is below a moment
+pub due_below : (s : Inside) → IsGroupState s → (g : GroupValue) → group_of s ≡ g → IsOnRun g → (end : ℕ) → end ≤ g.until → (place time : ℕ) → IsFirst (nodes_of s.area) place → Some time ≡ time_of (next_key (net_pending (nodes_of s.area))) → time < end → s.position + s.count < 1000000000000000 → IsDueBelow end (group_of s) place
 due_below s is g same on end below place time first next soon few =
     let reported = reported_count s.lines.items s.count is.count in
     record {

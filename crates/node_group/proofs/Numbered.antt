@@ -20,7 +20,7 @@ use Rattle.net_machine.specs.Nodes.{no_node, node_at, next_keys, net_pending, Is
 use Rattle.net_machine.proofs.AtNodes.{pending_at, next_at, first_node, first_key, net_none}
 use Rattle.net_machine.proofs.InPlace.{has_node, rising_in_place}
 use Rattle.node_group.specs.Seats.{absent, seated}
-use Rattle.node_group.specs.Numbered.{seats_of, AreFound, AreRising, AreMembers}
+use Rattle.node_group.specs.Numbered.{seats_of, AreFound, AreRising, AreNodesByNumber}
 use Rattle.node_group.proofs.Seated.{length-seated, seated_at, seated_set, nobody}
 
 slice_get_set_other : {X : Type 0} (xs : List X) (i j : ℕ) (x d : X) → j ≢ i → slice_get (set xs i x) j ≡ slice_get xs j
@@ -118,7 +118,7 @@ module _ (nodes : List NodeState) (index : List ℕ) where
             let same_n = numbers_stay n in
             omega (arith, rises, same_m, same_n)
 
-        pub members_set : AreMembers nodes index → AreMembers (set nodes k x) index
+        pub members_set : AreNodesByNumber nodes index → AreNodesByNumber (set nodes k x) index
         members_set is = record { placed = subst IsPlaced (sym all_set) after; found = found_set is.found; rising = rising_set is.rising }
 
   -- THE LEAST OF ALL
@@ -134,7 +134,7 @@ module _ (nodes : List NodeState) (index : List ℕ) where
       absurd (not_some (sym (next_empty Event) ∙ ap (λ (n : NodeState). next_key n.pending) (sym (get_or-eq_default (seated (seats_of nodes index)) no_node (subst (λ n. n ≤ i) (sym (length-seated (seats_of nodes index) ∙ many)) past))) ∙ next)))
       (cases_lt i (length index))
 
-  module _ (is : AreMembers nodes index) where
+  module _ (is : AreNodesByNumber nodes index) where
     pub number_in : (k : ℕ) → k < length nodes → (node_at nodes k).number < length index
     number_in k inside = ⊎_elim
         (λ (under : (node_at nodes k).number < length index). under)

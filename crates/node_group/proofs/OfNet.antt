@@ -1,4 +1,4 @@
--- A net split into groups: each share is a group of it, and together they hold its state.
+-- A net split into groups: each group state is a group of it, and together they hold its state.
 use Rattle.std.proofs.Common.{◌≡◌, ◌≢◌, ℕ, ◌+◌, ◌<◌, ◌≤◌, ◌==◌, Bool, true, false, cond, List, [], length, map, replicate, refl, sym, ap, subst, ◌∙◌, Some, None, Option, is_some, ⊎_elim, arith, eq-eqb, eqb-true}
 use Rattle.std.proofs.lemmas.Bool.{cases_eq, cases_lt, ne_eqb}
 use Rattle.std.proofs.lemmas.List.{length-map, get_or_past, get_or-map, ext_get_or}
@@ -33,7 +33,7 @@ use Rattle.net_partition.specs.Partition.{group_in}
 use Rattle.node_group.specs.Seats.{Seats, absent, seated, taken_nodes}
 use Rattle.node_group.specs.Held.{no_wire, held_on}
 use Rattle.node_group.specs.Group.{GroupValue, group_to, member, exit_at, entry_at, came_in, IsGroup, IsOwnExit}
-use Rattle.node_group.specs.Shares.{AreSeatsOf, AreIdle, idle_wire}
+use Rattle.node_group.specs.GroupStates.{AreSeatsOf, AreIdle, idle_wire}
 use Rattle.node_group.proofs.Seated.{length-seated, seated_at}
 
 module _ (entries : List ℕ) (number : ℕ) (nodes : List NodeState) (seats : Seats) (are : AreSeatsOf entries number nodes seats) where
@@ -121,7 +121,7 @@ module _ (entries : List ℕ) (number : ℕ) (nodes : List NodeState) (seats : S
             (get-gathered (λ q. q.node) (pendings nodes) placed.at_home k ∙ ap (λ (m : Events). get m k) (pending_at nodes k.node)
             ∙ ap (λ (n : NodeState). get n.pending k) (get_or_past nodes k.node no_node (omega (arith, past, at, size))) ∙ get-empty _ k)
 
--- nothing is held back over idle wires
+-- there is no outgoing message over idle wires
 pub idle_none : (links : List LinkEnds) (nodes : List NodeState) (held : List WireState) → AreIdle links nodes held → held_on held ≡ nothing_due Event
 idle_none links nodes held idle = none-gathered (map pending_on held) (λ i.
     ⊎_elim
@@ -262,9 +262,9 @@ module _ (nodes : List NodeState) (links : List LinkEnds) (end position : ℕ) (
             subst (λ (n : NodeState). k.number ≤ (incoming_at n.incoming (place_at links link).index).came) (sym (end_mine link under own_end)) c.counted
         by false off = absurd (not_some (sym (ap (λ b. cond b (get (net_pending nodes) k) None) off) ∙ sym (pending_mine entries number nodes seats are is_net.placed size k) ∙ there))
 
-    -- the share is a group
-    pub share_is_group : IsGroup g
-    share_is_group = record {
+    -- the group state is a group
+    pub group_state_is_group : IsGroup g
+    group_state_is_group = record {
       seats_are = seats_taken entries number nodes seats are;
       placed = placed_seats entries number nodes seats are is_net.placed size;
       few = at_seat entries number nodes seats are (λ j (n : NodeState). length n.part.links ≤ 16) (λ j here own. is_net.wired.few j) (λ j here off. omega arith) (λ j past. omega arith);

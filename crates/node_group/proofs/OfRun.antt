@@ -18,7 +18,7 @@ use Rattle.net_machine.specs.NetOf.{AreNetParts}
 use Rattle.net_machine.specs.Wiring.{no_link_part, link_part, from_of, exit_of, leaving_at, ends_at}
 use Rattle.net_machine.proofs.Counting.{count-cons}
 use Rattle.net_machine.proofs.Joined.{size}
-use Rattle.node_group.specs.Shares.{exit_in, AreJoined}
+use Rattle.node_group.specs.GroupStates.{exit_in, AreJoined}
 use Rattle.node_group.proofs.OfNet.{parts, known, ends_are, wire, coming_is, is_net, sound, part_is}
 
 -- as many links of one list leave a node as of another, where their ends agree

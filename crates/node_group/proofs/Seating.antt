@@ -8,16 +8,16 @@ use Rattle.std.specs.List.{slice_get}
 use Rattle.node_core.specs.Node.{NodeState}
 use Rattle.net_machine.specs.declared.places.LinkEnds.{LinkEnds}
 use Rattle.net_machine.specs.Nodes.{no_node, node_at}
-use Rattle.node_group.specs.declared.members.MemberParts.{MemberParts}
-use Rattle.node_group.specs.declared.share.ShareParts.{ShareParts}
+use Rattle.node_group.specs.declared.nodes_by_number.NodesByNumberParts.{NodesByNumberParts}
+use Rattle.node_group.specs.declared.group_state.GroupStateParts.{GroupStateParts}
 use Rattle.net_partition.specs.Partition.{group_in}
 use Rattle.node_group.specs.Numbered.{AreFound, AreRising}
-use Rattle.node_group.specs.Shares.{nowhere, size_of, IsRoom, AreRooms, HaveJoined, IsSeatedBelow, AreSeatedBelow}
+use Rattle.node_group.specs.GroupStates.{nowhere, size_of, IsRoom, AreRooms, HaveJoined, IsSeatedBelow, AreSeatedBelow}
 
 -- ROOMS
 
 -- one more
-pub rooms_more : (entries : List ℕ) (links : List LinkEnds) (nodes : List NodeState) (rooms : List ShareParts) (room : ShareParts) → AreRooms entries links nodes rooms → IsRoom entries links nodes (length rooms) room → AreRooms entries links nodes (rooms ++ room ∷ [])
+pub rooms_more : (entries : List ℕ) (links : List LinkEnds) (nodes : List NodeState) (rooms : List GroupStateParts) (room : GroupStateParts) → AreRooms entries links nodes rooms → IsRoom entries links nodes (length rooms) room → AreRooms entries links nodes (rooms ++ room ∷ [])
 rooms_more entries links nodes rooms room all is number d under =
     let longer = length_push rooms room in
     ⊎_elim
@@ -151,11 +151,11 @@ module _ (entries : List ℕ) (nodes : List NodeState) (place : ℕ) (known : pl
 
 module _ (entries : List ℕ) (links : List LinkEnds) (nodes : List NodeState) where
   -- before the first of them
-  pub seated_none : (rooms : List ShareParts) → AreRooms entries links nodes rooms → AreSeatedBelow 0 entries links nodes rooms
+  pub seated_none : (rooms : List GroupStateParts) → AreRooms entries links nodes rooms → AreSeatedBelow 0 entries links nodes rooms
   seated_none rooms all number d under =
       let room = all number d under in
-      let free : (i : ℕ) → i < length entries → get_or (get_or rooms number d).members.index.items i nowhere ≡ nowhere = λ i inside. ap (λ (ix : List ℕ). get_or ix i nowhere) room.nobody ∙ get_or-replicate (length entries) i nowhere nowhere inside in
-      let none : length (get_or rooms number d).members.nodes.items ≡ 0 = ap length room.empty in
+      let free : (i : ℕ) → i < length entries → get_or (get_or rooms number d).nodes_by_number.index.items i nowhere ≡ nowhere = λ i inside. ap (λ (ix : List ℕ). get_or ix i nowhere) room.nobody ∙ get_or-replicate (length entries) i nowhere nowhere inside in
+      let none : length (get_or rooms number d).nodes_by_number.nodes.items ≡ 0 = ap length room.empty in
       record {
         links_are = room.links_are;
         joined = record {
@@ -176,44 +176,44 @@ module _ (entries : List ℕ) (links : List LinkEnds) (nodes : List NodeState) w
       }
 
   -- the next one
-  module _ (place : ℕ) (known : place < length entries) (rooms : List ShareParts) (seated : AreSeatedBelow place entries links nodes rooms) (group : ℕ) (group_is : group ≡ group_in entries place) (within : group < length rooms) (old : ShareParts) (e : ShareParts) (old_is : old ≡ get_or rooms group e) where
+  module _ (place : ℕ) (known : place < length entries) (rooms : List GroupStateParts) (seated : AreSeatedBelow place entries links nodes rooms) (group : ℕ) (group_is : group ≡ group_in entries place) (within : group < length rooms) (old : GroupStateParts) (e : GroupStateParts) (old_is : old ≡ get_or rooms group e) where
     here : IsSeatedBelow place entries links nodes group old
     here = subst (IsSeatedBelow place entries links nodes group) (sym old_is) (seated group e within)
 
     module _ (node : NodeState) (node_is : node ≡ node_at nodes place) (number_is : node.number ≡ place) where
-      pub has_room : (length old.members.nodes.items < vec_capacity old.members.nodes) × (length old.members.nodes.items < 2 ^ 12)
+      pub has_room : (length old.nodes_by_number.nodes.items < vec_capacity old.nodes_by_number.nodes) × (length old.nodes_by_number.nodes.items < 2 ^ 12)
       has_room =
-          let less = one_fits entries nodes place known group old.members.nodes.items old.members.index.items (length old.members.timetable) here.joined (sym group_is) node node_is number_is in
+          let less = one_fits entries nodes place known group old.nodes_by_number.nodes.items old.nodes_by_number.index.items (length old.nodes_by_number.timetable) here.joined (sym group_is) node node_is number_is in
           let capacity = here.capacity in
           let few = here.joined.few in
           (omega (arith, less, capacity), omega (arith, less, few))
 
-      module _ (members : MemberParts) (nodes_are : members.nodes.items ≡ old.members.nodes.items ++ node ∷ []) (index_is : members.index.items ≡ set old.members.index.items place (length old.members.nodes.items))
-          (capacity_is : vec_capacity members.nodes ≡ vec_capacity old.members.nodes) (timetable_is : members.timetable ≡ old.members.timetable) where
-        new_here : IsSeatedBelow (place + 1) entries links nodes group (record old { members = members })
+      module _ (nodes_by_number : NodesByNumberParts) (nodes_are : nodes_by_number.nodes.items ≡ old.nodes_by_number.nodes.items ++ node ∷ []) (index_is : nodes_by_number.index.items ≡ set old.nodes_by_number.index.items place (length old.nodes_by_number.nodes.items))
+          (capacity_is : vec_capacity nodes_by_number.nodes ≡ vec_capacity old.nodes_by_number.nodes) (timetable_is : nodes_by_number.timetable ≡ old.nodes_by_number.timetable) where
+        new_here : IsSeatedBelow (place + 1) entries links nodes group (record old { nodes_by_number = nodes_by_number })
         new_here = record {
           links_are = here.links_are;
-          joined = subst (λ (times : List (Option ℕ)). HaveJoined (place + 1) entries nodes group members.nodes.items members.index.items (length times)) (sym timetable_is)
-              (subst (λ (ns : List NodeState). HaveJoined (place + 1) entries nodes group ns members.index.items (length old.members.timetable)) (sym nodes_are)
-              (subst (λ (ix : List ℕ). HaveJoined (place + 1) entries nodes group (old.members.nodes.items ++ node ∷ []) ix (length old.members.timetable)) (sym index_is)
-              (joined_more entries nodes place known group old.members.nodes.items old.members.index.items (length old.members.timetable) here.joined (sym group_is) node node_is number_is)));
+          joined = subst (λ (times : List (Option ℕ)). HaveJoined (place + 1) entries nodes group nodes_by_number.nodes.items nodes_by_number.index.items (length times)) (sym timetable_is)
+              (subst (λ (ns : List NodeState). HaveJoined (place + 1) entries nodes group ns nodes_by_number.index.items (length old.nodes_by_number.timetable)) (sym nodes_are)
+              (subst (λ (ix : List ℕ). HaveJoined (place + 1) entries nodes group (old.nodes_by_number.nodes.items ++ node ∷ []) ix (length old.nodes_by_number.timetable)) (sym index_is)
+              (joined_more entries nodes place known group old.nodes_by_number.nodes.items old.nodes_by_number.index.items (length old.nodes_by_number.timetable) here.joined (sym group_is) node node_is number_is)));
           capacity = (let capacity = here.capacity in let same = ap length timetable_is in omega (arith, capacity, same, capacity_is));
           idle = here.idle;
           out_empty = here.out_empty;
         }
 
-        other_here : (number : ℕ) (room : ShareParts) → number ≢ group → IsSeatedBelow place entries links nodes number room → IsSeatedBelow (place + 1) entries links nodes number room
+        other_here : (number : ℕ) (room : GroupStateParts) → number ≢ group → IsSeatedBelow place entries links nodes number room → IsSeatedBelow (place + 1) entries links nodes number room
         other_here number room apart is = record {
           links_are = is.links_are;
-          joined = joined_same entries nodes place known number room.members.nodes.items room.members.index.items (length room.members.timetable) is.joined (λ same. apart (sym (group_is ∙ same)));
+          joined = joined_same entries nodes place known number room.nodes_by_number.nodes.items room.nodes_by_number.index.items (length room.nodes_by_number.timetable) is.joined (λ same. apart (sym (group_is ∙ same)));
           capacity = is.capacity;
           idle = is.idle;
           out_empty = is.out_empty;
         }
 
-        pub seated_one : AreSeatedBelow (place + 1) entries links nodes (set rooms group (record old { members = members }))
+        pub seated_one : AreSeatedBelow (place + 1) entries links nodes (set rooms group (record old { nodes_by_number = nodes_by_number }))
         seated_one number d under =
-            let new : ShareParts = record old { members = members } in
+            let new : GroupStateParts = record old { nodes_by_number = nodes_by_number } in
             let inside : number < length rooms = subst (λ n. number < n) (length-set rooms group new) under in
             ⊎_elim
             (λ (same : number ≡ group).

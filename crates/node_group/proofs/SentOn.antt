@@ -128,8 +128,8 @@ module _ {g : GroupValue} {end place : ℕ} {k : Key} {v : Event} {e : HasRun g 
       ∙ get_or-map (λ (x : Option NodeState). is_some x) g.seats (place_at g.links link).node None
       ∙ seat_taken g e.is (place_at g.links link).node (let end_known = e.is.ends_known link its.known in let size = seat_count g e.is in omega (arith, end_known, size))
 
-  pub can_pass : CanPass g.links record { members = ran e; exits = g.held } (link_left (effect e) l) packets
-  can_pass = subst (λ n. CanPass g.links record { members = ran e; exits = g.held } n packets) (sym number_is) record {
+  pub can_pass : CanPass g.links record { nodes_by_number = ran e; exits = g.held } (link_left (effect e) l) packets
+  can_pass = subst (λ n. CanPass g.links record { nodes_by_number = ran e; exits = g.held } n packets) (sym number_is) record {
     end_known = (let size = length-set g.seats place (Some (node_after (seated g.seats) place k v)) in let end_known = e.is.ends_known link its.known in let many = seat_count g e.is in omega (arith, end_known, many, size));
     inside = can_come;
     across = can_wait;

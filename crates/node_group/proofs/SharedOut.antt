@@ -1,4 +1,4 @@
--- The groups of a net have their shares, from the last to the first.
+-- The groups of a net have their states, from the last to the first.
 use Rattle.std.proofs.Common.{◌≡◌, ◌≢◌, ℕ, ◌+◌, ◌-◌, ◌<◌, cond, List, [], ◌∷◌, ◌++◌, length, get_or, reverse, refl, sym, ap, subst, ◌∙◌, Some, None, ⊎_elim, arith, length-append, eq-eqb}
 use Rattle.std.proofs.lemmas.Bool.{cases_eq, ne_eqb}
 use Rattle.std.proofs.lemmas.List.{get_or_append_left, get_or_push, get_or-map, get_or-reverse, length-reverse}
@@ -8,41 +8,41 @@ use Rattle.std.specs.List.{slice_get}
 use Rattle.node_core.specs.Node.{NodeState}
 use Rattle.net_machine.specs.declared.places.LinkEnds.{LinkEnds}
 use Rattle.net_machine.specs.NetOf.{AreNetParts}
-use Rattle.node_group.specs.declared.share.ShareParts.{ShareParts}
+use Rattle.node_group.specs.declared.group_state.GroupStateParts.{GroupStateParts}
 use Rattle.node_group.specs.Group.{GroupValue, IsGroup}
 use Rattle.net_machine.specs.Nodes.{node_at}
 use Rattle.net_partition.specs.Partition.{group_in}
 use Rattle.node_group.specs.Seats.{Seats}
 use Rattle.node_group.specs.Numbered.{seats_of}
-use Rattle.node_group.specs.Shares.{nowhere, size_of, AreSeatsOf, IsSeatedBelow, AreSeatedBelow, IsShareOf, AreSharesOf}
+use Rattle.node_group.specs.GroupStates.{nowhere, size_of, AreSeatsOf, IsSeatedBelow, AreSeatedBelow, IsGroupStateOf, AreGroupStatesOf}
 use Rattle.node_group.proofs.Numbered.{many}
-use Rattle.node_group.proofs.OfNet.{share_is_group}
+use Rattle.node_group.proofs.OfNet.{group_state_is_group}
 
 -- of rooms, those in front of the last, and the last
-pub front_seated : (entries : List ℕ) (links : List LinkEnds) (nodes : List NodeState) (now before : List ShareParts) (room : ShareParts) → now ≡ before ++ room ∷ [] → AreSeatedBelow (length entries) entries links nodes now → AreSeatedBelow (length entries) entries links nodes before
+pub front_seated : (entries : List ℕ) (links : List LinkEnds) (nodes : List NodeState) (now before : List GroupStateParts) (room : GroupStateParts) → now ≡ before ++ room ∷ [] → AreSeatedBelow (length entries) entries links nodes now → AreSeatedBelow (length entries) entries links nodes before
 front_seated entries links nodes now before room more seated number d under =
     let long = length-append before (room ∷ []) in
     subst (IsSeatedBelow (length entries) entries links nodes number) (get_or_append_left before (room ∷ []) d number under)
-    (subst (λ (all : List ShareParts). (d : ShareParts) → number < length all → IsSeatedBelow (length entries) entries links nodes number (get_or all number d)) more (seated number) d (omega (arith, under, long)))
+    (subst (λ (all : List GroupStateParts). (d : GroupStateParts) → number < length all → IsSeatedBelow (length entries) entries links nodes number (get_or all number d)) more (seated number) d (omega (arith, under, long)))
 
-pub last_seated : (entries : List ℕ) (links : List LinkEnds) (nodes : List NodeState) (now before : List ShareParts) (room : ShareParts) → now ≡ before ++ room ∷ [] → AreSeatedBelow (length entries) entries links nodes now → IsSeatedBelow (length entries) entries links nodes (length before) room
+pub last_seated : (entries : List ℕ) (links : List LinkEnds) (nodes : List NodeState) (now before : List GroupStateParts) (room : GroupStateParts) → now ≡ before ++ room ∷ [] → AreSeatedBelow (length entries) entries links nodes now → IsSeatedBelow (length entries) entries links nodes (length before) room
 last_seated entries links nodes now before room more seated =
     let long = length-append before (room ∷ []) in
     subst (IsSeatedBelow (length entries) entries links nodes (length before)) (get_or_push before room room (length before) refl)
-    (subst (λ (all : List ShareParts). (d : ShareParts) → length before < length all → IsSeatedBelow (length entries) entries links nodes (length before) (get_or all (length before) d)) more (seated (length before)) room (omega (arith, long)))
+    (subst (λ (all : List GroupStateParts). (d : GroupStateParts) → length before < length all → IsSeatedBelow (length entries) entries links nodes (length before) (get_or all (length before) d)) more (seated (length before)) room (omega (arith, long)))
 
 -- all that were to come have joined
-pub none_missing : (entries : List ℕ) (links : List LinkEnds) (nodes : List NodeState) (number : ℕ) (room : ShareParts) → IsSeatedBelow (length entries) entries links nodes number room → length room.members.timetable ≡ length room.members.nodes.items
+pub none_missing : (entries : List ℕ) (links : List LinkEnds) (nodes : List NodeState) (number : ℕ) (room : GroupStateParts) → IsSeatedBelow (length entries) entries links nodes number room → length room.nodes_by_number.timetable ≡ length room.nodes_by_number.nodes.items
 none_missing entries links nodes number room is = sym (is.joined.size ∙ ap (size_of number) (take-length entries) ∙ is.joined.fits)
 
 -- who sits in a room
-abbrev pub seats_in : ShareParts → Seats
-seats_in room = seats_of room.members.nodes.items room.members.index.items
+abbrev pub seats_in : GroupStateParts → Seats
+seats_in room = seats_of room.nodes_by_number.nodes.items room.nodes_by_number.index.items
 
-seats_are : (entries : List ℕ) (links : List LinkEnds) (nodes : List NodeState) (number : ℕ) (room : ShareParts) → IsSeatedBelow (length entries) entries links nodes number room → AreSeatsOf entries number nodes (seats_in room)
+seats_are : (entries : List ℕ) (links : List LinkEnds) (nodes : List NodeState) (number : ℕ) (room : GroupStateParts) → IsSeatedBelow (length entries) entries links nodes number room → AreSeatsOf entries number nodes (seats_in room)
 seats_are entries links nodes number room is =
-    let joined = room.members.nodes.items in
-    let index = room.members.index.items in
+    let joined = room.nodes_by_number.nodes.items in
+    let index = room.nodes_by_number.index.items in
     record {
       count = many joined index ∙ is.joined.count;
       each_seat = λ i inside.
@@ -60,16 +60,16 @@ seats_are entries links nodes number room is =
     }
 
 -- a room whose nodes are seated is a group's
-pub room_is_group : (nodes : List NodeState) (links : List LinkEnds) (end position : ℕ) → AreNetParts nodes links end position → (entries : List ℕ) → length entries ≡ length nodes → (number until : ℕ) (room : ShareParts) → IsSeatedBelow (length entries) entries links nodes number room
+pub room_is_group : (nodes : List NodeState) (links : List LinkEnds) (end position : ℕ) → AreNetParts nodes links end position → (entries : List ℕ) → length entries ≡ length nodes → (number until : ℕ) (room : GroupStateParts) → IsSeatedBelow (length entries) entries links nodes number room
     → IsGroup (record { number = number; entries = entries; links = room.links.items; seats = seats_in room; held = room.exits; lines = []; until = until; position = position })
 room_is_group nodes links end position net entries size number until room is =
     subst (λ (ls : List LinkEnds). IsGroup (record { number = number; entries = entries; links = ls; seats = seats_in room; held = room.exits; lines = []; until = until; position = position })) (sym is.links_are)
-    (share_is_group nodes links end position net entries size number until (seats_in room) room.exits (seats_are entries links nodes number room is) is.idle)
+    (group_state_is_group nodes links end position net entries size number until (seats_in room) room.exits (seats_are entries links nodes number room is) is.idle)
 
--- and so its share
-pub room_share : (entries : List ℕ) (links : List LinkEnds) (nodes : List NodeState) (until position number : ℕ) (room : ShareParts) (g : GroupValue) → IsSeatedBelow (length entries) entries links nodes number room
-    → g ≡ record { number = number; entries = entries; links = room.links.items; seats = seats_in room; held = room.exits; lines = []; until = until; position = position } → IsShareOf entries links nodes until position number g
-room_share entries links nodes until position number room g is same = subst (IsShareOf entries links nodes until position number) (sym same) record {
+-- and so its group state
+pub room_group_state : (entries : List ℕ) (links : List LinkEnds) (nodes : List NodeState) (until position number : ℕ) (room : GroupStateParts) (g : GroupValue) → IsSeatedBelow (length entries) entries links nodes number room
+    → g ≡ record { number = number; entries = entries; links = room.links.items; seats = seats_in room; held = room.exits; lines = []; until = until; position = position } → IsGroupStateOf entries links nodes until position number g
+room_group_state entries links nodes until position number room g is same = subst (IsGroupStateOf entries links nodes until position number) (sym same) record {
   number_is = refl;
   entries_are = refl;
   links_are = is.links_are;
@@ -83,24 +83,24 @@ room_share entries links nodes until position number room g is same = subst (IsS
 module _ (entries : List ℕ) (links : List LinkEnds) (nodes : List NodeState) (until position count : ℕ) where
   -- the last first
   abbrev pub AreMade : List GroupValue → Type 0
-  AreMade shares = (i : ℕ) (d : GroupValue) → i < length shares → IsShareOf entries links nodes until position (count - 1 - i) (get_or shares i d)
+  AreMade group_states = (i : ℕ) (d : GroupValue) → i < length group_states → IsGroupStateOf entries links nodes until position (count - 1 - i) (get_or group_states i d)
 
-  pub made_more : (shares : List GroupValue) (g : GroupValue) (number : ℕ) → number + length shares + 1 ≡ count → AreMade shares → IsShareOf entries links nodes until position number g → AreMade (shares ++ g ∷ [])
-  made_more shares g number sum made is i d under =
-      let long = length-append shares (g ∷ []) in
+  pub made_more : (group_states : List GroupValue) (g : GroupValue) (number : ℕ) → number + length group_states + 1 ≡ count → AreMade group_states → IsGroupStateOf entries links nodes until position number g → AreMade (group_states ++ g ∷ [])
+  made_more group_states g number sum made is i d under =
+      let long = length-append group_states (g ∷ []) in
       ⊎_elim
-      (λ (at : i ≡ length shares).
+      (λ (at : i ≡ length group_states).
       let which : number ≡ count - 1 - i = omega (arith, at, sum) in
-      subst (λ n. IsShareOf entries links nodes until position n (get_or (shares ++ g ∷ []) i d)) which (subst (IsShareOf entries links nodes until position number) (sym (get_or_push shares g d i (sym at))) is))
-      (λ (apart : i ≢ length shares).
-      let inside : i < length shares = omega (arith, under, long, apart) in
-      subst (IsShareOf entries links nodes until position (count - 1 - i)) (sym (get_or_append_left shares (g ∷ []) d i inside)) (made i d inside))
-      (cases_eq i (length shares))
+      subst (λ n. IsGroupStateOf entries links nodes until position n (get_or (group_states ++ g ∷ []) i d)) which (subst (IsGroupStateOf entries links nodes until position number) (sym (get_or_push group_states g d i (sym at))) is))
+      (λ (apart : i ≢ length group_states).
+      let inside : i < length group_states = omega (arith, under, long, apart) in
+      subst (IsGroupStateOf entries links nodes until position (count - 1 - i)) (sym (get_or_append_left group_states (g ∷ []) d i inside)) (made i d inside))
+      (cases_eq i (length group_states))
 
-  pub made_all : (shares : List GroupValue) → length shares ≡ count → AreMade shares → AreSharesOf entries links nodes until position (reverse shares)
-  made_all shares all made number d under =
-      let inside : number < length shares = subst (λ n. number < n) (length-reverse shares) under in
-      let at : length shares - 1 - number < length shares = omega (arith, inside) in
-      let which : count - 1 - (length shares - 1 - number) ≡ number = omega (arith, inside, all) in
-      subst (IsShareOf entries links nodes until position number) (sym (get_or-reverse shares number d inside))
-      (subst (λ n. IsShareOf entries links nodes until position n (get_or shares (length shares - 1 - number) d)) which (made (length shares - 1 - number) d at))
+  pub made_all : (group_states : List GroupValue) → length group_states ≡ count → AreMade group_states → AreGroupStatesOf entries links nodes until position (reverse group_states)
+  made_all group_states all made number d under =
+      let inside : number < length group_states = subst (λ n. number < n) (length-reverse group_states) under in
+      let at : length group_states - 1 - number < length group_states = omega (arith, inside) in
+      let which : count - 1 - (length group_states - 1 - number) ≡ number = omega (arith, inside, all) in
+      subst (IsGroupStateOf entries links nodes until position number) (sym (get_or-reverse group_states number d inside))
+      (subst (λ n. IsGroupStateOf entries links nodes until position n (get_or group_states (length group_states - 1 - number) d)) which (made (length group_states - 1 - number) d at))

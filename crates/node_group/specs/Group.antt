@@ -57,7 +57,7 @@ entry_at g link = incoming_at (member g (place_at g.links link).node).incoming (
 abbrev pub came_in : GroupValue → ℕ → ℕ
 came_in g link = (entry_at g link).came
 
--- an outgoing link of a node is the net's of its number; what it has sent has come to its end inside the group, or is held back for another or was
+-- an outgoing link of a node is the net's of its number; what it has sent has come to its end inside the group, or is an outgoing message for another or was
 pub record IsOwnExit (g : GroupValue) (node index : ℕ) : Type 0 where
   pub known : (exit_at g node index).port.link < length g.links
   pub from_here : (ends_at g.links (exit_at g node index).port.link).from ≡ node

@@ -13,7 +13,7 @@ no_wire = record { node = 0; link = 0; taken = 0; under_way = [] }
 abbrev pub wire_at : List WireState → ℕ → WireState
 wire_at wires link = slice_index_or wires link no_wire
 
--- all arrivals that are held back, under their keys
+-- all outgoing messages, which are arrivals, under their keys
 abbrev pub held_on : List WireState → Events
 held_on wires = gathered (each pending_on wires)
 

@@ -4,6 +4,6 @@ pub mod Held
 pub mod Group
 pub mod GroupCode
 pub mod Faults
-pub mod ShareOf
+pub mod GroupStateOf
 pub mod Passing
-pub mod Shares
+pub mod GroupStates

@@ -18,7 +18,7 @@ abbrev pub AreRising : List NodeState → Type 0
 AreRising nodes = (i j : ℕ) → i < j → j < length nodes → (node_at nodes i).number < (node_at nodes j).number
 
 -- each node sits at its number, in rising number, and each key names its node
-pub record AreMembers (nodes : List NodeState) (index : List ℕ) : Type 0 where
+pub record AreNodesByNumber (nodes : List NodeState) (index : List ℕ) : Type 0 where
   pub placed : IsPlaced (seated (seats_of nodes index))
   pub found : AreFound nodes index
   pub rising : AreRising nodes

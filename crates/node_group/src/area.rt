@@ -1,7 +1,7 @@
 //! A group's nodes, with what leaves them for other groups' nodes.
 
 use crate::exits::Exits;
-use crate::members::Members;
+use crate::nodes_by_number::NodesByNumber;
 use net_machine::{LinkEnds, Region};
 use node_core::{Line, Outbox};
 use packet_chain::PacketChain;
@@ -11,7 +11,7 @@ use std::alloc::AllocError;
 #[derive(Drop)]
 pub struct Area {
     /// The nodes.
-    pub members: Members,
+    pub nodes_by_number: NodesByNumber,
     /// What left over each link for other groups since the last turn.
     pub exits: Exits,
 }
@@ -36,19 +36,21 @@ impl Region for Area {
         out: &mut Outbox,
         line: &mut Line,
     ) -> Result<Option<u16>, AllocError> {
-        self.members.fire_into(at, out, line)
+        self.nodes_by_number.fire_into(at, out, line)
     }
 
     #[inline(always)]
     fn link_of(&self, at: usize, index: usize) -> u16 {
-        self.members.link_number(at, index)
+        self.nodes_by_number.link_number(at, index)
     }
 
     #[inline(always)]
     fn pass_on(&mut self, links: &[LinkEnds], link: usize, packets: &mut PacketChain) {
         let end = links[link].to;
-        match self.members.place(usize::from(end.node)) {
-            Some(at) => self.members.deliver(at, usize::from(end.index), packets),
+        match self.nodes_by_number.place(usize::from(end.node)) {
+            Some(at) => self
+                .nodes_by_number
+                .deliver(at, usize::from(end.index), packets),
             None => self.exits.hold(link, packets),
         }
     }

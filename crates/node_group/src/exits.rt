@@ -11,11 +11,11 @@ use packet_chain::PacketChain;
 use std::alloc::{AllocError, Global};
 use std::marker::Model;
 
-/// For each link of the net, by its number, what a group holds back of it.
+/// For each link of the net, by its number, a group's outgoing messages of it.
 #[derive(Drop)]
 pub struct Exits {
     held: Vec<HeldPackets>,
-    /// The links of which something is held back, with room for each other one.
+    /// The links that have outgoing messages, with room for each other one.
     busy: Vec<usize>,
 }
 
@@ -43,7 +43,7 @@ impl Exits {
         }
     }
 
-    /// The next link, of which nothing is held back.
+    /// The next link, which has no outgoing message.
     pub(crate) fn push(&mut self, held: HeldPackets) -> Result<(), AllocError>
         requires link { held.link ≡ length self.old }
         requires idle { held.under_way ≡ [] }
@@ -55,7 +55,7 @@ impl Exits {
         Ok(())
     }
 
-    /// Holds packets back that left over a link, behind the others, and leaves the chain with
+    /// Packets that left over a link are outgoing messages, behind the others, and the chain has
     /// none. It takes no memory.
     pub(crate) fn hold(&mut self, link: usize, sent: &mut PacketChain)
         requires within { link < length self.old }
@@ -72,7 +72,7 @@ impl Exits {
         self.held[link].hold(sent);
     }
 
-    /// Whether it is known that nothing is held back of any link.
+    /// Whether it is known that no link has an outgoing message.
     #[inline(always)]
     pub(crate) fn holds_nothing(&self) -> bool
         ensures { result ≡ true → WiresAreEmpty self.now }
@@ -80,8 +80,8 @@ impl Exits {
         self.busy.is_empty()
     }
 
-    /// Gives what is held back of a link to an empty chain. The answer is the link, or none where
-    /// nothing is held back.
+    /// Gives the outgoing messages of a link to an empty chain. The answer is the link, or none where
+    /// there is no message.
     pub(crate) fn release_next(&mut self, packets: &mut PacketChain) -> Option<usize>
         requires { packets.old ≡ [] }
         ensures some { IfSome result (λ link. IsReleased self.old self.new link packets.new) }

@@ -6,7 +6,7 @@ ghost use Rattle.window_law.specs.Windows.{first_time};
 ghost use Rattle.node_group.specs.Group.{state_of, AfterFirings, IsOnRun};
 ghost use Rattle.node_group.specs.Faults.{IsFaultAt};
 
-use crate::share::Share;
+use crate::group_state::GroupState;
 use sim_time::Time;
 use std::marker::Model;
 
@@ -22,7 +22,7 @@ pub enum GroupFault {
 /// The nodes of a group, on their way through a window of a scenario's run.
 #[derive(Drop)]
 pub struct Group {
-    share: Share,
+    group_state: GroupState,
 }
 
 impl Model for Group {
@@ -35,33 +35,33 @@ impl Model for Group {
 
     ghost use Rattle.node_group.specs.Group.{IsOnRun};
 
-    ghost view = { λ g. g.share };
+    ghost view = { λ g. g.group_state };
 
-    ghost invariant = { λ g. IsOnRun g.share };
+    ghost invariant = { λ g. IsOnRun g.group_state };
 }
 
 impl Group {
-    /// A share of a net that is on a scenario's run.
-    pub fn new(share: Share) -> Group
-        requires { IsOnRun share }
-        ensures { result ≡ share }
+    /// A group's state, of a net that is on a scenario's run.
+    pub fn new(group_state: GroupState) -> Group
+        requires { IsOnRun group_state }
+        ensures { result ≡ group_state }
     {
-        Group { share }
+        Group { group_state }
     }
 
     /// When its least event is, in nanoseconds.
     pub fn next(&self) -> Option<Time>
         ensures { result ≡ first_time (state_of self.now) }
     {
-        self.share.next()
+        self.group_state.next()
     }
 
-    /// The group's share of the net.
-    pub fn into_share(self) -> Share
-        ensures share { result ≡ self }
+    /// The group's state.
+    pub fn into_group_state(self) -> GroupState
+        ensures group_state { result ≡ self }
         ensures on_run { IsOnRun self }
     {
-        self.share
+        self.group_state
     }
 }
 
@@ -73,5 +73,5 @@ pub fn run_group(group: &mut Group, end: Time) -> Result<(), GroupFault>
     ensures done { OnOk result (due (up_to end (state_of group.new)) ≡ None) }
     ensures fault { IfErr result (IsFaultAt end group.new) }
 {
-    group.share.run(end)
+    group.group_state.run(end)
 }

@@ -34,7 +34,7 @@ impl Model for HeldPackets {
 }
 
 impl HeldPackets {
-    /// Nothing is held back of a link over which so many packets came.
+    /// No outgoing message of a link over which so many packets came.
     pub(crate) fn new(alloc: Global, node: u16, link: u16, before: u64) -> HeldPackets
         requires link { link < 65535 }
         requires few { before ≤ 2 ^ 50 }
@@ -48,7 +48,7 @@ impl HeldPackets {
         }
     }
 
-    /// Whether nothing is held back.
+    /// Whether there is no outgoing message.
     pub(crate) fn is_idle(&self) -> bool
         ensures { result ≡ is_idle self.now }
     {

@@ -1,15 +1,15 @@
-//! A group of a net's nodes, which runs its events apart from others and holds back what it sends to
-//! them.
+//! A group of a net's nodes, which runs its events apart from others and keeps its messages to them
+//! until they are handed over.
 #![tactic(auto)]
 
 mod area;
 mod exits;
 pub mod group;
+mod group_state;
 mod held;
-mod members;
-mod share;
+mod nodes_by_number;
 mod sharing;
 
 pub use group::{Group, GroupFault, run_group};
-pub use share::{Share, ShareParts};
+pub use group_state::{GroupState, GroupStateParts};
 pub use sharing::{rooms_of, share_out};

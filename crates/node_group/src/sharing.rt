@@ -1,16 +1,16 @@
-//! A net is split into the shares of its groups.
+//! A net is split into the states of its groups.
 ghost use Rattle.std.specs.Prelude.{◌≡◌, ◌<◌, ◌≤◌, ◌^◌, [], IfOk, length, vec_capacity};
 ghost use Rattle.node_core.specs.Part.{link_at};
 ghost use Rattle.net_machine.specs.declared.places.LinkEnds.{LinkEnds};
 ghost use Rattle.net_machine.specs.Nodes.{IsPlaced};
 ghost use Rattle.net_machine.specs.NetOf.{AreNetParts};
 ghost use Rattle.net_partition.specs.Partition.{groups_of};
-ghost use Rattle.node_group.specs.Shares.{AreJoined, AreIdle, IsRoom, AreRooms, AreSeatedBelow, AreSharesOf, HaveSent};
+ghost use Rattle.node_group.specs.GroupStates.{AreJoined, AreIdle, IsRoom, AreRooms, AreSeatedBelow, AreGroupStatesOf, HaveSent};
 
 use crate::exits::Exits;
+use crate::group_state::{GroupState, GroupStateParts};
 use crate::held::HeldPackets;
-use crate::members::MemberParts;
-use crate::share::{Share, ShareParts};
+use crate::nodes_by_number::NodesByNumberParts;
 use net_machine::LinkEnds;
 use net_partition::Partition;
 use node_core::{Node, Outbox};
@@ -74,7 +74,7 @@ fn copied(links: &Vec<LinkEnds>) -> Result<Vec<LinkEnds>, AllocError>
     links.clone()
 }
 
-// Room for a share of a group of a net.
+// Room for the state of a group of a net.
 fn room_of(
     alloc: Global,
     nodes: &[Node],
@@ -82,27 +82,27 @@ fn room_of(
     sent: &[u64],
     partition: &Partition,
     number: usize,
-) -> Result<ShareParts, AllocError>
+) -> Result<GroupStateParts, AllocError>
     requires joined { AreJoined links.now.items nodes.now }
     requires sent { HaveSent links.now.items nodes.now sent.now }
     requires few { length partition.now ≤ 2 ^ 12 }
     ensures { IfOk result (λ room. IsRoom partition.now links.now.items nodes.now number room) }
 {
-    Ok(ShareParts {
+    Ok(GroupStateParts {
         links: copied(links)?,
-        members: MemberParts::new(alloc, partition, number)?,
+        nodes_by_number: NodesByNumberParts::new(alloc, partition, number)?,
         exits: idle_exits(alloc, nodes, links, sent)?,
         out: Outbox::new(alloc, MOST_LINKS)?,
     })
 }
 
-/// Room for a share of each group of a net, with no node yet.
+/// Room for the state of each group of a net, with no node yet.
 pub fn rooms_of(
     alloc: Global,
     nodes: &[Node],
     links: &Vec<LinkEnds>,
     partition: &Partition,
-) -> Result<Vec<ShareParts>, AllocError>
+) -> Result<Vec<GroupStateParts>, AllocError>
     requires joined { AreJoined links.now.items nodes.now }
     requires few { length partition.now ≤ 2 ^ 12 }
     ensures count { IfOk result (λ rooms. length rooms.items ≡ groups_of partition.now) }
@@ -122,7 +122,7 @@ fn seat_all(
     nodes: &mut Vec<Node>,
     _links: &[LinkEnds],
     partition: &Partition,
-    rooms: &mut [ShareParts],
+    rooms: &mut [GroupStateParts],
 )
     requires rooms { AreRooms partition.now _links.now nodes.old.items rooms.old }
     requires groups { length rooms.old ≡ groups_of partition.now }
@@ -136,11 +136,13 @@ fn seat_all(
     nodes.reverse();
     while let Some(node) = nodes.pop() {
         let place = usize::from(node.number());
-        rooms[partition.group(place)].members.join(place, node);
+        rooms[partition.group(place)]
+            .nodes_by_number
+            .join(place, node);
     }
 }
 
-/// The nodes of a net take their seats, each in its group's room, and each group has its share. No
+/// The nodes of a net take their seats, each in its group's room, and each group has its state. No
 /// memory is taken.
 pub fn share_out(
     alloc: Global,
@@ -149,24 +151,24 @@ pub fn share_out(
     end: Time,
     position: u64,
     partition: &Partition,
-    mut rooms: Vec<ShareParts>,
-    shares: &mut Vec<Share>,
+    mut rooms: Vec<GroupStateParts>,
+    group_states: &mut Vec<GroupState>,
 )
     requires net { AreNetParts nodes.items links.now end position }
     requires size { length partition.now ≡ length nodes.items }
     requires rooms { AreRooms partition.now links.now nodes.items rooms.items }
     requires groups { length rooms.items ≡ groups_of partition.now }
     requires few { length rooms.items ≤ 64 }
-    requires empty { shares.old.items ≡ [] }
-    requires capacity { length rooms.items ≤ vec_capacity shares.old }
-    ensures count { length shares.new.items ≡ groups_of partition.now }
-    ensures each { AreSharesOf partition.now links.now nodes.items end position shares.new.items }
-    ensures capacity { vec_capacity shares.new ≡ vec_capacity shares.old }
+    requires empty { group_states.old.items ≡ [] }
+    requires capacity { length rooms.items ≤ vec_capacity group_states.old }
+    ensures count { length group_states.new.items ≡ groups_of partition.now }
+    ensures each { AreGroupStatesOf partition.now links.now nodes.items end position group_states.new.items }
+    ensures capacity { vec_capacity group_states.new ≡ vec_capacity group_states.old }
 {
     seat_all(&mut nodes, links, partition, &mut rooms);
     while let Some(room) = rooms.pop() {
         let number = rooms.len();
-        shares.push_reserved(Share::new(alloc, number, partition, room, end, position));
+        group_states.push_reserved(GroupState::new(alloc, number, partition, room, end, position));
     }
-    shares.reverse();
+    group_states.reverse();
 }

@@ -5,7 +5,7 @@ ghost use Rattle.scenario_asm.specs.CanonicalText.{line_of_link};
 ghost use Rattle.scenario_asm.specs.Spelling.{node_label, link_label, flow_label, kind_word, queue_words, newreno_word, iw_word, line_for};
 
 use itoa::Buffer;
-use scenario_image::{Codel, FlowPart, LinkPart, NodeKind, QueueKind, RoutePart};
+use scenario_image::{CodelParameters, FlowPart, LinkPart, NodeKind, QueueKind, RoutePart};
 use sim_time::{Iw, Time, Variant};
 use std::alloc::AllocError;
 
@@ -46,7 +46,7 @@ pub fn put_node(text: &mut Vec<u8>, number: u64, kind: NodeKind) -> Result<(), A
 }
 
 /// Appends the numbers of CoDel. After an `Err` a part of them may stand there.
-fn put_codel(text: &mut Vec<u8>, capacity: u16, codel: Codel) -> Result<(), AllocError>
+fn put_codel(text: &mut Vec<u8>, capacity: u16, codel: CodelParameters) -> Result<(), AllocError>
     ensures { OnOk result (text.new.items ≡ text.old.items ++ flat_map (λ word. codes " " ++ word) (queue_words capacity (QueueKind.Codel codel))) }
 {
     put(text, b" codel ", u64::from(capacity))?;

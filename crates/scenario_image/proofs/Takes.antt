@@ -15,7 +15,7 @@ use Rattle.scenario_image.proofs.Courses.{mapped_some}
 use Rattle.scenario_image.proofs.Numbers.{IsBytes, bytes_drop, one, two, four, eight}
 use Rattle.scenario_image.specs.declared.parts.NodeKind.{NodeKind}
 use Rattle.scenario_image.specs.declared.parts.NodeKind.TheVariants.{Sender, Receiver, Router}
-use Rattle.sim_time.specs.declared.queue_kind.Codel.{Codel as CodelNumbers}
+use Rattle.sim_time.specs.declared.queue_kind.CodelParameters.{CodelParameters}
 use Rattle.sim_time.specs.declared.queue_kind.QueueKind.{QueueKind}
 use Rattle.sim_time.specs.declared.queue_kind.QueueKind.TheVariants.{DropTail, Codel}
 use Rattle.scenario_image.specs.declared.parts.LinkPart.{LinkPart}
@@ -113,7 +113,7 @@ nodes_take (byte ∷ bytes) kinds is =
     ap (λ (b : ℕ). b ∷ bytes) (node_takes byte kind at) ∙ ap (λ (bs : List ℕ). node_byte kind ∷ bs) (nodes_take bytes others later) ∙ ap (map node_byte) same)
 
 -- the bytes of these numbers where CoDel's stand
-abbrev numbers_image : CodelNumbers → List ℕ
+abbrev numbers_image : CodelParameters → List ℕ
 numbers_image codel = big_bytes 8 codel.target ++ big_bytes 8 codel.interval ++ big_bytes 2 codel.maxpacket
 
 both : (a b : Bool) → (a && b) ≡ true → (a ≡ true) × (b ≡ true)
@@ -129,7 +129,7 @@ unset target interval maxpacket q is =
     (same, eqb-true target 0 zero_target, eqb-true interval 0 zero_interval, eqb-true maxpacket 0 last)
 
 -- a queue is read from its byte and its numbers
-queue_takes : (byte : ℕ) (codel : CodelNumbers) (q : QueueKind) → queue_of_byte byte codel ≡ Some q → (byte ≡ queue_byte q) × (numbers_image codel ≡ codel_image q)
+queue_takes : (byte : ℕ) (codel : CodelParameters) (q : QueueKind) → queue_of_byte byte codel ≡ Some q → (byte ≡ queue_byte q) × (numbers_image codel ≡ codel_image q)
 queue_takes zero codel q is =
     let zeros = unset codel.target codel.interval codel.maxpacket q is in (
       ap queue_byte zeros.0,

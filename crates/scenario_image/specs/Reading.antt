@@ -11,7 +11,7 @@ use Rattle.scenario_image.specs.declared.fault.LoadFault.TheVariants.{L1, L2, L3
 use Rattle.scenario_image.specs.declared.layout.TheConstants.{HEADER, LINK, LOST_COUNT, LOST, FLOW, ROUTE}
 use Rattle.scenario_image.specs.declared.parts.NodeKind.{NodeKind}
 use Rattle.scenario_image.specs.declared.parts.NodeKind.TheVariants.{Sender, Receiver, Router}
-use Rattle.sim_time.specs.declared.queue_kind.Codel.{Codel as CodelNumbers}
+use Rattle.sim_time.specs.declared.queue_kind.CodelParameters.{CodelParameters}
 use Rattle.sim_time.specs.declared.queue_kind.QueueKind.{QueueKind}
 use Rattle.sim_time.specs.declared.queue_kind.QueueKind.TheVariants.{DropTail, Codel}
 use Rattle.scenario_image.specs.declared.parts.LinkPart.{LinkPart}
@@ -39,11 +39,11 @@ nodes_at [] = Some []
 nodes_at (byte ∷ bytes) = option_and_then (λ kind. option_map (λ kinds. kind ∷ kinds) (nodes_at bytes)) (node_of_byte byte)
 
 -- the numbers where CoDel's stand in a link's bytes
-abbrev pub codel_at : List ℕ → CodelNumbers
+abbrev pub codel_at : List ℕ → CodelParameters
 codel_at bytes = record { target = big_number 8 (drop 23 bytes); interval = big_number 8 (drop 31 bytes); maxpacket = big_number 2 (drop 39 bytes) }
 
 -- the queue that a byte stands for, with these numbers where CoDel's stand
-abbrev pub queue_of_byte : ℕ → CodelNumbers → Option QueueKind
+abbrev pub queue_of_byte : ℕ → CodelParameters → Option QueueKind
 queue_of_byte zero codel = if ((codel.target == 0) && (codel.interval == 0)) && (codel.maxpacket == 0) then Some DropTail else None
 queue_of_byte (suc zero) codel = Some (Codel codel)
 queue_of_byte (suc (suc byte)) codel = None

@@ -27,5 +27,5 @@ pub use records::Records;
 pub use routes::route_link;
 pub use saving::save;
 pub use scenario::Scenario;
-pub use sim_time::{Codel, QueueKind, RENO};
+pub use sim_time::{CodelParameters, QueueKind, RENO};
 pub use version::Version;

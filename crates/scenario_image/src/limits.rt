@@ -9,7 +9,7 @@ ghost use Rattle.scenario_image.specs.RouteLimits.{IsRouteInLimits, IsRouteBefor
 ghost use Rattle.scenario_image.specs.Limits.{AreCountsInLimits, IsInLimits};
 
 use crate::parts::{FlowPart, LinkPart, RoutePart, ScenarioParts};
-use sim_time::{Codel, QueueKind, Rate, Time};
+use sim_time::{CodelParameters, QueueKind, Rate, Time};
 
 /// The latest end of a scenario, in nanoseconds.
 pub const LATEST_END: Time = 1_000_000_000_000_000;
@@ -58,7 +58,7 @@ fn is_between(least: u64, greatest: u64, n: u64) -> bool
 }
 
 /// Whether CoDel's parameters are in their ranges.
-fn codel_is_in_limits(codel: Codel) -> bool
+fn codel_is_in_limits(codel: CodelParameters) -> bool
     ensures { IsTrue result ↔ IsCodelInLimits codel }
 {
     is_between(1, LONGEST_DELAY, codel.target)

@@ -13,7 +13,7 @@ use crate::parts::{FlowPart, LinkPart, NodeKind, RoutePart, ScenarioParts};
 use crate::records::Records;
 use crate::version::Version;
 use byteorder::{BigEndian, ByteOrder};
-use sim_time::{Codel, Iw, QueueKind, Variant};
+use sim_time::{CodelParameters, Iw, QueueKind, Variant};
 use std::alloc::{AllocError, Global};
 
 /// The node that a byte stands for.
@@ -43,11 +43,11 @@ fn nodes_of(alloc: Global, bytes: &[u8]) -> Result<Vec<NodeKind>, LoadFault>
 }
 
 /// The numbers where CoDel's stand in a link's bytes.
-fn codel_of(bytes: &[u8]) -> Codel
+fn codel_of(bytes: &[u8]) -> CodelParameters
     requires { LINK ≤ length bytes.now }
     ensures { result ≡ codel_at bytes.now }
 {
-    Codel {
+    CodelParameters {
         target: long_at(bytes, 23),
         interval: long_at(bytes, 31),
         maxpacket: short_at(bytes, 39),
@@ -55,7 +55,7 @@ fn codel_of(bytes: &[u8]) -> Codel
 }
 
 /// The queue that a byte stands for, with these numbers where CoDel's stand.
-fn queue_of(byte: u8, codel: Codel) -> Option<QueueKind>
+fn queue_of(byte: u8, codel: CodelParameters) -> Option<QueueKind>
     ensures { result ≡ queue_of_byte byte codel }
 {
     let is_unset = codel.target == 0 && codel.interval == 0 && codel.maxpacket == 0;

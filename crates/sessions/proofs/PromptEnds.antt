@@ -6,7 +6,7 @@ use Rattle.debugger.specs.Debugging.{Debugging, debugging_opened}
 use Rattle.debug_session.specs.declared.dialogue.Dialogue.{Dialogue}
 use Rattle.debug_session.specs.declared.memo.Memo.{Memo}
 use Rattle.debug_session.specs.declared.naming.Naming.{Naming}
-use Rattle.debug_session.specs.Answers.{standing}
+use Rattle.debug_session.specs.Answers.{session_state}
 use Rattle.debug_session.specs.Memos.{no_memo}
 use Rattle.debug_session.specs.Sessions.{limits_of}
 use Rattle.debug_session.specs.Prompt.{Typing, Typed, at_prompt, unmoved}
@@ -25,15 +25,15 @@ pub unbegun : (streams : Streams) → IsUnbegun streams streams
 unbegun streams = record { untyped = none_typed streams.typed; unwritten = refl }
 
 -- lines were typed over a scenario
-pub over_scenario : (naming : Naming) (p : ScenarioParts) (ended : SessionEnded) (before after : Streams) → IsTypedSession naming (initial p) (unmoved (standing (debugging_opened (initial p)))) ended before after → IsOverScenario naming p ended before after
+pub over_scenario : (naming : Naming) (p : ScenarioParts) (ended : SessionEnded) (before after : Streams) → IsTypedSession naming (initial p) (unmoved (session_state (debugging_opened (initial p)))) ended before after → IsOverScenario naming p ended before after
 over_scenario naming p (Err NoMemory) before after session = absurd session.ending
 over_scenario naming p _ before after session = session
 
 pub typed_over : (p : ScenarioParts) (d : Dialogue) (naming : Naming) (ended : SessionEnded) (before after : Streams) → d.debugger ≡ debugging_opened (initial p) → d.memo ≡ no_memo
     → IsTypedSession naming d.debugger.start (at_prompt d) ended before after → IsOverScenario naming p ended before after
 typed_over p d naming ended before after is none session =
-    let unasked = subst (λ (m : Memo). IsTypedSession naming d.debugger.start (record { standing = standing d.debugger; memo = m }) ended before after) none session in
-    over_scenario naming p ended before after (subst (λ (e : Debugging). IsTypedSession naming e.start (unmoved (standing e)) ended before after) is unasked)
+    let unasked = subst (λ (m : Memo). IsTypedSession naming d.debugger.start (record { session_state = session_state d.debugger; memo = m }) ended before after) none session in
+    over_scenario naming p ended before after (subst (λ (e : Debugging). IsTypedSession naming e.start (unmoved (session_state e)) ended before after) is unasked)
 
 pub no_memory_over : (naming : Naming) (p : ScenarioParts) (ended : SessionEnded) (streams : Streams) → ended ≡ Err NoMemory → IsOverScenario naming p ended streams streams
 no_memory_over naming p ended streams is = subst (λ (e : SessionEnded). IsOverScenario naming p e streams streams) (sym is) (unbegun streams)

@@ -85,16 +85,16 @@ pub record AreLeft (commands : Commands) : Type 0 where
   pub several : 1 < commands.workers
 
 -- what is left can be gone on with
-abbrev pub IsReady : Rest → Type 0
-IsReady Nothing = Unit {0}
-IsReady (Shared run) = IsLeft run
-IsReady (Listed commands) = AreLeft commands
-IsReady (Typed prompt) = 65536 < length prompt.room.items
+abbrev pub IsRestReady : Rest → Type 0
+IsRestReady Nothing = Unit {0}
+IsRestReady (Shared run) = IsLeft run
+IsRestReady (Listed commands) = AreLeft commands
+IsRestReady (Typed prompt) = 65536 < length prompt.room.items
 
 -- what was begun has ended so, or something is left, and whatever end that has is an end of the whole
 abbrev pub BeginsSession : (SessionEnded → Streams → Type 0) → Result Rest SessionFault → Streams → Type 0
 BeginsSession IsEnd (Err fault) now = IsEnd (Err fault) now
-BeginsSession IsEnd (Ok rest) now = IsReady rest × ((ended : SessionEnded) (after : Streams) → RestEnds rest ended now after → IsEnd ended after)
+BeginsSession IsEnd (Ok rest) now = IsRestReady rest × ((ended : SessionEnded) (after : Streams) → RestEnds rest ended now after → IsEnd ended after)
 
 -- these streams, with a writer as it is then
 abbrev pub written_by : {W : Type 0} → (W → ℕ) → (W → Option (List ℕ)) → Streams → W → Streams

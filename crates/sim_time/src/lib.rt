@@ -14,7 +14,7 @@ pub mod variant;
 
 pub use control_law::{gap, gaps_shrink};
 pub use key::{Key, key_order};
-pub use queue_kind::{Codel, QueueKind};
+pub use queue_kind::{CodelParameters, QueueKind};
 pub use rate::{Rate, serial_ns};
 pub use settings::SenderSettings;
 pub use slow_start::initial_window;

@@ -2,7 +2,7 @@
 
 /// CoDel's parameters (RFC 8289 section 4).
 #[derive(Clone, Copy, Debug, PartialEq, Eq)]
-pub struct Codel {
+pub struct CodelParameters {
     /// The acceptable standing delay, in nanoseconds: 1 to 10^10.
     pub target: u64,
     /// The width of the moving window, in nanoseconds: 1 to 10^10.
@@ -17,5 +17,5 @@ pub enum QueueKind {
     /// Only what comes while it is full.
     DropTail,
     /// Also by CoDel, as packets leave it.
-    Codel(Codel),
+    Codel(CodelParameters),
 }

@@ -51,7 +51,7 @@ pub(crate) fn time_by(reported: Time, apart: Time) -> Option<Time>
 
 // How far the words of the nodes above a place are chosen.
 #[derive(Clone, Copy)]
-struct Climb {
+struct WordClimb {
     // The node whose word was chosen last.
     at: usize,
     // The word that it has.
@@ -60,7 +60,7 @@ struct Climb {
 
 // Chooses the word of the next node.
 #[inline(always)]
-fn rise(tree: &mut [u64], climb: Climb) -> Climb
+fn rise(tree: &mut [u64], climb: WordClimb) -> WordClimb
     requires inner { 1 < climb.at }
     requires climbing { IsClimbing tree.old climb.at climb.word }
     ensures half { result.at ≡ climb.at / 2 }
@@ -71,12 +71,12 @@ fn rise(tree: &mut [u64], climb: Climb) -> Climb
     let word = climb.word.min(tree[beside(climb.at)]);
     let node = climb.at / 2;
     tree[node] = word;
-    Climb { at: node, word }
+    WordClimb { at: node, word }
 }
 
 // Chooses the word of the next node where the last node is not below this one.
 #[inline(always)]
-fn rise_below(tree: &mut [u64], climb: Climb, bound: usize) -> Climb
+fn rise_below(tree: &mut [u64], climb: WordClimb, bound: usize) -> WordClimb
     requires bound { 1 < bound }
     requires near { climb.at < 2 * bound }
     requires climbing { IsClimbing tree.old climb.at climb.word }
@@ -93,7 +93,7 @@ fn rise_below(tree: &mut [u64], climb: Climb, bound: usize) -> Climb
 
 // Chooses words until the last node is below 128.
 #[inline(always)]
-fn rise_far(tree: &mut [u64], start: Climb) -> Climb
+fn rise_far(tree: &mut [u64], start: WordClimb) -> WordClimb
     requires climbing { IsClimbing tree.old start.at start.word }
     ensures below { result.at < 128 }
     ensures leaves { AreSameLeaves tree.old tree.new }
@@ -108,7 +108,7 @@ fn rise_far(tree: &mut [u64], start: Climb) -> Climb
 
 // Chooses words until the last node is below 16.
 #[inline(always)]
-fn rise_high(tree: &mut [u64], climb: Climb) -> Climb
+fn rise_high(tree: &mut [u64], climb: WordClimb) -> WordClimb
     requires climbing { IsClimbing tree.old climb.at climb.word }
     ensures below { result.at < 16 }
     ensures leaves { AreSameLeaves tree.old tree.new }
@@ -125,7 +125,7 @@ fn rise_high(tree: &mut [u64], climb: Climb) -> Climb
 
 // Chooses words until the last node is below 8. Most trees are small, so that is looked for first.
 #[inline(always)]
-fn rise_to_small(tree: &mut [u64], climb: Climb) -> Climb
+fn rise_to_small(tree: &mut [u64], climb: WordClimb) -> WordClimb
     requires climbing { IsClimbing tree.old climb.at climb.word }
     ensures below { result.at < 8 }
     ensures leaves { AreSameLeaves tree.old tree.new }
@@ -141,7 +141,7 @@ fn rise_to_small(tree: &mut [u64], climb: Climb) -> Climb
 // Chooses the root's word, where the last node is not the root itself. The root has its number here, which costs less
 // than half of another.
 #[inline(always)]
-fn end_at_root(tree: &mut [u64], climb: Climb)
+fn end_at_root(tree: &mut [u64], climb: WordClimb)
     requires near { climb.at < 4 }
     requires climbing { IsClimbing tree.old climb.at climb.word }
     ensures leaves { AreSameLeaves tree.old tree.new }
@@ -155,7 +155,7 @@ fn end_at_root(tree: &mut [u64], climb: Climb)
 // Chooses the words of all nodes above one. Each of the last levels has a branch of its own, since
 // how many there are differs from timetable to timetable, and the end of one loop for all could not be guessed.
 #[inline(always)]
-fn rise_up(tree: &mut [u64], climb: Climb)
+fn rise_up(tree: &mut [u64], climb: WordClimb)
     requires climbing { IsClimbing tree.old climb.at climb.word }
     ensures leaves { AreSameLeaves tree.old tree.new }
     ensures lesser { AllLesser tree.new }
@@ -179,7 +179,7 @@ pub(crate) fn change(tree: &mut [u64], places: usize, place: usize, reported: Ti
     let word = word_of(reported, place);
     let leaf = places + place;
     tree[leaf] = word;
-    rise_up(tree, Climb { at: leaf, word });
+    rise_up(tree, WordClimb { at: leaf, word });
 }
 
 /// The tree of so many places with no time. It has a root even where there is no place.

@@ -9,7 +9,7 @@ use Rattle.std.specs.Vec.{with_item}
 use Rattle.sim_time.specs.declared.key.Key.{Key}
 use Rattle.node_core.specs.declared.event.Event.{Event}
 use Rattle.table_run.specs.State.{below, due}
-use Rattle.node_group.specs.declared.share.Share.{Share}
+use Rattle.node_group.specs.declared.group_state.GroupState.{GroupState as StateOfGroup}
 use Rattle.window_core.specs.declared.window.group_table.GroupTable.TheInside.{Inside}
 use Rattle.node_group.specs.Group.{GroupValue, state_of}
 use Rattle.window_law.specs.Groups.{GroupState, up_to}
@@ -80,25 +80,25 @@ soonest_is groups n e sooner = some_sooner (soonest groups) n (soonest_or_last g
 
 -- AFTER A CHANGE
 
-nexts_set : (shares : List GroupValue) (i : ℕ) (g : GroupValue) → nexts_of (states_of (set shares i g)) ≡ set (nexts_of (states_of shares)) i (next_of_group (state_of g))
-nexts_set shares i g = ap nexts_of (map-set state_of shares i g) ∙ map-set next_of_group (states_of shares) i (state_of g)
+nexts_set : (group_states : List GroupValue) (i : ℕ) (g : GroupValue) → nexts_of (states_of (set group_states i g)) ≡ set (nexts_of (states_of group_states)) i (next_of_group (state_of g))
+nexts_set group_states i g = ap nexts_of (map-set state_of group_states i g) ∙ map-set next_of_group (states_of group_states) i (state_of g)
 
-nexts_kept : (shares : List GroupValue) (i : ℕ) (g : GroupValue) → next_of_group (state_of g) ≡ next_of_group (state_of (value_at shares i)) → nexts_of (states_of (set shares i g)) ≡ nexts_of (states_of shares)
-nexts_kept shares i g same =
-    ap nexts_of (map-set state_of shares i g)
-    ∙ map-set_same next_of_group (states_of shares) i (state_of g) (state_of no_value) (same ∙ ap next_of_group (sym (get_or-map state_of shares i no_value)))
+nexts_kept : (group_states : List GroupValue) (i : ℕ) (g : GroupValue) → next_of_group (state_of g) ≡ next_of_group (state_of (value_at group_states i)) → nexts_of (states_of (set group_states i g)) ≡ nexts_of (states_of group_states)
+nexts_kept group_states i g same =
+    ap nexts_of (map-set state_of group_states i g)
+    ∙ map-set_same next_of_group (states_of group_states) i (state_of g) (state_of no_value) (same ∙ ap next_of_group (sym (get_or-map state_of group_states i no_value)))
 
--- a group gave what it held back to another
-pub nexts_handed : (shares : List GroupValue) (from to : ℕ) (a b : GroupValue) → next_of_group (state_of a) ≡ next_of_group (state_of (value_at shares from)) → set (nexts_of (states_of shares)) to (next_of_group (state_of b)) ≡ nexts_of (states_of (set (set shares from a) to b))
-nexts_handed shares from to a b same = sym (nexts_set (set shares from a) to b ∙ ap (λ ns. set ns to (next_of_group (state_of b))) (nexts_kept shares from a same))
+-- a group gave its outgoing messages to another
+pub nexts_handed : (group_states : List GroupValue) (from to : ℕ) (a b : GroupValue) → next_of_group (state_of a) ≡ next_of_group (state_of (value_at group_states from)) → set (nexts_of (states_of group_states)) to (next_of_group (state_of b)) ≡ nexts_of (states_of (set (set group_states from a) to b))
+nexts_handed group_states from to a b same = sym (nexts_set (set group_states from a) to b ∙ ap (λ ns. set ns to (next_of_group (state_of b))) (nexts_kept group_states from a same))
 
-pub nexts_cleared : (n : ℕ) (shares : List GroupValue) → nexts_of (states_of (map (cleared n) shares)) ≡ nexts_of (states_of shares)
+pub nexts_cleared : (n : ℕ) (group_states : List GroupValue) → nexts_of (states_of (map (cleared n) group_states)) ≡ nexts_of (states_of group_states)
 nexts_cleared n [] = refl
-nexts_cleared n (g ∷ shares) = ap (λ ns. next_of_group (state_of g) ∷ ns) (nexts_cleared n shares)
+nexts_cleared n (g ∷ group_states) = ap (λ ns. next_of_group (state_of g) ∷ ns) (nexts_cleared n group_states)
 
-pub none_reported : (n : ℕ) (shares : List GroupValue) → all_lines (states_of (map (cleared n) shares)) ≡ []
+pub none_reported : (n : ℕ) (group_states : List GroupValue) → all_lines (states_of (map (cleared n) group_states)) ≡ []
 none_reported n [] = refl
-none_reported n (g ∷ shares) = none_reported n shares
+none_reported n (g ∷ group_states) = none_reported n group_states
 
 pub same_reported : (old new : List GroupValue) → length new ≡ length old → ((h : ℕ) → (value_at new h).lines ≡ (value_at old h).lines) → all_lines (states_of new) ≡ all_lines (states_of old)
 same_reported [] [] size same = refl
@@ -110,44 +110,44 @@ same_reported (o ∷ old) (n ∷ new) size same =
     λ i. first i ++ rest i
 
 -- how many lines were told, where one group's are others
-pub reported_set : (shares : List GroupValue) (i : ℕ) (g : GroupValue) → i < length shares → length (all_lines (states_of (set shares i g))) + length (value_at shares i).lines ≡ length (all_lines (states_of shares)) + length g.lines
+pub reported_set : (group_states : List GroupValue) (i : ℕ) (g : GroupValue) → i < length group_states → length (all_lines (states_of (set group_states i g))) + length (value_at group_states i).lines ≡ length (all_lines (states_of group_states)) + length g.lines
 reported_set [] i g under = absurd (omega (arith, under))
-reported_set (x ∷ shares) zero g under = let new = reported_more g shares in let old = reported_more x shares in omega (arith, new, old)
-reported_set (x ∷ shares) (suc i) g under =
-    let rest = reported_set shares i g (omega (arith, under)) in
-    let new = reported_more x (set shares i g) in
-    let old = reported_more x shares in
+reported_set (x ∷ group_states) zero g under = let new = reported_more g group_states in let old = reported_more x group_states in omega (arith, new, old)
+reported_set (x ∷ group_states) (suc i) g under =
+    let rest = reported_set group_states i g (omega (arith, under)) in
+    let new = reported_more x (set group_states i g) in
+    let old = reported_more x group_states in
     omega (arith, rest, new, old)
 
-pub reported_upto : (shares : List GroupValue) (i : ℕ) → i < length shares → length (value_at shares i).lines ≤ length (all_lines (states_of shares))
+pub reported_upto : (group_states : List GroupValue) (i : ℕ) → i < length group_states → length (value_at group_states i).lines ≤ length (all_lines (states_of group_states))
 reported_upto [] i under = absurd (omega (arith, under))
-reported_upto (x ∷ shares) zero under = let all = reported_more x shares in omega (arith, all)
-reported_upto (x ∷ shares) (suc i) under =
-    let rest = reported_upto shares i (omega (arith, under)) in
-    let all = reported_more x shares in
+reported_upto (x ∷ group_states) zero under = let all = reported_more x group_states in omega (arith, all)
+reported_upto (x ∷ group_states) (suc i) under =
+    let rest = reported_upto group_states i (omega (arith, under)) in
+    let all = reported_more x group_states in
     omega (arith, rest, all)
 
 -- THE ROSTER
 
 -- the next moment that is kept of a group
-pub next_at : (shares : List GroupValue) (i : ℕ) (nexts : List ℕ) (n : ℕ) → nexts ≡ nexts_of (states_of shares) → i < length shares → n ≡ get_or nexts i n → n ≡ next_of_group (state_of (value_at shares i))
-next_at shares i nexts n are under read =
-    let many = length-map (states_of shares) next_of_group ∙ length-map shares state_of in
+pub next_at : (group_states : List GroupValue) (i : ℕ) (nexts : List ℕ) (n : ℕ) → nexts ≡ nexts_of (states_of group_states) → i < length group_states → n ≡ get_or nexts i n → n ≡ next_of_group (state_of (value_at group_states i))
+next_at group_states i nexts n are under read =
+    let many = length-map (states_of group_states) next_of_group ∙ length-map group_states state_of in
     read
     ∙ ap (λ ns. get_or ns i n) are
-    ∙ sym (get_or_default (nexts_of (states_of shares)) i (next_of_group (state_of no_value)) n (omega (arith, under, many)))
-    ∙ get_or-map next_of_group (states_of shares) i (state_of no_value)
-    ∙ ap next_of_group (get_or-map state_of shares i no_value)
+    ∙ sym (get_or_default (nexts_of (states_of group_states)) i (next_of_group (state_of no_value)) n (omega (arith, under, many)))
+    ∙ get_or-map next_of_group (states_of group_states) i (state_of no_value)
+    ∙ ap next_of_group (get_or-map state_of group_states i no_value)
 
 -- a group table whose groups are others, which have the same nexts and lines
-pub with_groups : (w : Inside) (shares : Vec Share Global) (nexts : Vec ℕ Global) (least : Option ℕ) (reported : ℕ) → IsGroupTable w → w.out ≡ false → length shares.items ≡ length w.shares.items → nexts.items ≡ nexts_of (states_of shares.items) → IfSome least (λ n. n ≡ least_moment nexts.items) → reported ≡ length (all_lines (states_of shares.items)) → IsGroupTable record w { shares = shares; nexts = nexts; least = least; reported = reported }
-with_groups w shares nexts least reported is out size are read count =
+pub with_groups : (w : Inside) (group_states : Vec StateOfGroup Global) (nexts : Vec ℕ Global) (least : Option ℕ) (reported : ℕ) → IsGroupTable w → w.out ≡ false → length group_states.items ≡ length w.group_states.items → nexts.items ≡ nexts_of (states_of group_states.items) → IfSome least (λ n. n ≡ least_moment nexts.items) → reported ≡ length (all_lines (states_of group_states.items)) → IsGroupTable record w { group_states = group_states; nexts = nexts; least = least; reported = reported }
+with_groups w group_states nexts least reported is out size are read count =
     let few = is.few in
-    let was : length w.nexts.items ≡ length w.shares.items = is.size ∙ ap (λ b. length (cond b w.lent.value.items w.shares.items)) out in
-    let many : length nexts.items ≡ length shares.items = ap length are ∙ length-map (states_of shares.items) next_of_group ∙ length-map shares.items state_of in
+    let was : length w.nexts.items ≡ length w.group_states.items = is.size ∙ ap (λ b. length (cond b w.lent.value.items w.group_states.items)) out in
+    let many : length nexts.items ≡ length group_states.items = ap length are ∙ length-map (states_of group_states.items) next_of_group ∙ length-map group_states.items state_of in
     record {
       few = omega (arith, few, was, many, size);
-      size = many ∙ ap (λ b. length (cond b w.lent.value.items shares.items)) (sym out);
+      size = many ∙ ap (λ b. length (cond b w.lent.value.items group_states.items)) (sym out);
       nexts = λ e. are;
       least = read;
       reported = λ e. count;
@@ -156,9 +156,9 @@ with_groups w shares nexts least reported is out size are read count =
     }
 
 -- a group table after events of a group
-pub after_events : (w : Inside) (i : ℕ) (g : GroupValue) (n reported : ℕ) → IsGroupTable w → w.out ≡ false → i < length w.shares.items → n ≡ next_of_group (state_of g) → reported + length (value_at w.shares.items i).lines ≡ w.reported + length g.lines → IsGroupTable record w { shares = with_item w.shares i g; nexts = with_item w.nexts i n; least = None; reported = reported }
+pub after_events : (w : Inside) (i : ℕ) (g : GroupValue) (n reported : ℕ) → IsGroupTable w → w.out ≡ false → i < length w.group_states.items → n ≡ next_of_group (state_of g) → reported + length (value_at w.group_states.items i).lines ≡ w.reported + length g.lines → IsGroupTable record w { group_states = with_item w.group_states i g; nexts = with_item w.nexts i n; least = None; reported = reported }
 after_events w i g n reported is out under next more =
-    with_groups w (with_item w.shares i g) (with_item w.nexts i n) None reported is out (length-set w.shares.items i g)
-    (ap (λ ns. set ns i n) (is.nexts out) ∙ ap (set (nexts_of (states_of w.shares.items)) i) next ∙ sym (nexts_set w.shares.items i g))
+    with_groups w (with_item w.group_states i g) (with_item w.nexts i n) None reported is out (length-set w.group_states.items i g)
+    (ap (λ ns. set ns i n) (is.nexts out) ∙ ap (set (nexts_of (states_of w.group_states.items)) i) next ∙ sym (nexts_set w.group_states.items i g))
     tt
-    (let all = reported_set w.shares.items i g under in let was = is.reported out in omega (arith, all, was, more))
+    (let all = reported_set w.group_states.items i g under in let was = is.reported out in omega (arith, all, was, more))

@@ -1,4 +1,4 @@
--- What groups are when what they held back for each other was handed over, link by link.
+-- What groups are when their outgoing messages were handed over, link by link.
 use Rattle.std.proofs.Common.{◌≡◌, ◌≢◌, ◌≤◌, ◌<◌, ◌==◌, ℕ, List, [], length, map, set, Bool, true, false, cond, Option, Some, None, refl, sym, ap, subst, ◌∙◌, ⊎_elim, arith, eq-eqb, ne_eqb, true≢false, ext_get_or}
 use Rattle.std.proofs.lemmas.Bool.{cases_eq, cases_lt, cases_Bool}
 use Rattle.std.proofs.lemmas.List.{get_or_past, length-map, get_or-set_same, get_or-set_other, length-set}
@@ -34,7 +34,7 @@ use Rattle.window_core.proofs.HeldForOthers.{held, no_key, in_range, crossing, o
 module _ (entries : List ℕ) (links : List LinkEnds) (old : List GroupValue) (ready : AreReady entries links old) where
   -- SO FAR
 
-  -- what was held back of some links was handed over, and of the others nothing yet
+  -- the outgoing messages of some links were handed over, and of the others none yet
   pub record HandedOver (now : List GroupValue) (done : ℕ → Bool) : Type 0 where
     pub size : length now ≡ length old
     pub same : (h : ℕ) → value_at now h ≡ record (value_at old h) { seats = (value_at now h).seats; held = (value_at now h).held }

@@ -1,4 +1,4 @@
--- What groups held back is handed over, group by group.
+-- The outgoing messages are handed over, group by group.
 use Rattle.std.proofs.Common.{◌≡◌, ◌≢◌, ◌≤◌, ◌<◌, ◌+◌, ◌==◌, ℕ, List, [], ◌∷◌, length, Bool, true, false, cond, refl, sym, ap, subst, ◌∙◌, ⊎_elim, arith, eq-eqb, ne_eqb, true≢false}
 use Rattle.std.proofs.lemmas.Bool.{cases_eq, cases_lt, cases_Bool}
 use Rattle.std.proofs.lemmas.List.Sums.{sum_by-set}
@@ -20,7 +20,7 @@ none_in (first ∷ packets) e = absurd (true≢false (sym e ∙ ne_eqb (length (
 not_none : (w : WireState) → is_idle w ≡ false → w.under_way ≢ []
 not_none w busy none = true≢false (sym (eq-eqb 0 0 refl) ∙ ap (λ (packets : List Stamped). length packets == 0) (sym none) ∙ busy)
 
--- over how many links something is held back
+-- over how many links there are outgoing messages
 abbrev weight : WireState → ℕ
 weight w = cond (is_idle w) 0 1
 

@@ -85,7 +85,7 @@ module _ {entries : List ℕ} {links : List LinkEnds} {old : List GroupValue} (r
   held_is : (k : Key) → get held k ≡ get (held_on (value_at old (from_group entries links (over_link k))).held) k
   held_is k = get-gathered (λ q. from_group entries links (over_link q)) helds at_home k ∙ ap (λ (m : Events). get m k) (helds_at old (from_group entries links (over_link k)) (in_range (ends_at links (over_link k)).from))
 
-  -- a key that is held back
+  -- a key of an outgoing message
   pub record IsCrossing (k : Key) : Type 0 where
     pub known : over_link k < length links
     pub crosses : from_group entries links (over_link k) ≢ to_group entries links (over_link k)

@@ -1,4 +1,4 @@
--- The shares of a net together hold its state.
+-- The group states of a net together hold its state.
 use Rattle.std.proofs.Common.{◌≡◌, ℕ, ◌<◌, ◌≤◌, ◌==◌, cond, List, [], length, refl, sym, ap, ◌∙◌, None, get_or, ⊎_elim, arith}
 use Rattle.std.proofs.lemmas.Bool.{cases_lt, ne_eqb}
 use Rattle.std.proofs.lemmas.List.{length-map, get_or_past}
@@ -17,7 +17,7 @@ use Rattle.node_group.specs.Seats.{Seats, seated}
 use Rattle.window_law.specs.Groups.{GroupState, no_group, group_at}
 use Rattle.window_law.specs.Standing.{Stands}
 use Rattle.node_group.specs.Group.{state_of}
-use Rattle.node_group.specs.Shares.{AreSeatsOf, AreIdle}
+use Rattle.node_group.specs.GroupStates.{AreSeatsOf, AreIdle}
 use Rattle.node_group.proofs.Seated.{length-seated}
 use Rattle.node_group.proofs.OfNet.{mine, past_seats, pending_mine, idle_none}
 
@@ -29,9 +29,9 @@ pub record HoldsPart (group : ℕ → ℕ) (s : State) (h : ℕ) (g : GroupState
   pub held : g.held ≡ nothing_due Event
   pub lines : g.lines ≡ []
 
-pub share_holds : (nodes : List NodeState) (links : List LinkEnds) (end position : ℕ) (placed : IsPlaced nodes) (entries : List ℕ) (size : length entries ≡ length nodes) (number until : ℕ) (seats : Seats) (held : List WireState) (are : AreSeatsOf entries number nodes seats) (idle : AreIdle links nodes held)
+pub group_state_holds : (nodes : List NodeState) (links : List LinkEnds) (end position : ℕ) (placed : IsPlaced nodes) (entries : List ℕ) (size : length entries ≡ length nodes) (number until : ℕ) (seats : Seats) (held : List WireState) (are : AreSeatsOf entries number nodes seats) (idle : AreIdle links nodes held)
     → HoldsPart (group_in entries) (net_state nodes end) number (state_of record { number = number; entries = entries; links = links; seats = seats; held = held; lines = []; until = until; position = position })
-share_holds nodes links end position placed entries size number until seats held are idle = record {
+group_state_holds nodes links end position placed entries size number until seats held are idle = record {
   size =
       length-map (seated seats) (λ (n : NodeState). n.part) ∙ length-seated seats ∙ are.count ∙ size ∙ sym (length-map nodes (λ (n : NodeState). n.part));
   parts = λ node own.

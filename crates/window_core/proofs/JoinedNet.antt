@@ -44,7 +44,7 @@ use Rattle.window_core.proofs.Leaving.{exit_there}
 use Rattle.node_group.proofs.Seated.{length-seated}
 use Rattle.window_core.proofs.Windowed.{state_at, group_below}
 
--- where nothing is held back nothing is under way
+-- where there is no outgoing message nothing is under way
 module _ (held : List WireState) (by_link : AreByLink held) (none : held_on held ≡ nothing_due Event) (link : ℕ) (under : link < length held) where
   abbrev w : WireState
   w = wire_at held link

@@ -15,19 +15,19 @@ use Rattle.window_law.specs.Lookahead.{lookahead}
 use Rattle.window_core.specs.Initial.{IsFirstWindow}
 use Rattle.net_partition.specs.Partition.{group_in, groups_of}
 use Rattle.node_group.specs.Seats.{seated}
-use Rattle.node_group.specs.Shares.{IsShareOf}
+use Rattle.node_group.specs.GroupStates.{IsGroupStateOf}
 use Rattle.window_core.specs.Window.{WindowValue, value_at, states_of, setting_in, IsSplit, IsFrom}
 use Rattle.window_law.specs.Windows.{Setting, setting_of, window_end, none_fired, is_empty}
 use Rattle.window_law.proofs.Calls.{opens}
 use Rattle.window_law.proofs.EveryRun.{same_end}
-use Rattle.window_core.proofs.HoldsNet.{HoldsPart, share_holds, all_stand}
+use Rattle.window_core.proofs.HoldsNet.{HoldsPart, group_state_holds, all_stand}
 use Rattle.node_group.proofs.OfNet.{mine}
 use Rattle.window_core.proofs.Windowed.{state_at, length_states, group_below}
 
--- a share in all its fields
-share_is : (entries : List ℕ) (links : List LinkEnds) (nodes : List NodeState) (until position number : ℕ) (g : GroupValue) → IsShareOf entries links nodes until position number g
+-- a group state in all its fields
+group_state_is : (entries : List ℕ) (links : List LinkEnds) (nodes : List NodeState) (until position number : ℕ) (g : GroupValue) → IsGroupStateOf entries links nodes until position number g
     → g ≡ record { number = number; entries = entries; links = links; seats = g.seats; held = g.held; lines = []; until = until; position = position }
-share_is entries links nodes until position number g is =
+group_state_is entries links nodes until position number g is =
     λ i. record { number = is.number_is i; entries = is.entries_are i; links = is.links_are i; seats = g.seats; held = g.held; lines = is.no_lines i; until = is.until_is i; position = is.position_is i }
 
 none_of : (groups : List GroupValue) → ((h : ℕ) → h < length groups → (value_at groups h).lines ≡ []) → none_fired (states_of groups) ≡ true
@@ -37,7 +37,7 @@ none_of (g ∷ groups) none =
     ∙ none_of groups (λ h under. none (suc h) (omega (arith, under)))
 
 module _ (nodes : List NodeState) (v : WindowValue) (net : AreNetParts nodes v.links v.end v.position) (size : length v.entries ≡ length nodes) (count : length v.groups ≡ groups_of v.entries)
-    (shares : (h : ℕ) → h < length v.groups → IsShareOf v.entries v.links nodes v.until v.position h (value_at v.groups h))
+    (group_states : (h : ℕ) → h < length v.groups → IsGroupStateOf v.entries v.links nodes v.until v.position h (value_at v.groups h))
     (leaves : (link : ℕ) → link < length v.links → (ends_at v.links link).from < length v.entries) (comes : (link : ℕ) → link < length v.links → (place_at v.links link).node < length v.entries) where
   in_range : (node : ℕ) → group_in v.entries node < length v.groups
   in_range node = let below = group_below v.entries node in omega (arith, below, count)
@@ -46,7 +46,7 @@ module _ (nodes : List NodeState) (v : WindowValue) (net : AreNetParts nodes v.l
   split_opened = record {
     count = count;
     parts = λ h under.
-        let is = shares h under in
+        let is = group_states h under in
         record { number_is = is.number_is; entries_are = is.entries_are; links_are = is.links_are; until_is = is.until_is; position_is = is.position_is };
     known = λ link under. record { from = leaves link under; to = comes link under };
     across = λ link under off.
@@ -54,10 +54,10 @@ module _ (nodes : List NodeState) (v : WindowValue) (net : AreNetParts nodes v.l
         let from = in_range (ends_at v.links link).from in
         let t = group_in v.entries (place_at v.links link).node in
         let f = group_in v.entries (ends_at v.links link).from in
-        let its : (value_at v.groups t).links ≡ v.links = (shares t to).links_are in
+        let its : (value_at v.groups t).links ≡ v.links = (group_states t to).links_are in
         ap (λ (links : List LinkEnds). (incoming_at (node_at (seated (value_at v.groups t).seats) (place_at links link).node).incoming (place_at links link).index).came) its
-        ∙ ap (λ (n : NodeState). (incoming_at n.incoming (place_at v.links link).index).came) (mine v.entries t nodes (value_at v.groups t).seats (shares t to).seats (place_at v.links link).node (comes link under) refl)
-        ∙ sym (ap (λ (w : WireState). w.taken) ((shares f from).wires.each_wire link under));
+        ∙ ap (λ (n : NodeState). (incoming_at n.incoming (place_at v.links link).index).came) (mine v.entries t nodes (value_at v.groups t).seats (group_states t to).seats (place_at v.links link).node (comes link under) refl)
+        ∙ sym (ap (λ (w : WireState). w.taken) ((group_states f from).wires.each_wire link under));
     fits = net.run.position_fits;
   }
 
@@ -72,9 +72,9 @@ module _ (nodes : List NodeState) (v : WindowValue) (net : AreNetParts nodes v.l
         let stand = all_stand (group_in v.entries) (net_state nodes v.end) (states_of v.groups) (λ node. let here = in_range node in omega (arith, here, states))
         (λ h under.
         let here : h < length v.groups = omega (arith, under, states) in
-        let share = shares h here in
-        subst (HoldsPart (group_in v.entries) (net_state nodes v.end) h) (ap state_of (sym (share_is v.entries v.links nodes v.until v.position h (value_at v.groups h) share)) ∙ sym (state_at v.groups h here))
-        (share_holds nodes v.links v.end v.position net.placed v.entries size h v.until (value_at v.groups h).seats (value_at v.groups h).held share.seats share.wires)) in
+        let group_state = group_states h here in
+        subst (HoldsPart (group_in v.entries) (net_state nodes v.end) h) (ap state_of (sym (group_state_is v.entries v.links nodes v.until v.position h (value_at v.groups h) group_state)) ∙ sym (state_at v.groups h here))
+        (group_state_holds nodes v.links v.end v.position net.placed v.entries size h v.until (value_at v.groups h).seats (value_at v.groups h).held group_state.seats group_state.wires)) in
         record {
           scenario = p;
           before = net.run.lines;
@@ -92,7 +92,7 @@ module _ (nodes : List NodeState) (v : WindowValue) (net : AreNetParts nodes v.l
     first_opened = record {
       from = from_opened;
       end_is = refl;
-      unfired = none_of v.groups (λ h under. (shares h under).no_lines);
+      unfired = none_of v.groups (λ h under. (group_states h under).no_lines);
       until_is = until_is;
       ahead_is = ahead_is;
     }

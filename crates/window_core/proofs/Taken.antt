@@ -61,7 +61,7 @@ no_lines group held n (g ∷ groups) = no_lines group held (n + 1) groups
 abbrev after_turn : WindowValue → WindowState × List TraceLine
 after_turn old = (opened (setting_in old) (groups_delivered (group_in old.entries) (states_of old.groups)), in_order (all_lines (states_of old.groups)))
 
--- its groups are those that got what was held back for them
+-- its groups are those that got their messages
 turned_groups : (old new : WindowValue) (batch : BatchValue) → HasTurned old batch new → states_of new.groups ≡ groups_delivered (group_in old.entries) (states_of old.groups)
 turned_groups old new batch has = go (all_done old.until (states_of old.groups)) has.moved_on
   where

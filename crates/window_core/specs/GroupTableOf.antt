@@ -6,14 +6,14 @@ use Rattle.window_core.specs.Window.{states_of}
 use Rattle.window_law.specs.Windows.{all_lines}
 
 abbrev pub group_table_of : Inside → GroupTableValue
-group_table_of r = record { groups = if r.out then r.lent.value.items else r.shares.items; out = r.out }
+group_table_of r = record { groups = if r.out then r.lent.value.items else r.group_states.items; out = r.out }
 
 -- what is kept of the groups that are in; and there is room to hand them out, and to have them back
 pub record IsGroupTable (r : Inside) : Type 0 where
   pub few : length r.nexts.items ≤ 64
   pub size : length r.nexts.items ≡ length (group_table_of r).groups
-  pub nexts : r.out ≡ false → r.nexts.items ≡ nexts_of (states_of r.shares.items)
+  pub nexts : r.out ≡ false → r.nexts.items ≡ nexts_of (states_of r.group_states.items)
   pub least : IfSome r.least (λ least. least ≡ least_moment r.nexts.items)
-  pub reported : r.out ≡ false → r.reported ≡ length (all_lines (states_of r.shares.items))
+  pub reported : r.out ≡ false → r.reported ≡ length (all_lines (states_of r.group_states.items))
   pub room_out : r.out ≡ false → (r.groups.items ≡ []) × (length r.nexts.items ≤ vec_capacity r.groups)
-  pub room_back : r.out ≡ true → (r.shares.items ≡ []) × (length r.nexts.items ≤ vec_capacity r.shares)
+  pub room_back : r.out ≡ true → (r.group_states.items ≡ []) × (length r.nexts.items ≤ vec_capacity r.group_states)

@@ -60,7 +60,7 @@ pub record AreReady (entries : List ℕ) (links : List LinkEnds) (groups : List 
   pub across : (link : ℕ) → link < length links → from_group entries links link ≢ to_group entries links link → came_in (value_at groups (to_group entries links link)) link ≡ (held_over groups (from_group entries links link) link).taken
   pub later : (link : ℕ) → link < length links → from_group entries links link ≢ to_group entries links link → ComesLater (held_over groups (from_group entries links link) link) (value_at groups (to_group entries links link))
 
--- a link from a group to another, over which what is held back may come: it is behind what came before
+-- a link from a group to another, over which outgoing messages may come: they are behind what came before
 pub record CanHand (groups : List GroupValue) (from to link : ℕ) : Type 0 where
   pub from_in : from < length groups
   pub to_in : to < length groups
@@ -85,7 +85,7 @@ pub record CanHandEach (entries : List ℕ) (links : List LinkEnds) (groups : Li
   pub wires : length (value_at groups from).held ≡ length links
   pub can : (link : ℕ) → link < length links → is_idle (held_over groups from link) ≡ false → CanHand groups from (to_group entries links link) link
 
--- it has come, and is held back no more
+-- they have come, and are outgoing no more
 pub record WasHanded (old new : List GroupValue) (from to link : ℕ) : Type 0 where
   pub size : length new ≡ length old
   pub from_is : value_at new from ≡ record (value_at old from) { held = slice_set (value_at old from).held link (handed (held_over old from link)) }
@@ -96,13 +96,13 @@ pub record WasHanded (old new : List GroupValue) (from to link : ℕ) : Type 0 w
   pub pending : pending_in (value_at new to) ≡ apply (entering (arrivals_on (held_over old from link))) (pending_in (value_at old to))
   pub came : (l : ℕ) → l < length (value_at old to).links → group_to (value_at old to) l ≡ (value_at old to).number → came_in (value_at new to) l ≡ (if l == link then came_over (held_over old from link) else came_in (value_at old to) l)
 
--- what a group held back of a link has come to the group at the link's end
+-- a group's outgoing messages of a link have come to the group at the link's end
 pub record HasHandedOne (entries : List ℕ) (links : List LinkEnds) (old new : List GroupValue) (from link : ℕ) : Type 0 where
   pub within : link < length links
   pub busy : is_idle (held_over old from link) ≡ false
   pub was : WasHanded old new from (to_group entries links link) link
 
--- the groups have what was held back for them, and hold nothing back; their nodes are as they were
+-- the groups have their messages, and none is outgoing; their nodes are as they were
 pub record HasHanded (entries : List ℕ) (links : List LinkEnds) (old new : List GroupValue) : Type 0 where
   pub size : length new ≡ length old
   pub same : (number : ℕ) → value_at new number ≡ record (value_at old number) { seats = (value_at new number).seats; held = (value_at new number).held }

@@ -5,7 +5,7 @@ ghost use Rattle.line_merge.specs.Merged.{AreApart, all_of};
 ghost use Rattle.node_group.specs.Group.{GroupValue};
 
 use line_merge::{Lines, Sheaf};
-use node_group::Share;
+use node_group::GroupState;
 use std::alloc::AllocError;
 
 /// For how many lines memory is kept from window to window, over all groups. A burst takes more.
@@ -29,27 +29,27 @@ fn fit(lists: &mut Vec<Lines>, count: usize) -> Result<(), AllocError>
 
 // Has the lines that a group has told, and gives the group its memory for others: for so many lines at most, or for
 // twice as many as the group has just told, whichever is more.
-fn take_from(lines: &mut Lines, share: &mut Share, position: u64, most: usize)
+fn take_from(lines: &mut Lines, group_state: &mut GroupState, position: u64, most: usize)
     requires { position ≤ 1000000000000000 }
-    ensures lines { lines.new ≡ share.old.lines }
-    ensures share { share.new ≡ record share.old { lines = []; position = position } }
+    ensures lines { lines.new ≡ group_state.old.lines }
+    ensures group_state { group_state.new ≡ record group_state.old { lines = []; position = position } }
 {
-    let wanted = share.reported().saturating_mul(OF_REPORTED);
+    let wanted = group_state.reported().saturating_mul(OF_REPORTED);
     let mut items = lines.take_memory(most.max(wanted));
-    let count = share.take_lines(&mut items, position);
+    let count = group_state.take_lines(&mut items, position);
     *lines = Lines::of(items, count);
 }
 
 // The lines of each group go into the list of its number.
-fn take_lines(lists: &mut [Lines], shares: &mut [Share], position: u64)
-    requires size { length lists.old ≡ length shares.old }
+fn take_lines(lists: &mut [Lines], group_states: &mut [GroupState], position: u64)
+    requires size { length lists.old ≡ length group_states.old }
     requires position { position ≤ 1000000000000000 }
-    ensures lists { lists.new ≡ each (λ (g : GroupValue). g.lines) shares.old }
-    ensures shares { shares.new ≡ each (λ (g : GroupValue). record g { lines = []; position = position }) shares.old }
+    ensures lists { lists.new ≡ each (λ (g : GroupValue). g.lines) group_states.old }
+    ensures group_states { group_states.new ≡ each (λ (g : GroupValue). record g { lines = []; position = position }) group_states.old }
 {
-    let most = KEPT / shares.len().max(1);
-    for at in 0..shares.len() {
-        take_from(&mut lists[at], &mut shares[at], position, most);
+    let most = KEPT / group_states.len().max(1);
+    for at in 0..group_states.len() {
+        take_from(&mut lists[at], &mut group_states[at], position, most);
     }
 }
 
@@ -57,21 +57,21 @@ fn take_lines(lists: &mut [Lines], shares: &mut [Share], position: u64)
 /// groups have told none, and stand after those too. Where memory is refused the sheaf is empty.
 pub(crate) fn gather(
     sheaf: &mut Sheaf,
-    shares: &mut [Share],
+    group_states: &mut [GroupState],
     position: u64,
     count: usize,
 ) -> Result<(), AllocError>
-    requires few { length shares.old ≤ 64 }
-    requires apart { AreApart (each (λ (g : GroupValue). g.lines) shares.old) }
-    requires count { count ≡ length (all_of (each (λ (g : GroupValue). g.lines) shares.old)) }
+    requires few { length group_states.old ≤ 64 }
+    requires apart { AreApart (each (λ (g : GroupValue). g.lines) group_states.old) }
+    requires count { count ≡ length (all_of (each (λ (g : GroupValue). g.lines) group_states.old)) }
     requires fits { position + count ≤ 1000000000000000 }
-    ensures sheaf { OnOk result (sheaf.new ≡ record { first = position + 1; lists = each (λ (g : GroupValue). g.lines) shares.old }) }
-    ensures shares { OnOk result (shares.new ≡ each (λ (g : GroupValue). record g { lines = []; position = position + count }) shares.old) }
-    ensures err { OnErr result (shares.new ≡ shares.old) }
+    ensures sheaf { OnOk result (sheaf.new ≡ record { first = position + 1; lists = each (λ (g : GroupValue). g.lines) group_states.old }) }
+    ensures group_states { OnOk result (group_states.new ≡ each (λ (g : GroupValue). record g { lines = []; position = position + count }) group_states.old) }
+    ensures err { OnErr result (group_states.new ≡ group_states.old) }
 {
     let mut lists = sheaf.take_lists();
-    fit(&mut lists, shares.len())?;
-    take_lines(&mut lists, shares, position + count as u64);
+    fit(&mut lists, group_states.len())?;
+    take_lines(&mut lists, group_states, position + count as u64);
     *sheaf = Sheaf::of_lists(lists, count, position + 1);
     Ok(())
 }

@@ -25,7 +25,7 @@ pub use self::turning::TurnFault;
 use line_merge::Batch;
 use net_machine::LinkEnds;
 use net_partition::Partition;
-use node_group::{Group, GroupFault, Share};
+use node_group::{Group, GroupFault, GroupState};
 use sim_time::Time;
 use std::alloc::Global;
 use std::marker::Model;
@@ -75,11 +75,11 @@ impl Model for Window {
 }
 
 // Names the moment before which each group may run events.
-fn set_until(shares: &mut [Share], until: Time)
-    ensures { shares.new ≡ each (λ (g : GroupValue). record g { until = until }) shares.old }
+fn set_until(group_states: &mut [GroupState], until: Time)
+    ensures { group_states.new ≡ each (λ (g : GroupValue). record g { until = until }) group_states.old }
 {
-    for share in shares.iter_mut() {
-        share.set_until(until);
+    for group_state in group_states.iter_mut() {
+        group_state.set_until(until);
     }
 }
 

@@ -8,14 +8,14 @@ use Rattle.window_core.specs.Partition.{groups_of}
 use Rattle.window_core.specs.Sheaves.{SheafValue, merged}
 use Rattle.window_core.specs.Window.{WindowValue}
 use Rattle.window_core.specs.Windows.{AreBelow}
-use Rattle.window_engine.specs.declared.course.Course.{Course}
-use Rattle.window_engine.specs.declared.course.WriteFault.{WriteFault}
-use Rattle.window_engine.specs.declared.course.WriteFault.TheVariants.{Workers, Sink as Failing}
+use Rattle.window_engine.specs.declared.run_state.RunState.{RunState}
+use Rattle.window_engine.specs.declared.run_state.WriteFault.{WriteFault}
+use Rattle.window_engine.specs.declared.run_state.WriteFault.TheVariants.{Workers, Sink as Failing}
 use Rattle.window_engine.specs.declared.fault.EngineFault.{EngineFault}
 use Rattle.window_engine.specs.declared.fault.EngineFault.TheVariants.{CountFull, NoMemory, Sink as SinkFailed}
 use Rattle.window_engine.specs.declared.fault.Stop.{Stop}
 use Rattle.window_text.specs.declared.pending_text.PendingText.{PendingText}
-use Rattle.window_engine.specs.Courses.{AtRest, AwaitsSink, HasGroups, IsBehind, IsOwing, IsWriting, HasEnded, Broke, CanTell, WindowsRest, Wrote, fails_after, reported_as}
+use Rattle.window_engine.specs.RunStates.{AtRest, AwaitsSink, HasGroups, IsBehind, IsOwing, IsWriting, HasEnded, Broke, CanTell, WindowsRest, Wrote, fails_after, reported_as}
 use Rattle.window_engine.specs.Edges.{IsAtEdge, edge_of, reached_in}
 use Rattle.window_engine.specs.Engines.{IsStop}
 use Rattle.window_text.specs.Failures.{counted}
@@ -30,10 +30,10 @@ use Rattle.window_engine.proofs.Unwritten.{all_committed, behind_by_none, few_be
 use Rattle.window_engine.proofs.Writing.{broke_batch, can_tell, committed, ended, fails_reported, still_fits, reported_of, wrote_batch, wrote_more, wrote_no_more, wrote_none}
 
 -- before the first window
-pub at_first : (until : ℕ) (c : Course) (known : Option (List ℕ)) → AtRest c → HasGroups c → WindowsRest until c c 0 known known
+pub at_first : (until : ℕ) (c : RunState) (known : Option (List ℕ)) → AtRest c → HasGroups c → WindowsRest until c c 0 known known
 at_first until c known rest has = record { rest = rest; has = has; wrote = wrote_none until (reached_in c.window) known; groups = refl; ahead = refl }
 
-module _ (until : ℕ) (began c : Course) (s : SheafValue) (written : ℕ) (known now : Option (List ℕ)) (r : WindowsRest until began c written known now) (none : s ≡ record { first = c.position + 1; lists = [] }) where
+module _ (until : ℕ) (began c : RunState) (s : SheafValue) (written : ℕ) (known now : Option (List ℕ)) (r : WindowsRest until began c written known now) (none : s ≡ record { first = c.position + 1; lists = [] }) where
   -- windows begin
   pub begun : IsWriting until began (record c { sheaf = s }) written known now
   begun = record {
@@ -64,7 +64,7 @@ module _ (until : ℕ) (began c : Course) (s : SheafValue) (written : ℕ) (know
       }
 
 -- a text of no line is owed
-pub awaits_nothing : (until : ℕ) (began c : Course) (pending_text : PendingText) (written : ℕ) (known now : Option (List ℕ)) (f g : ℕ) → IsOwing until began c [] 0 written known now → pending_text.text.places.items ≡ [] → pending_text.lines ≡ 0 → pending_text.put ≡ None → g ≡ f
+pub awaits_nothing : (until : ℕ) (began c : RunState) (pending_text : PendingText) (written : ℕ) (known now : Option (List ℕ)) (f g : ℕ) → IsOwing until began c [] 0 written known now → pending_text.text.places.items ≡ [] → pending_text.lines ≡ 0 → pending_text.put ≡ None → g ≡ f
     → AwaitsSink until began c pending_text written known now f g
 awaits_nothing until began c pending_text written known now f g o empty lines waits same = record {
   owing =
@@ -80,7 +80,7 @@ pub unput : (o : PendingText) (before now : Option (List ℕ)) (f g : ℕ) → I
 unput o before now f g ready waits same fails = record { ready = ready; fares = subst (Fares (text_pending o) before now f g) (sym waits) (same, fails) }
 
 -- where there is no memory for a first one
-pub not_begun : (workers until : ℕ) (c : Course) (known : Option (List ℕ)) (failures : ℕ) → AtRest c → HasEnded workers until c c (Err NoMemory) known known failures failures
+pub not_begun : (workers until : ℕ) (c : RunState) (known : Option (List ℕ)) (failures : ℕ) → AtRest c → HasEnded workers until c c (Err NoMemory) known known failures failures
 not_begun workers until c known failures rest =
     let net = reached_in c.window in
     record {
@@ -95,7 +95,7 @@ not_begun workers until c known failures rest =
     }
 
 -- a call has written so much, and ends by a fault in what follows
-pub broken_at : (workers until : ℕ) (began new : Course) (net : Reached) (written : ℕ) (known now later : Option (List ℕ)) (fault : WriteFault) (f g h : ℕ) → Wrote until (reached_in began.window) net written known now → net.position ≤ 1000000000000000
+pub broken_at : (workers until : ℕ) (began new : RunState) (net : Reached) (written : ℕ) (known now later : Option (List ℕ)) (fault : WriteFault) (f g h : ℕ) → Wrote until (reached_in began.window) net written known now → net.position ≤ 1000000000000000
     → Broke workers until net new.position now later fault → (fault ≡ Workers CountFull → HasTooMany net) → g ≡ f → h ≡ fails_after {T = ℕ} (Err fault) g → new.groups ≡ began.groups → new.ahead ≡ began.ahead
     → HasEnded workers until began new (Err (reported_as written fault)) known later f h
 broken_at workers until began new net written known now later fault f g h wrote few broke full same fails groups ahead =
@@ -112,7 +112,7 @@ broken_at workers until began new net written known now later fault f g h wrote 
     }
 
 -- a call ends where nothing is left to write
-pub rested : (workers until : ℕ) (began c : Course) (written : ℕ) (known now : Option (List ℕ)) (f g : ℕ) (stop : Stop) → WindowsRest until began c written known now → g ≡ f → IsStop until (edge_of c.window) stop → HasEnded workers until began c (Ok stop) known now f g
+pub rested : (workers until : ℕ) (began c : RunState) (written : ℕ) (known now : Option (List ℕ)) (f g : ℕ) (stop : Stop) → WindowsRest until began c written known now → g ≡ f → IsStop until (edge_of c.window) stop → HasEnded workers until began c (Ok stop) known now f g
 rested workers until began c written known now f g stop r same stops = record {
   rest = r.rest;
   has = r.has;
@@ -124,7 +124,7 @@ rested workers until began c written known now f g stop r same stops = record {
   ahead = r.ahead;
 }
 
-module _ (until : ℕ) (began c : Course) (written : ℕ) (known now : Option (List ℕ)) (w : IsWriting until began c written known now) where
+module _ (until : ℕ) (began c : RunState) (written : ℕ) (known now : Option (List ℕ)) (w : IsWriting until began c written known now) where
   abbrev from : Reached
   from = reached_in began.window
 
@@ -149,7 +149,7 @@ module _ (until : ℕ) (began c : Course) (written : ℕ) (known now : Option (L
   some_fit text lines count later is many takes few = tells 1 (c.position + lines) later (Failing count) (broke_all 1 text lines count (c.position + lines) later is many refl takes few)
 
   -- the call ends by a fault in the next window
-  pub broken : (workers : ℕ) (new : Course) (later : Option (List ℕ)) (fault : WriteFault) (f g h : ℕ) → Broke workers until w.net new.position now later fault → (fault ≡ Workers CountFull → HasTooMany w.net) → g ≡ f → h ≡ fails_after {T = ℕ} (Err fault) g
+  pub broken : (workers : ℕ) (new : RunState) (later : Option (List ℕ)) (fault : WriteFault) (f g h : ℕ) → Broke workers until w.net new.position now later fault → (fault ≡ Workers CountFull → HasTooMany w.net) → g ≡ f → h ≡ fails_after {T = ℕ} (Err fault) g
       → new.groups ≡ c.groups → new.ahead ≡ c.ahead → HasEnded workers until began new (Err (reported_as written fault)) known later f h
   broken workers new later fault f g h broke full same fails groups ahead =
       broken_at workers until began new w.net written known now later fault f g h w.wrote few broke full same fails (groups ∙ w.groups) (ahead ∙ w.ahead)
@@ -160,12 +160,12 @@ module _ (until : ℕ) (began c : Course) (written : ℕ) (known now : Option (L
       broken workers c now (Workers NoMemory) f g g (wrote_no_more until w.net c.position now w.behind.committed, tt) (λ is. absurd (cc)) same refl refl refl
 
   -- what was left is written
-  pub settled : (bytes : ℕ) (new : Course) (later : Option (List ℕ)) → Wrote until w.net (reached_in c.window) bytes now later → new ≡ record c { position = new.position } → new.position ≡ c.position + length (merged c.sheaf).lines → WindowsRest until began new (written + bytes) known later
+  pub settled : (bytes : ℕ) (new : RunState) (later : Option (List ℕ)) → Wrote until w.net (reached_in c.window) bytes now later → new ≡ record c { position = new.position } → new.position ≡ c.position + length (merged c.sheaf).lines → WindowsRest until began new (written + bytes) known later
   settled bytes new later wrote rest at =
-      let window : new.window ≡ c.window = ap (λ (x : Course). x.window) rest in
-      let end : new.end ≡ c.end = ap (λ (x : Course). x.end) rest in
-      let groups : new.groups ≡ c.groups = ap (λ (x : Course). x.groups) rest in
-      let ahead : new.ahead ≡ c.ahead = ap (λ (x : Course). x.ahead) rest in
+      let window : new.window ≡ c.window = ap (λ (x : RunState). x.window) rest in
+      let end : new.end ≡ c.end = ap (λ (x : RunState). x.end) rest in
+      let groups : new.groups ≡ c.groups = ap (λ (x : RunState). x.groups) rest in
+      let ahead : new.ahead ≡ c.ahead = ap (λ (x : RunState). x.ahead) rest in
       let committed_is : new.position ≡ c.window.position = all_committed w.net c w.behind new.position at in
       let all = wrote_more until from w.net (reached_in c.window) written bytes known now later w.wrote wrote in
       record {
@@ -183,23 +183,23 @@ module _ (until : ℕ) (began c : Course) (written : ℕ) (known now : Option (L
       }
 
   -- the call ends by a fault of the workers in the next window, and the text of what was there is written
-  pub stopped_after : (workers : ℕ) (text : List ℕ) (lines count : ℕ) (new : Course) (later : Option (List ℕ)) (fault : EngineFault) (f g h : ℕ) → text ≡ text_from c.sheaf.first (merged c.sheaf).lines → lines ≡ length (merged c.sheaf).lines → new.position ≡ c.position + lines → Appends now later text
+  pub stopped_after : (workers : ℕ) (text : List ℕ) (lines count : ℕ) (new : RunState) (later : Option (List ℕ)) (fault : EngineFault) (f g h : ℕ) → text ≡ text_from c.sheaf.first (merged c.sheaf).lines → lines ≡ length (merged c.sheaf).lines → new.position ≡ c.position + lines → Appends now later text
       → count ≡ length text → count < 2 ^ 71 → IsOfWorkers workers fault → (fault ≡ CountFull → HasTooMany (reached_in c.window)) → g ≡ f → h ≡ g → new.groups ≡ c.groups → new.ahead ≡ c.ahead → HasEnded workers until began new (Err fault) known later f h
   stopped_after workers text lines count new later fault f g h is many at takes sized short of full same fails groups ahead =
       let wrote = wrote_batch until w.net (reached_in c.window) count (merged c.sheaf) text now later w.early w.behind.gone is sized short takes in
       broken workers new later (Workers fault) f g h (wrote_to_edge w.net c w.behind until new.position count now later (omega (arith, at, many)) wrote, of) (workers_full w.net fault (λ is. full_before w.net c w.behind (full is))) same fails groups ahead
 
   -- and the sink failed in that text
-  pub failed_after : (workers : ℕ) (text : List ℕ) (lines count : ℕ) (new : Course) (later : Option (List ℕ)) (f g h : ℕ) → text ≡ text_from c.sheaf.first (merged c.sheaf).lines → lines ≡ length (merged c.sheaf).lines → new.position ≡ c.position + lines → TakesFirst count text now later
+  pub failed_after : (workers : ℕ) (text : List ℕ) (lines count : ℕ) (new : RunState) (later : Option (List ℕ)) (f g h : ℕ) → text ≡ text_from c.sheaf.first (merged c.sheaf).lines → lines ≡ length (merged c.sheaf).lines → new.position ≡ c.position + lines → TakesFirst count text now later
       → count < 2 ^ 71 → g ≡ f → h ≡ counted g → new.groups ≡ c.groups → new.ahead ≡ c.ahead → HasEnded workers until began new (Err (SinkFailed (written + count))) known later f h
   failed_after workers text lines count new later f g h is many at takes few same fails groups ahead =
       broken workers new later (Failing count) f g h (broke_all workers text lines count new.position later is many at takes few) (λ is. absurd (cc)) same fails groups ahead
 
   -- a window more: the text of what was there is owed, and the window was run and turned
-  pub gone_on : (text : List ℕ) (lines : ℕ) (d new : Course) → text ≡ text_from c.sheaf.first (merged c.sheaf).lines → lines ≡ length (merged c.sheaf).lines → d.position ≡ c.position → d.groups ≡ c.groups → d.ahead ≡ c.ahead
+  pub gone_on : (text : List ℕ) (lines : ℕ) (d new : RunState) → text ≡ text_from c.sheaf.first (merged c.sheaf).lines → lines ≡ length (merged c.sheaf).lines → d.position ≡ c.position → d.groups ≡ c.groups → d.ahead ≡ c.ahead
       → IsBehind (reached_in c.window) (record d { position = d.position + lines }) → AreBelow until (merged d.sheaf).lines → HasGroups d → new ≡ record d { granularity = new.granularity } → IsOwing until began new text lines written known now
   gone_on text lines d new is many at groups ahead behind early has rest =
-      subst (λ (x : Course). IsOwing until began x text lines written known now) (sym rest)
+      subst (λ (x : RunState). IsOwing until began x text lines written known now) (sym rest)
       (record {
         was = c;
         writing = w;
@@ -213,7 +213,7 @@ module _ (until : ℕ) (began c : Course) (written : ℕ) (known now : Option (L
         ahead = ahead;
       })
 
-module _ (until : ℕ) (began c : Course) (text : List ℕ) (lines written : ℕ) (known now : Option (List ℕ)) (o : IsOwing until began c text lines written known now) where
+module _ (until : ℕ) (began c : RunState) (text : List ℕ) (lines written : ℕ) (known now : Option (List ℕ)) (o : IsOwing until began c text lines written known now) where
   abbrev w : IsWriting until began o.was written known now
   w = o.writing
 
@@ -249,7 +249,7 @@ module _ (until : ℕ) (began c : Course) (text : List ℕ) (lines written : ℕ
   unpaid_fits count later takes few = some_fit until began o.was written known now w text lines count later o.text_is o.lines_are takes few
 
   -- the sink failed in it
-  pub unpaid : (workers : ℕ) (new : Course) (count : ℕ) (later : Option (List ℕ)) (f g h : ℕ) → new.position ≡ c.position + lines → TakesFirst count text now later → count < 2 ^ 71 → g ≡ f → h ≡ counted g → new.groups ≡ c.groups → new.ahead ≡ c.ahead
+  pub unpaid : (workers : ℕ) (new : RunState) (count : ℕ) (later : Option (List ℕ)) (f g h : ℕ) → new.position ≡ c.position + lines → TakesFirst count text now later → count < 2 ^ 71 → g ≡ f → h ≡ counted g → new.groups ≡ c.groups → new.ahead ≡ c.ahead
       → HasEnded workers until began new (Err (SinkFailed (written + count))) known later f h
   unpaid workers new count later f g h at takes few same fails groups ahead =
       failed_after until began o.was written known now w workers text lines count new later f g h o.text_is o.lines_are (at ∙ ap (λ n. n + lines) o.committed) takes few same fails (groups ∙ o.groups) (ahead ∙ o.ahead)

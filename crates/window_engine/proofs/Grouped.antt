@@ -14,8 +14,8 @@ use Rattle.window_core.specs.Partition.{group_in, groups_of}
 use Rattle.window_core.specs.Sheaves.{SheafValue}
 use Rattle.window_core.specs.Window.{WindowValue, IsFrom, states_of}
 use Rattle.window_core.specs.Windows.{none_fired}
-use Rattle.window_engine.specs.declared.course.Course.{Course}
-use Rattle.window_engine.specs.Courses.{AtRest, HasGroups, IsApart, RunsIn}
+use Rattle.window_engine.specs.declared.run_state.RunState.{RunState}
+use Rattle.window_engine.specs.RunStates.{AtRest, HasGroups, IsApart, RunsIn}
 use Rattle.window_engine.specs.Edges.{IsAtEdge, StaysNet, edge_of, reached_in}
 use Rattle.window_engine.specs.Engines.{GoesOn}
 use Rattle.window_engine.proofs.Between.{net_is, opened_net}
@@ -58,12 +58,12 @@ runs_on groups ahead from to lines r is_run at = record {
   ahead_is = r.ahead_is;
 }
 
--- a course after a window
-pub groups_on : (c d : Course) (lines : List TraceLine) → HasGroups c → d ≡ record c { window = d.window; position = d.position; sheaf = d.sheaf } → StaysNet c.window d.window
+-- a run state after a window
+pub groups_on : (c d : RunState) (lines : List TraceLine) → HasGroups c → d ≡ record c { window = d.window; position = d.position; sheaf = d.sheaf } → StaysNet c.window d.window
     → run (edge_of c.window) (length lines) ≡ Some (lines, edge_of d.window) → d.window.position ≡ c.window.position + length lines → HasGroups d
 groups_on c d lines has kept stays is_run at =
-    let groups : d.groups ≡ c.groups = ap (λ (x : Course). x.groups) kept in
-    let ahead : d.ahead ≡ c.ahead = ap (λ (x : Course). x.ahead) kept in
+    let groups : d.groups ≡ c.groups = ap (λ (x : RunState). x.groups) kept in
+    let ahead : d.ahead ≡ c.ahead = ap (λ (x : RunState). x.ahead) kept in
     let there = reached_in d.window in
     let r = runs_on c.groups c.ahead (reached_in c.window) there lines has.run is_run at in
     record {
@@ -85,14 +85,14 @@ pub same_ahead : (groups : List ℕ) (ahead between : Option ℕ) (net : Reached
 same_ahead groups ahead between net r gives = gives r.scenario r.before r.is_scenario r.comes ∙ sym r.ahead_is
 
 -- a sheaf says nothing of groups
-pub groups_kept : (c : Course) (s : SheafValue) → HasGroups c → HasGroups (record c { sheaf = s })
+pub groups_kept : (c : RunState) (s : SheafValue) → HasGroups c → HasGroups (record c { sheaf = s })
 groups_kept c s has = record { run = has.run; apart = has.apart }
 
 -- an engine after a window
-pub ran_on : (c d : Course) (batch : BatchValue) → AtRest c → HasGroups c → d ≡ record c { window = d.window; position = d.position; sheaf = d.sheaf } → StaysNet c.window d.window
+pub ran_on : (c d : RunState) (batch : BatchValue) → AtRest c → HasGroups c → d ≡ record c { window = d.window; position = d.position; sheaf = d.sheaf } → StaysNet c.window d.window
     → IsAtEdge d.window → GoesOn (reached_in c.window) batch (reached_in d.window) → d.position ≡ d.window.position → d.window.position ≤ 1000000000000000 → AtRest d × HasGroups d
 ran_on c d batch was has kept stays edge gone at few =
-    let later : d.end ≡ c.end = ap (λ (x : Course). x.end) kept in (
+    let later : d.end ≡ c.end = ap (λ (x : RunState). x.end) kept in (
       record {
         edge = edge;
         committed = at;

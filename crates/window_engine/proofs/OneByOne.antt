@@ -20,12 +20,12 @@ use Rattle.trace_text.specs.Line.{line_bytes}
 use Rattle.window_core.specs.Full.{HasTooMany}
 use Rattle.window_core.specs.Partition.{groups_of}
 use Rattle.window_core.specs.Windows.{AreBelow}
-use Rattle.window_engine.specs.declared.course.Course.{Course}
-use Rattle.window_engine.specs.declared.course.WriteFault.{WriteFault}
-use Rattle.window_engine.specs.declared.course.WriteFault.TheVariants.{Workers}
+use Rattle.window_engine.specs.declared.run_state.RunState.{RunState}
+use Rattle.window_engine.specs.declared.run_state.WriteFault.{WriteFault}
+use Rattle.window_engine.specs.declared.run_state.WriteFault.TheVariants.{Workers}
 use Rattle.window_engine.specs.declared.fault.EngineFault.TheVariants.{CountFull}
 use Rattle.window_engine.specs.declared.granularity.Granularity.{Granularity}
-use Rattle.window_engine.specs.Courses.{AtRest, HasEnded, IsApart, WindowsRest, RunsIn, Broke, CanTell, Wrote, WroteFirst, fails_after, reported_as}
+use Rattle.window_engine.specs.RunStates.{AtRest, HasEnded, IsApart, WindowsRest, RunsIn, Broke, CanTell, Wrote, WroteFirst, fails_after, reported_as}
 use Rattle.window_engine.specs.Edges.{IsAtEdge, edge_of, reached_in}
 use Rattle.window_engine.specs.Engines.{GoesOn}
 use Rattle.window_text.specs.Puts.{TakesFirst}
@@ -181,15 +181,15 @@ module _ (until : ℕ) (old new : Reached) (text : List ℕ) (count : ℕ) (a b 
   pub broke_gone : (position : ℕ) → position ≡ new.position → TakesFirst count text a b → WroteFirst until old position count a b
   broke_gone position at took = broke_batch until old new position count (record { first = old.position + 1; lines = gone.lines }) text a b gone.early goes at gone.text_is took few
 
--- a course whose events are run one after another by a net, which has gone on to here: they are committed and written
-pub record IsOn (until : ℕ) (old new : Course) (net : Reached) (written now : ℕ) (a b : Option (List ℕ)) : Type 0 where
+-- a run state whose events are run one after another by a net, which has gone on to here: they are committed and written
+pub record IsOn (until : ℕ) (old new : RunState) (net : Reached) (written now : ℕ) (a b : Option (List ℕ)) : Type 0 where
   pub rest : new ≡ record old { position = net.position; granularity = new.granularity }
   pub count : ℕ
   pub written_is : now ≡ written + count
   pub wrote : Wrote until (reached_in old.window) net count a b
   pub few : net.position ≤ 1000000000000000
 
-pub on_first : (until : ℕ) (c : Course) (net : Reached) (written : ℕ) (a : Option (List ℕ)) → AtRest c → net ≡ reached_in c.window → IsOn until c c net written written a a
+pub on_first : (until : ℕ) (c : RunState) (net : Reached) (written : ℕ) (a : Option (List ℕ)) → AtRest c → net ≡ reached_in c.window → IsOn until c c net written written a a
 on_first until c net written a r is =
     let at : net.position ≡ c.window.position = ap (λ (n : Reached). n.position) is in
     let few = r.few in
@@ -202,22 +202,22 @@ on_first until c net written a r is =
       few = omega (arith, few, at, here);
     }
 
-module _ (until : ℕ) (old c : Course) (net : Reached) (written now : ℕ) (a b : Option (List ℕ)) (o : IsOn until old c net written now a b) where
+module _ (until : ℕ) (old c : RunState) (net : Reached) (written now : ℕ) (a b : Option (List ℕ)) (o : IsOn until old c net written now a b) where
   -- it stands where the net does
   pub on_at : c.position ≡ net.position
-  on_at = ap (λ (x : Course). x.position) o.rest
+  on_at = ap (λ (x : RunState). x.position) o.rest
 
   -- its end is that of the run
   pub on_end : AtRest old → net.state.end ≡ old.end
   on_end r = let w = o.wrote in run_end (length w.lines) (edge_of old.window) net.state w.lines w.is_run ∙ sym r.end
 
   -- some events more
-  pub on_more : (d : Course) (to : Reached) (more total : ℕ) (e : Option (List ℕ)) → Wrote until net to more b e → d ≡ record c { position = to.position; granularity = d.granularity } → total ≡ now + more → to.position ≤ 1000000000000000 → IsOn until old d to written total a e
+  pub on_more : (d : RunState) (to : Reached) (more total : ℕ) (e : Option (List ℕ)) → Wrote until net to more b e → d ≡ record c { position = to.position; granularity = d.granularity } → total ≡ now + more → to.position ≤ 1000000000000000 → IsOn until old d to written total a e
   on_more d to more total e wrote rest total_is few =
       let count = o.count in
       let was = o.written_is in
       record {
-        rest = rest ∙ ap (λ (x : Course). record x { position = to.position; granularity = d.granularity }) o.rest;
+        rest = rest ∙ ap (λ (x : RunState). record x { position = to.position; granularity = d.granularity }) o.rest;
         count = count + more;
         written_is = omega (arith, was, total_is);
         wrote = wrote_more until (reached_in old.window) net to count more a b e o.wrote wrote;
@@ -225,7 +225,7 @@ module _ (until : ℕ) (old c : Course) (net : Reached) (written now : ℕ) (a b
       }
 
 -- what a call has written, where windows before that were written too
-module _ (until bound : ℕ) (began old c : Course) (net : Reached) (written now : ℕ) (known a b : Option (List ℕ)) (r : WindowsRest until began old written known a) (o : IsOn bound old c net written now a b) (upto : bound ≤ until) where
+module _ (until bound : ℕ) (began old c : RunState) (net : Reached) (written now : ℕ) (known a b : Option (List ℕ)) (r : WindowsRest until began old written known a) (o : IsOn bound old c net written now a b) (upto : bound ≤ until) where
   abbrev from : Reached
   from = reached_in began.window
 
@@ -245,11 +245,11 @@ module _ (until bound : ℕ) (began old c : Course) (net : Reached) (written now
   can_be_reported at e fault broke = can_tell 1 until from net now at known b e fault all_written o.few (later 1 at e fault (omega arith) broke)
 
   -- the call ends by a fault in those that follow
-  pub broken_on : (workers : ℕ) (d : Course) (e : Option (List ℕ)) (fault : WriteFault) (f g h : ℕ) → 0 < workers → Broke 1 bound net d.position b e fault → (fault ≡ Workers CountFull → HasTooMany net) → g ≡ f → h ≡ fails_after {T = ℕ} (Err fault) g
+  pub broken_on : (workers : ℕ) (d : RunState) (e : Option (List ℕ)) (fault : WriteFault) (f g h : ℕ) → 0 < workers → Broke 1 bound net d.position b e fault → (fault ≡ Workers CountFull → HasTooMany net) → g ≡ f → h ≡ fails_after {T = ℕ} (Err fault) g
       → d.groups ≡ c.groups → d.ahead ≡ c.ahead → HasEnded workers until began d (Err (reported_as now fault)) known e f h
   broken_on workers d e fault f g h some broke full same fails groups ahead =
-      let all_groups : d.groups ≡ began.groups = groups ∙ ap (λ (x : Course). x.groups) o.rest ∙ r.groups in
-      let all_ahead : d.ahead ≡ began.ahead = ahead ∙ ap (λ (x : Course). x.ahead) o.rest ∙ r.ahead in
+      let all_groups : d.groups ≡ began.groups = groups ∙ ap (λ (x : RunState). x.groups) o.rest ∙ r.groups in
+      let all_ahead : d.ahead ≡ began.ahead = ahead ∙ ap (λ (x : RunState). x.ahead) o.rest ∙ r.ahead in
       broken_at workers until began d net now known b e fault f g h all_written o.few (later workers d.position e fault some broke) full same fails all_groups all_ahead
 
   -- the nodes are in the groups that were asked for
@@ -257,21 +257,21 @@ module _ (until bound : ℕ) (began old c : Course) (net : Reached) (written now
   runs_there =
       let w = o.wrote in
       let there = runs_on old.groups old.ahead (reached_in old.window) net w.lines r.has.run w.is_run w.position_is in
-      subst (λ (x : Course). RunsIn x.groups x.ahead net) (sym o.rest) there
+      subst (λ (x : RunState). RunsIn x.groups x.ahead net) (sym o.rest) there
 
   pub few_there : groups_of c.groups ≤ 64
   few_there =
       let few : groups_of old.groups ≤ 64 = subst (λ (l : List ℕ). groups_of l ≤ 64) r.has.apart.0 r.rest.groups in
-      subst (λ (x : Course). groups_of x.groups ≤ 64) (sym o.rest) few
+      subst (λ (x : RunState). groups_of x.groups ≤ 64) (sym o.rest) few
 
   -- a window is open again
-  pub taken_up : (d : Course) → IsAtEdge d.window → reached_in d.window ≡ net → d.window.end ≡ net.state.end → IsApart c.groups c.ahead d.window → d ≡ record c { window = d.window } → WindowsRest until began d now known b
+  pub taken_up : (d : RunState) → IsAtEdge d.window → reached_in d.window ≡ net → d.window.end ≡ net.state.end → IsApart c.groups c.ahead d.window → d ≡ record c { window = d.window } → WindowsRest until began d now known b
   taken_up d edge is end apart rest =
-      let same : d ≡ record old { position = net.position; granularity = c.granularity; window = d.window } = rest ∙ ap (λ (x : Course). record x { window = d.window }) o.rest in
-      let at : d.position ≡ net.position = ap (λ (x : Course). x.position) same in
+      let same : d ≡ record old { position = net.position; granularity = c.granularity; window = d.window } = rest ∙ ap (λ (x : RunState). record x { window = d.window }) o.rest in
+      let at : d.position ≡ net.position = ap (λ (x : RunState). x.position) same in
       let window_at : d.window.position ≡ net.position = ap (λ (n : Reached). n.position) is in
-      let groups : d.groups ≡ c.groups = ap (λ (x : Course). x.groups) rest in
-      let ahead : d.ahead ≡ c.ahead = ap (λ (x : Course). x.ahead) rest in
+      let groups : d.groups ≡ c.groups = ap (λ (x : RunState). x.groups) rest in
+      let ahead : d.ahead ≡ c.ahead = ap (λ (x : RunState). x.ahead) rest in
       let w = o.wrote in
       let ends : net.state.end ≡ old.window.end = run_end (length w.lines) (edge_of old.window) net.state w.lines w.is_run in
       let few = o.few in
@@ -280,7 +280,7 @@ module _ (until bound : ℕ) (began old c : Course) (net : Reached) (written now
           edge = edge;
           committed = at ∙ sym window_at;
           few = omega (arith, few, at);
-          end = ap (λ (x : Course). x.end) same ∙ r.rest.end ∙ sym ends ∙ sym end;
+          end = ap (λ (x : RunState). x.end) same ∙ r.rest.end ∙ sym ends ∙ sym end;
           groups = subst (λ (l : List ℕ). groups_of l ≤ 64) (sym apart.0) few_there;
         };
         has = record {
@@ -288,12 +288,12 @@ module _ (until bound : ℕ) (began old c : Course) (net : Reached) (written now
           apart = (apart.0 ∙ sym groups, apart.1 ∙ sym ahead);
         };
         wrote = subst (λ (n : Reached). Wrote until from n now known b) (sym is) all_written;
-        groups = ap (λ (x : Course). x.groups) same ∙ r.groups;
-        ahead = ap (λ (x : Course). x.ahead) same ∙ r.ahead;
+        groups = ap (λ (x : RunState). x.groups) same ∙ r.groups;
+        ahead = ap (λ (x : RunState). x.ahead) same ∙ r.ahead;
       }
 
 -- what a pace says is nothing of what was written
-pub rests_paced : (until : ℕ) (began c : Course) (granularity : Granularity) (written : ℕ) (known now : Option (List ℕ)) → WindowsRest until began c written known now → WindowsRest until began (record c { granularity = granularity }) written known now
+pub rests_paced : (until : ℕ) (began c : RunState) (granularity : Granularity) (written : ℕ) (known now : Option (List ℕ)) → WindowsRest until began c written known now → WindowsRest until began (record c { granularity = granularity }) written known now
 rests_paced until began c granularity written known now r = record {
   rest = record { edge = r.rest.edge; committed = r.rest.committed; few = r.rest.few; end = r.rest.end; groups = r.rest.groups };
   has = record { run = r.has.run; apart = r.has.apart };

@@ -19,7 +19,7 @@ use Rattle.work_board.specs.contracts.order.Order as Order
 use Rattle.work_board.specs.contracts.order.OrderTableRulePieceViewSnapshotVecPiece.TheImpl.{ghosts as order_ghosts}
 use Rattle.work_board.specs.contracts.piece.Piece as Piece
 use Rattle.work_board.specs.contracts.view.View as View
-use Rattle.window_text.proofs.DeskSent.{desk_send, desk_sync, ticket_send, sheaf_send}
+use Rattle.window_text.proofs.ResultTableSent.{result_table_send, result_table_sync, ticket_send, sheaf_send}
 use Rattle.window_engine.proofs.gate.Gate.TheSendSync as gate
 use Rattle.window_text.proofs.parts.Parts.TheSendSync as parts
 use Rattle.window_text.proofs.formatter.TextFormatter.TheSendSync as formatter
@@ -36,10 +36,10 @@ board_send : IsSend Board.the_row
 board_send = view_send _ _ _ _ _ (declared_send InsideBoard.the_type (pieces_send, (search sendable, (global.the_send, tt))))
 
 tasks_send : IsSend Tasks.the_row
-tasks_send = declared_send Tasks.the_type (board_send, (parts.the_send, (sheaf_send, (desk_send, tt))))
+tasks_send = declared_send Tasks.the_type (board_send, (parts.the_send, (sheaf_send, (result_table_send, tt))))
 
 tasks_sync : IsSync Tasks.the_row
-tasks_sync = declared_sync Tasks.the_type (board_sync, (parts.the_sync, (sheaf_sync, (desk_sync, tt))))
+tasks_sync = declared_sync Tasks.the_type (board_sync, (parts.the_sync, (sheaf_sync, (result_table_sync, tt))))
 
 begin_send : IsSend Begin.the_row
 begin_send = declared_send Begin.the_type (seat_send, (ticket_send, (search sendable, (search sendable, (formatter.the_send, tt)))))

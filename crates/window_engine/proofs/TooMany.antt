@@ -15,9 +15,9 @@ use Rattle.window_core.proofs.TooMany.{full_group_has_too_many}
 use Rattle.work_board.specs.Pieces.{PieceState}
 use Rattle.window_engine.specs.declared.fault.EngineFault.{EngineFault}
 use Rattle.window_engine.specs.declared.fault.EngineFault.TheVariants.{CountFull, Failed}
-use Rattle.window_engine.specs.declared.course.WriteFault.{WriteFault}
-use Rattle.window_engine.specs.declared.course.WriteFault.TheVariants.{Workers, Sink as Failing}
-use Rattle.window_engine.specs.Courses.{Wrote, reported_as}
+use Rattle.window_engine.specs.declared.run_state.WriteFault.{WriteFault}
+use Rattle.window_engine.specs.declared.run_state.WriteFault.TheVariants.{Workers, Sink as Failing}
+use Rattle.window_engine.specs.RunStates.{Wrote, reported_as}
 use Rattle.window_engine.specs.Edges.{IsAtEdge, edge_of, reached_in}
 use Rattle.window_engine.specs.Laid.{laid_for, HasFullGroup, IsDoneBy}
 use Rattle.window_engine.specs.Outcomes.{SomeLaidFull}

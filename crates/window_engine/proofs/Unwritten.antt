@@ -6,14 +6,14 @@ use Rattle.net_machine.specs.Run.{Reached}
 use Rattle.window_core.specs.Full.{HasTooMany}
 use Rattle.window_core.specs.Sheaves.{SheafValue, merged}
 use Rattle.line_merge.proofs.Rests.{nothing_in_order}
-use Rattle.window_engine.specs.declared.course.Course.{Course}
-use Rattle.window_engine.specs.Courses.{AtRest, IsBehind, Wrote, WroteTo}
+use Rattle.window_engine.specs.declared.run_state.RunState.{RunState}
+use Rattle.window_engine.specs.RunStates.{AtRest, IsBehind, Wrote, WroteTo}
 use Rattle.window_engine.specs.Edges.{edge_of, reached_in}
 use Rattle.window_engine.specs.Engines.{AreWhole}
 use Rattle.window_engine.proofs.TooMany.{earlier_full}
 use Rattle.window_engine.proofs.Whole.{whole_none}
 
-module _ (net : Reached) (c : Course) (is : IsBehind net c) where
+module _ (net : Reached) (c : RunState) (is : IsBehind net c) where
   -- what a run has after the lines that are not committed yet, it has after those that are
   pub full_before : HasTooMany (reached_in c.window) → HasTooMany net
   full_before many = let gone = is.gone in earlier_full net (reached_in c.window) (merged c.sheaf).lines gone.is_run gone.position is.few many
@@ -34,8 +34,8 @@ module _ (net : Reached) (c : Course) (is : IsBehind net c) where
 pub no_line : (s : SheafValue) (first : ℕ) → s ≡ record { first = first; lists = [] } → (merged s).lines ≡ []
 no_line s first is = ap (λ (x : SheafValue). (merged x).lines) is ∙ nothing_in_order
 
--- with a sheaf of no line a course at rest is behind by none
-pub behind_by_none : (c : Course) (s : SheafValue) → AtRest c → s ≡ record { first = c.position + 1; lists = [] } → IsBehind (reached_in c.window) (record c { sheaf = s })
+-- with a sheaf of no line a run state at rest is behind by none
+pub behind_by_none : (c : RunState) (s : SheafValue) → AtRest c → s ≡ record { first = c.position + 1; lists = [] } → IsBehind (reached_in c.window) (record c { sheaf = s })
 behind_by_none c s rest is =
     let at = rest.committed in
     let few = rest.few in

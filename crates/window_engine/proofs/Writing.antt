@@ -13,9 +13,9 @@ use Rattle.window_engine.specs.Outcomes.{IsOfRun, IsOfWorkers}
 use Rattle.window_text.specs.Puts.{TakesFirst}
 use Rattle.window_text.specs.Text.{text_from}
 use Rattle.window_engine.specs.Engines.{GoesOn, Commits, SinkTakes, sink_failures}
-use Rattle.window_engine.specs.declared.course.WriteFault.{WriteFault}
-use Rattle.window_engine.specs.declared.course.WriteFault.TheVariants.{Workers, Sink as Failing}
-use Rattle.window_engine.specs.Courses.{CanTell, Wrote, WroteFirst, WroteTo, Broke, reported_as, fails_after}
+use Rattle.window_engine.specs.declared.run_state.WriteFault.{WriteFault}
+use Rattle.window_engine.specs.declared.run_state.WriteFault.TheVariants.{Workers, Sink as Failing}
+use Rattle.window_engine.specs.RunStates.{CanTell, Wrote, WroteFirst, WroteTo, Broke, reported_as, fails_after}
 use Rattle.window_text.proofs.Bytes.{appends_nothing, appends_more, take_past}
 use Rattle.window_text.proofs.Numbered.{text_both}
 use Rattle.window_engine.proofs.Whole.{below_later, below_more, whole_none, whole_more}

@@ -4,7 +4,7 @@ pub mod Engines
 pub mod EngineCode
 pub mod Edges
 pub mod Laid
-pub mod Courses
+pub mod RunStates
 pub mod Singly
 pub mod EngineOf
 pub use Rattle.window_text.specs.Failures

@@ -1,7 +1,7 @@
 //! A call that has windows run and their lines written: how it began, and how far it is.
 ghost use Rattle.std.specs.Prelude.{◌≡◌, [], None, IfOk};
 
-use crate::course::Course;
+use crate::run_state::RunState;
 use crate::slice::FIRST_SLICE;
 use crate::window_workers::WindowWorkers;
 use sim_time::Time;
@@ -18,7 +18,7 @@ pub(crate) struct Call<'a, S> {
     /// Events before this moment are run, in nanoseconds.
     pub until: Time,
     /// The net on its way as the call began, for clauses alone.
-    pub began: Snapshot<Course>,
+    pub began: Snapshot<RunState>,
     /// The sink as the call began, for clauses alone.
     pub known: Snapshot<S>,
 }

@@ -14,10 +14,10 @@ ghost use Rattle.window_engine.specs.Outcomes.{IsOfRun, IsOfWorkers};
 ghost use Rattle.window_engine.specs.Engines.{GoesOn, NoneBelow, Commits, IsNext, IsStop, next_time, window_end_by, sink_failures};
 
 use crate::advance::finish;
-use crate::course::Course;
 use crate::fault::{EngineFault, Stop};
 use crate::gate::Gate;
 use crate::granularity::Granularity;
+use crate::run_state::RunState;
 use crate::several::Hands;
 use crate::window_workers::WindowWorkers;
 use net_machine::Net;
@@ -33,7 +33,7 @@ use window_text::Sink;
 #[derive(Drop)]
 pub struct Engine {
     /// The net on its way.
-    course: Course,
+    run_state: RunState,
     /// Whether a call had a fault.
     failed: bool,
     /// How many events of the last window were beside those of its busiest group.
@@ -107,7 +107,7 @@ impl Engine {
         let groups = partition.copy()?;
         match Window::new(alloc, net, partition) {
             Ok(window) => Ok(Engine {
-                course: Course {
+                run_state: RunState {
                     groups,
                     ahead: window.lookahead(),
                     granularity: Granularity::new(),
@@ -129,8 +129,8 @@ impl Engine {
         ensures count { result ≡ self.now.net.position }
         ensures is_run { self.now.failed ≡ false → IsRun self.now.net }
     {
-        let _reached = self.course.window.position();
-        self.course.position
+        let _reached = self.run_state.window.position();
+        self.run_state.position
     }
 
     /// Whether a call had a fault.
@@ -145,8 +145,8 @@ impl Engine {
         requires { self.now.failed ≡ false }
         ensures { IfOk result (λ net. net ≡ self.now.net) }
     {
-        let _reached = self.course.window.position();
-        self.course.window.edge()
+        let _reached = self.run_state.window.position();
+        self.run_state.window.edge()
     }
 
     /// When the next event is, in nanoseconds, where one is left below the run's end.
@@ -156,7 +156,7 @@ impl Engine {
         ensures next { IfSome result (λ time. next_time self.now.net.state ≡ Some time) }
         ensures below { IfSome result (λ time. time < self.now.net.state.end) }
     {
-        self.course.next()
+        self.run_state.next()
     }
 
     /// Runs the next window by so many workers, to end by a moment at the latest, and gives its
@@ -186,9 +186,9 @@ impl Engine {
         if self.failed {
             return Err(EngineFault::Failed);
         }
-        let _reached = self.course.window.position();
-        let alloc = self.course.alloc;
-        let before = Snapshot::of(&self.course.window);
+        let _reached = self.run_state.window.position();
+        let alloc = self.run_state.alloc;
+        let before = Snapshot::of(&self.run_state.window);
         let window_workers = WindowWorkers {
             gate,
             workers,
@@ -196,7 +196,7 @@ impl Engine {
             processors: 0,
             alloc,
         };
-        let window = &mut self.course.window;
+        let window = &mut self.run_state.window;
         let many = window_workers.hands(window, self.shared, 0, until);
         let ran = if many == 1 {
             Ok(false)
@@ -211,7 +211,7 @@ impl Engine {
                 return Err(fault);
             }
         }
-        self.course.position = self.course.window.position();
+        self.run_state.position = self.run_state.window.position();
         self.shared = batch.beside_most();
         Ok(batch)
     }
@@ -242,8 +242,8 @@ impl Engine {
         if self.failed {
             return Err(EngineFault::Failed);
         }
-        let _reached = self.course.window.position();
-        let alloc = self.course.alloc;
+        let _reached = self.run_state.window.position();
+        let alloc = self.run_state.alloc;
         let window_workers = WindowWorkers {
             gate,
             workers,
@@ -251,7 +251,7 @@ impl Engine {
             alloc,
         };
         let outcome = self
-            .course
+            .run_state
             .write_together(hands, window_workers, until, sink);
         self.failed = outcome.is_err();
         outcome

@@ -61,7 +61,7 @@ pub enum Load {
 
 /// What windows held, of which so many ended by the lookahead, with so many events in all. A window that was to end
 /// sooner says nothing of how many events the next ones hold. They hold few where a second thread would not be worth it:
-/// they cost something for every group, what leaves a group is held back and handed over window by window, and lines are
+/// they cost something for every group, what leaves a group is handed over window by window, and lines are
 /// kept until the window ends, so that the same events one after another cost less.
 pub fn load_of(windows: u64, events: u64) -> Load {
     if events >= LOOK.saturating_mul(WORTH as u64) {

@@ -3,7 +3,7 @@ ghost use Rattle.std.specs.Prelude.{◌≡◌, ◌+◌, ◌<◌, ◌^◌, length
 ghost use Rattle.std.specs.Arc.{arc_value};
 ghost use Rattle.window_core.specs.Sheaves.{merged};
 ghost use Rattle.work_board.specs.Seats.{IsOf, HoldsNothing};
-ghost use Rattle.window_text.specs.Desks.{IsTicketOf};
+ghost use Rattle.window_text.specs.ResultTables.{IsTicketOf};
 ghost use Rattle.window_engine.specs.Sweeps.{IsSwept};
 
 use crate::gate::Gate;
@@ -12,7 +12,7 @@ use std::alloc::Global;
 use std::marker::Model;
 use std::sync::Arc;
 use window_core::Sheaf;
-use window_text::{Desk, Parts, TextFormatter, Ticket};
+use window_text::{Parts, ResultTable, TextFormatter, Ticket};
 use work_board::{Board, Seat};
 
 /// What the workers of a window share.
@@ -25,8 +25,8 @@ pub(crate) struct Tasks {
     /// The lines whose text it is.
     pub sheaf: Sheaf,
     /// Where each lays down what it made.
-    pub desk: Desk,
-    ghost same: { desk.sheaf ≡ sheaf },
+    pub result_table: ResultTable,
+    ghost same: { result_table.sheaf ≡ sheaf },
     ghost fits: { sheaf.first + length (merged sheaf).lines < 2 ^ 63 },
 }
 
@@ -59,7 +59,7 @@ fn first_piece(pieces: usize, place: usize, workers: usize) -> Option<usize> {
 pub(crate) fn serve(tasks: &Tasks, gate: &Gate, begin: Begin) -> Seat
     requires board { IsOf tasks.now.board begin.seat }
     requires idle { HoldsNothing begin.seat }
-    requires ticket { IsTicketOf tasks.now.desk begin.ticket }
+    requires ticket { IsTicketOf tasks.now.result_table begin.ticket }
     ensures board { IsOf tasks.now.board result }
     ensures swept { IsSwept result }
 {
@@ -82,7 +82,7 @@ pub(crate) fn serve(tasks: &Tasks, gate: &Gate, begin: Begin) -> Seat
     }
     // Set last: a formatter that is refused memory forgets all.
     formatter.ran = ran;
-    tasks.desk.lay_down(ticket, place, formatter);
+    tasks.result_table.lay_down(ticket, place, formatter);
     seat
 }
 
@@ -99,13 +99,13 @@ impl Model for Job {
     ghost use Rattle.std.specs.Prelude.{ℕ};
     ghost use Rattle.std.specs.Arc.{arc_value};
     ghost use Rattle.work_board.specs.Seats.{IsOf, HoldsNothing};
-    ghost use Rattle.window_text.specs.Desks.{IsTicketOf};
+    ghost use Rattle.window_text.specs.ResultTables.{IsTicketOf};
 
     ghost Value = { ℕ };
 
     ghost view = { λ o. o.begin.place };
 
-    ghost invariant = { λ o. IsOf (arc_value o.tasks).board o.begin.seat × HoldsNothing o.begin.seat × IsTicketOf (arc_value o.tasks).desk o.begin.ticket };
+    ghost invariant = { λ o. IsOf (arc_value o.tasks).board o.begin.seat × HoldsNothing o.begin.seat × IsTicketOf (arc_value o.tasks).result_table o.begin.ticket };
 }
 
 impl Job {
@@ -113,7 +113,7 @@ impl Job {
     pub(crate) fn new(tasks: Arc<Tasks, Global>, begin: Begin) -> Job
         requires board { IsOf (arc_value tasks).board begin.seat }
         requires idle { HoldsNothing begin.seat }
-        requires ticket { IsTicketOf (arc_value tasks).desk begin.ticket }
+        requires ticket { IsTicketOf (arc_value tasks).result_table begin.ticket }
     {
         Job { tasks, begin }
     }

@@ -3,7 +3,6 @@
 
 mod advance;
 mod call;
-mod course;
 mod engine;
 mod fault;
 mod gate;
@@ -13,6 +12,7 @@ mod job;
 mod lines;
 mod pieces;
 mod pipeline;
+mod run_state;
 mod several;
 mod singly;
 mod slice;

@@ -10,7 +10,7 @@ ghost use Rattle.window_core.specs.Partition.{groups_of};
 ghost use Rattle.window_core.specs.Sheaves.{merged};
 ghost use Rattle.window_core.specs.Window.{IsWindow};
 ghost use Rattle.window_core.specs.Windows.{AreBelow};
-ghost use Rattle.window_engine.specs.Courses.{AtRest, AwaitsSink, HasGroups, IsOwing, IsWriting, HasEnded, WindowsRest, StandsAt, Wrote, Broke, fails_after};
+ghost use Rattle.window_engine.specs.RunStates.{AtRest, AwaitsSink, HasGroups, IsOwing, IsWriting, HasEnded, WindowsRest, StandsAt, Wrote, Broke, fails_after};
 ghost use Rattle.window_engine.specs.Edges.{IsAtEdge, StaysNet, edge_of, reached_in};
 ghost use Rattle.window_engine.specs.Engines.{GoesOn, IsNext, IsStop};
 ghost use Rattle.window_engine.specs.Laid.{HasRunOr};
@@ -20,10 +20,10 @@ ghost use Rattle.window_text.specs.Parts.{AreRight, IsReady, IsWhole};
 
 use crate::advance::finish;
 use crate::call::{Call, Writing};
-use crate::course::{Course, WindowPlan, WriteFault, reported};
 use crate::fault::{EngineFault, Stop};
 use crate::granularity::Turnout;
 use crate::job::Job;
+use crate::run_state::{RunState, WindowPlan, WriteFault, reported};
 use crate::several::Hands;
 use crate::window_job::WindowJob;
 use crate::window_workers::{WindowWorkers, lacks_threads};
@@ -53,7 +53,7 @@ struct Team<'a, H: Hands> {
     pool: Option<&'a ThreadPool<Job>>,
 }
 
-impl Course {
+impl RunState {
     /// Commits the events of the sheaf's lines and writes their text, where it was made. All of it
     /// is made before its first byte is put.
     fn put_made<S: Sink>(
@@ -312,7 +312,7 @@ impl Course {
         ensures ran { IfOk result (λ ran. HasRunOr ran plan.now.bound self.old.window self.new.window) }
         ensures stays { StaysNet self.old.window self.new.window }
         ensures fault { IfErr result (IsWorkersFault call.now.workers.workers (HasTooMany (reached_in self.old.window))) }
-        ensures course { self.new ≡ record self.old { window = self.new.window } }
+        ensures run_state { self.new ≡ record self.old { window = self.new.window } }
         ensures right { AreRight self.old.sheaf writing.new.text.formatters.items }
         ensures owes { Owes writing.new.pending_text (S.contents writing.new.before.value) (S.contents sink.new) (S.failures writing.new.before.value) (S.failures sink.new) }
         ensures pending { writing.new.pending_text ≡ record writing.old.pending_text { put = writing.new.pending_text.put } }

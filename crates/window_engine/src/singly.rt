@@ -4,14 +4,14 @@
 ghost use Rattle.std.specs.Prelude.{◌≡◌, ◌<◌, ◌≤◌, [], IfOk, IfErr, OnOk};
 ghost use Rattle.window_core.specs.Full.{HasTooMany};
 ghost use Rattle.window_core.specs.Partition.{groups_of};
-ghost use Rattle.window_engine.specs.Courses.{Broke, HasEnded, IsApart, WindowsRest, RunsIn, Wrote, fails_after};
+ghost use Rattle.window_engine.specs.RunStates.{Broke, HasEnded, IsApart, WindowsRest, RunsIn, Wrote, fails_after};
 ghost use Rattle.window_engine.specs.Edges.{IsAtEdge, reached_in};
 ghost use Rattle.window_engine.specs.Outcomes.{IsWorkersFault};
 ghost use Rattle.window_engine.specs.Singly.{HasGone};
 
 use crate::call::Call;
-use crate::course::{Course, WriteFault, reported};
 use crate::fault::EngineFault;
+use crate::run_state::{RunState, WriteFault, reported};
 use net_machine::{Due, Net, StepFault};
 use net_watch::{Watch, run_watched};
 use node_core::Line;
@@ -141,7 +141,7 @@ fn run_some(net: &mut Net, line: &mut Line, page: &mut Page, until: Time) -> Res
     }
 }
 
-impl Course {
+impl RunState {
     /// Has a net, which goes on from where the windows ended, by groups again.
     fn take_up(&mut self, net: Net) -> Result<(), AllocError>
         requires runs { RunsIn self.old.groups self.old.ahead net }

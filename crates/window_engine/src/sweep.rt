@@ -3,7 +3,7 @@ ghost use Rattle.std.specs.Prelude.{◌≡◌, ◌+◌, ◌<◌, ◌≤◌, ◌^
 ghost use Rattle.std.specs.Arc.{arc_value};
 ghost use Rattle.window_core.specs.Sheaves.{merged};
 ghost use Rattle.work_board.specs.Seats.{IsOf, HoldsNothing};
-ghost use Rattle.window_text.specs.Desks.{IsTicketOf};
+ghost use Rattle.window_text.specs.ResultTables.{IsTicketOf};
 ghost use Rattle.window_text.specs.PendingText.{Owes};
 ghost use Rattle.window_text.specs.Parts.{AreRight};
 ghost use Rattle.window_engine.specs.Sweeps.{IsSwept};
@@ -19,7 +19,7 @@ use std::thread;
 use std::thread::Threads;
 use thread_pool::{ThreadPool, run_workers};
 use window_core::Sheaf;
-use window_text::{Desk, Parts, Sink, TextFormatter, Ticket};
+use window_text::{Parts, ResultTable, Sink, TextFormatter, Ticket};
 use work_board::{Board, Seat};
 
 /// The value, once its other owners are gone.
@@ -65,11 +65,11 @@ fn give_jobs<R: Wait>(
 ) -> (Seat, Ticket)
     requires board { IsOf (arc_value tasks.now).board held.0 }
     requires idle { HoldsNothing held.0 }
-    requires ticket { IsTicketOf (arc_value tasks.now).desk held.1 }
+    requires ticket { IsTicketOf (arc_value tasks.now).result_table held.1 }
     requires right { AreRight (arc_value tasks.now).sheaf formatters.old.items }
     ensures board { IsOf (arc_value tasks.now).board result.0 }
     ensures idle { HoldsNothing result.0 }
-    ensures ticket { IsTicketOf (arc_value tasks.now).desk result.1 }
+    ensures ticket { IsTicketOf (arc_value tasks.now).result_table result.1 }
     ensures right { AreRight (arc_value tasks.now).sheaf formatters.new.items }
 {
     let (mut seat, mut ticket) = held;
@@ -77,7 +77,7 @@ fn give_jobs<R: Wait>(
     for thread in 0..workers.saturating_sub(1) {
         let (mine, theirs) = tasks.board.split(seat);
         seat = mine;
-        let (kept, given) = tasks.desk.split(ticket);
+        let (kept, given) = tasks.result_table.split(ticket);
         ticket = kept;
         let begin = Begin {
             seat: theirs,
@@ -131,7 +131,7 @@ pub(crate) fn sweep<R: Wait, S: Sink>(
 {
     let (board, seat) = laid;
     let alloc = job.alloc;
-    let (desk, ticket) = Desk::new(alloc, sheaf, job.workers)?;
+    let (result_table, ticket) = ResultTable::new(alloc, sheaf, job.workers)?;
     let parts = Parts::new(sheaf, job.workers);
     let lent = replace(sheaf, Sheaf::new(alloc, 0));
     let tasks = match Arc::new(
@@ -140,7 +140,7 @@ pub(crate) fn sweep<R: Wait, S: Sink>(
             board,
             parts,
             sheaf: lent,
-            desk,
+            result_table,
         },
     ) {
         Ok(tasks) => tasks,
@@ -166,9 +166,9 @@ pub(crate) fn sweep<R: Wait, S: Sink>(
         board,
         parts: _,
         sheaf: lent,
-        desk,
+        result_table,
     } = sole(rt, tasks);
-    desk.clear(&mut made);
+    result_table.clear(&mut made);
     writing.text.formatters = made;
     *sheaf = lent;
     Ok((board, seat))

@@ -11,7 +11,7 @@ use Rattle.node_core.specs.Row.{Effect, changes_of}
 use Rattle.node_core.specs.TraceLine.{TraceLine}
 use Rattle.table_run.specs.State.{State, due, effect_of, line_of}
 
--- the net's nodes, of which the group's own count; the events pending at them; and since the last turn the arrivals that the group made for others, held back, and its lines
+-- the net's nodes, of which the group's own count; the events pending at them; and since the last turn its outgoing messages, which are the arrivals that it made for others, and its lines
 pub record GroupState : Type 0 where
   pub parts : List PartState
   pub pending : Events
@@ -41,7 +41,7 @@ own_of group number changes = filter (λ (c : EventChange). is_own group number 
 abbrev pub others_of : (ℕ → ℕ) → ℕ → List EventChange → List EventChange
 others_of group number changes = filter (λ (c : EventChange). not (is_own group number c.0)) changes
 
--- the event leaves and its node changes; what it makes for the group joins, what it makes for others is held back
+-- the event leaves and its node changes; what it makes for the group joins, what it makes for others is an outgoing message
 abbrev pub group_fired : (ℕ → ℕ) → ℕ → GroupState → Key × Event → Effect → GroupState
 group_fired group number g entry effect = record {
   parts = slice_set g.parts entry.0.node effect.part;

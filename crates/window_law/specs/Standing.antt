@@ -9,7 +9,7 @@ use Rattle.node_core.specs.Part.{PartState}
 use Rattle.table_run.specs.State.{State, no_part, part_at}
 use Rattle.window_law.specs.Groups.{GroupState, group_at}
 
--- the groups hold the state: each has the parts of its nodes and the events at them, nothing is held back, no line was made
+-- the groups hold the state: each has the parts of its nodes and the events at them, no message is outgoing, no line was made
 pub record Stands (group : ℕ → ℕ) (s : State) (groups : List GroupState) : Type 0 where
   pub few : (node : ℕ) → group node < length groups
   pub sizes : (node : ℕ) → length (group_at groups (group node)).parts ≡ length s.parts

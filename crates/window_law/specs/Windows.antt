@@ -57,7 +57,7 @@ in_order lines = map.values (map.from_entries {R = key_cmp} (each keyed lines))
 abbrev pub AreBelow : ℕ → List TraceLine → Type 0
 AreBelow moment lines = AllByRecursion (λ (line : TraceLine). line.key.time < moment) lines
 
--- a turn: each group gets what the others held back for its nodes
+-- a turn: each group gets the others' outgoing messages for its nodes
 abbrev pub delivered_to : (ℕ → ℕ) → Events → ℕ × GroupState → GroupState
 delivered_to group held numbered = record {
   parts = numbered.1.parts;

@@ -1,5 +1,5 @@
 pub mod Bytes
 pub mod Numbered
 pub mod Parted
-pub mod Desks
-pub mod DeskSent
+pub mod ResultTables
+pub mod ResultTableSent

@@ -4,6 +4,6 @@ pub mod Puts
 pub mod Text
 pub mod Parts
 pub mod PendingText
-pub mod Desks
+pub mod ResultTables
 pub use Rattle.line_merge.specs.Merged
 pub use Rattle.line_merge.specs.Sheaves

@@ -20,8 +20,8 @@ use Rattle.std.specs.contracts.vec.Vec as Vec
 use Rattle.std.specs.contracts.alloc.Global as Global
 use Rattle.std.specs.contracts.impls.GlobalAllocator.TheImpl.{ghosts as heap_ghosts}
 use Rattle.node_group.specs.contracts.group.Group.TheInside as InsideGroup
-use Rattle.node_group.specs.contracts.share.Share as Share
-use Rattle.node_group.specs.contracts.share.Share.TheInside as InsideShare
+use Rattle.node_group.specs.contracts.group_state.GroupState as GroupState
+use Rattle.node_group.specs.contracts.group_state.GroupState.TheInside as InsideGroupState
 use Rattle.net_partition.specs.contracts.partition.Partition as Partition
 use Rattle.node_group.proofs.area.Area.TheSendSync as area
 use Rattle.net_machine.proofs.places.LinkEnds.TheSendSync as ends
@@ -32,17 +32,17 @@ use Rattle.atomic_table.proofs.owned.Table.TheSendSync as table
 use Rattle.std.proofs.alloc.Global.TheSendSync as global
 use Rattle.node_group.proofs.group.GroupFault.TheSendSync as fault
 
-share_partition : IsSend (Snapshot.the_row Partition.the_row)
-share_partition = search sendable depth 20
+group_state_partition : IsSend (Snapshot.the_row Partition.the_row)
+group_state_partition = search sendable depth 20
 
-inside_share_send : IsSend InsideShare.the_row
-inside_share_send = declared_send InsideShare.the_type (search sendable, (share_partition, (heap.Vec-send _ ends.the_send, (area.the_send, (outbox.the_send, (heap.Vec-send _ line_send, (search sendable, (search sendable, (search sendable, (global.the_send, tt))))))))))
+inside_group_state_send : IsSend InsideGroupState.the_row
+inside_group_state_send = declared_send InsideGroupState.the_type (search sendable, (group_state_partition, (heap.Vec-send _ ends.the_send, (area.the_send, (outbox.the_send, (heap.Vec-send _ line_send, (search sendable, (search sendable, (search sendable, (global.the_send, tt))))))))))
 
-share_send : IsSend Share.the_row
-share_send = view_send _ _ _ _ _ inside_share_send
+group_state_send : IsSend GroupState.the_row
+group_state_send = view_send _ _ _ _ _ inside_group_state_send
 
 pub group_send : IsSend Group.the_row
-group_send = view_send _ _ _ _ _ (declared_send InsideGroup.the_type (share_send, tt))
+group_send = view_send _ _ _ _ _ (declared_send InsideGroup.the_type (group_state_send, tt))
 
 pub snap_send : IsSend (Snapshot.the_row Group.the_row)
 snap_send = search sendable depth 20

@@ -12,7 +12,7 @@ type KeyParts = (u64, u16, u16, u64);
 
 // An action and whether it is possible; then where the window ends, how many lines were given
 // before those that are taken, and how many these are.
-type Row = (Action, bool, u64, usize, usize);
+type ActionRow = (Action, bool, u64, usize, usize);
 
 // The key of a line, where there is such a line.
 fn key_of(batch: &Batch, index: usize) -> Option<KeyParts> {
@@ -34,7 +34,7 @@ fn is_taken(rt: &impl Abort, batch: &Batch, keys: &[KeyParts], before: usize, co
 }
 
 // Does the actions, and compares what comes of each.
-fn follows(rt: &impl Abort, window: &mut Window, keys: &[KeyParts], rows: &[Row])
+fn follows(rt: &impl Abort, window: &mut Window, keys: &[KeyParts], rows: &[ActionRow])
     requires { window.old.out ≡ false }
 {
     for (action, possible, end, before, count) in rows {

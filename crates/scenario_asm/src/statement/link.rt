@@ -14,7 +14,7 @@ use crate::name::Name;
 use crate::number::number_in;
 use crate::table::Table;
 use scenario_image::limits::{LONGEST_DELAY, MOST_LINKS};
-use scenario_image::{Codel, QueueKind};
+use scenario_image::{CodelParameters, QueueKind};
 use sim_time::Time;
 use sim_time::rate::{GREATEST_RATE, LEAST_RATE};
 
@@ -60,7 +60,7 @@ fn queue(words: &[Word<'_>]) -> Result<QueueKind, StatementFault>
     let target = judge!(8, number_in(target, 1, LONGEST_DELAY));
     let interval = judge!(9, number_in(interval, 1, LONGEST_DELAY));
     let maxpacket = judge!(10, number_in(maxpacket, 1, u64::from(u16::MAX))) as u16;
-    Ok(QueueKind::Codel(Codel {
+    Ok(QueueKind::Codel(CodelParameters {
         target,
         interval,
         maxpacket,

@@ -20,7 +20,7 @@ use crate::giving::give_back;
 use line_merge::Sheaf;
 use net_machine::LinkEnds;
 use net_partition::Partition;
-use node_group::{Group, GroupFault, Share};
+use node_group::{Group, GroupFault, GroupState};
 use sim_time::Time;
 use std::alloc::{AllocError, Global};
 use std::marker::Model;
@@ -31,7 +31,7 @@ use std::snapshot::Snapshot;
 #[derive(Drop)]
 pub(crate) struct GroupTable {
     /// The groups, while they are in.
-    shares: Vec<Share>,
+    group_states: Vec<GroupState>,
     /// When the least event of each is, in nanoseconds; the last moment there is where it has none.
     nexts: Vec<Time>,
     /// The least of these, where it was read since they changed.
@@ -40,18 +40,18 @@ pub(crate) struct GroupTable {
     reported: usize,
     /// Whether the groups are out, and how they were when they went.
     out: bool,
-    lent: Snapshot<Vec<Share>>,
+    lent: Snapshot<Vec<GroupState>>,
     /// Room for the groups to go out in.
     groups: Vec<Group>,
 }
 
 // Reads when the least event of each group is.
-fn read_nexts(shares: &[Share], nexts: &mut [Time])
-    requires { length nexts.old ≡ length shares.now }
-    ensures { nexts.new ≡ nexts_of (states_of shares.now) }
+fn read_nexts(group_states: &[GroupState], nexts: &mut [Time])
+    requires { length nexts.old ≡ length group_states.now }
+    ensures { nexts.new ≡ nexts_of (states_of group_states.now) }
 {
-    for number in 0..shares.len() {
-        nexts[number] = next_of(&shares[number]);
+    for number in 0..group_states.len() {
+        nexts[number] = next_of(&group_states[number]);
     }
 }
 
@@ -83,17 +83,21 @@ impl Model for GroupTable {
 
 impl GroupTable {
     /// These groups, with memory for a moment of each, and room for them to go out in.
-    pub(super) fn new(shares: Vec<Share>, mut nexts: Vec<Time>, groups: Vec<Group>) -> GroupTable
-        requires few { length shares.items ≤ 64 }
-        requires nexts { length nexts.items ≡ length shares.items }
-        requires room { (groups.items ≡ []) × (length shares.items ≤ vec_capacity groups) }
-        ensures { result ≡ record { groups = shares.items; out = false } }
+    pub(super) fn new(
+        group_states: Vec<GroupState>,
+        mut nexts: Vec<Time>,
+        groups: Vec<Group>,
+    ) -> GroupTable
+        requires few { length group_states.items ≤ 64 }
+        requires nexts { length nexts.items ≡ length group_states.items }
+        requires room { (groups.items ≡ []) × (length group_states.items ≤ vec_capacity groups) }
+        ensures { result ≡ record { groups = group_states.items; out = false } }
     {
-        read_nexts(&shares, &mut nexts);
-        let reported = reported(&shares);
-        let lent = Snapshot::of(&shares);
+        read_nexts(&group_states, &mut nexts);
+        let reported = reported(&group_states);
+        let lent = Snapshot::of(&group_states);
         GroupTable {
-            shares,
+            group_states,
             nexts,
             least: None,
             reported,
@@ -109,7 +113,7 @@ impl GroupTable {
         requires { self.now.out ≡ false }
         ensures { result ≡ length self.now.groups }
     {
-        self.shares.len()
+        self.group_states.len()
     }
 
     /// How many groups have an event below a moment.
@@ -122,11 +126,11 @@ impl GroupTable {
     }
 
     /// The groups.
-    pub(super) fn shares(&self) -> &[Share]
+    pub(super) fn group_states(&self) -> &[GroupState]
         requires { self.now.out ≡ false }
         ensures { result.now ≡ self.now.groups }
     {
-        &self.shares
+        &self.group_states
     }
 
     /// When the least event of all groups is, in nanoseconds.
@@ -141,7 +145,7 @@ impl GroupTable {
         if least < Time::MAX {
             Some(least)
         } else {
-            soonest(&self.shares)
+            soonest(&self.group_states)
         }
     }
 
@@ -169,7 +173,7 @@ impl GroupTable {
         ensures are_groups { All IsGroup self.now.groups }
     {
         // The count is kept: this is for what it says of the groups.
-        let _ = reported(&self.shares);
+        let _ = reported(&self.group_states);
         self.reported
     }
 
@@ -187,12 +191,12 @@ impl GroupTable {
         ensures err { OnErr result (self.new ≡ self.old) }
     {
         // With this many lines told, one group's more fit.
-        let _ = reported(&self.shares);
-        let share = &mut self.shares[group];
-        let before = share.reported();
-        let fired = share.fire_below(until);
-        self.reported = self.reported + reported_by(share) - before;
-        self.nexts[group] = next_of(share);
+        let _ = reported(&self.group_states);
+        let group_state = &mut self.group_states[group];
+        let before = group_state.reported();
+        let fired = group_state.fire_below(until);
+        self.reported = self.reported + reported_by(group_state) - before;
+        self.nexts[group] = next_of(group_state);
         self.least = None;
         fired
     }
@@ -209,12 +213,12 @@ impl GroupTable {
         ensures fault { IfErr result (IsFaultAt until (value_at self.new.groups group)) }
     {
         // With this many lines told, one group's more fit.
-        let _ = reported(&self.shares);
-        let share = &mut self.shares[group];
-        let before = share.reported();
-        let ran = share.run(until);
-        self.reported = self.reported + reported_by(share) - before;
-        self.nexts[group] = next_of(share);
+        let _ = reported(&self.group_states);
+        let group_state = &mut self.group_states[group];
+        let before = group_state.reported();
+        let ran = group_state.run(until);
+        self.reported = self.reported + reported_by(group_state) - before;
+        self.nexts[group] = next_of(group_state);
         self.least = None;
         ran
     }
@@ -254,7 +258,7 @@ impl GroupTable {
         ensures groups { OnOk result (self.new ≡ record self.old { groups = each (λ (g : GroupValue). record g { lines = []; position = position + count }) self.old.groups }) }
         ensures err { OnErr result (self.new ≡ self.old) }
     {
-        gather(sheaf, &mut self.shares, position, count)?;
+        gather(sheaf, &mut self.group_states, position, count)?;
         self.reported = 0;
         Ok(())
     }
@@ -266,17 +270,23 @@ impl GroupTable {
         ensures same { self.new ≡ self.old }
         ensures empty { (merged sheaf.new).lines ≡ [] }
     {
-        give_back(sheaf, &mut self.shares);
+        give_back(sheaf, &mut self.group_states);
     }
 
-    /// What each group held back for others comes to them.
+    /// The outgoing messages of each group go to the others.
     pub(super) fn hand_all(&mut self, partition: &Partition, links: &[LinkEnds], alloc: Global)
         requires inside { self.old.out ≡ false }
         requires ready { AreReady partition.now links.now self.old.groups }
         ensures handed { HasHanded partition.now links.now self.old.groups self.new.groups }
         ensures rest { self.new ≡ record self.old { groups = self.new.groups } }
     {
-        hand_all(&mut self.shares, &mut self.nexts, partition, links, alloc);
+        hand_all(
+            &mut self.group_states,
+            &mut self.nexts,
+            partition,
+            links,
+            alloc,
+        );
         self.least = None;
     }
 
@@ -285,7 +295,7 @@ impl GroupTable {
         requires { self.old.out ≡ false }
         ensures { self.new ≡ record self.old { groups = each (λ (g : GroupValue). record g { until = until }) self.old.groups } }
     {
-        set_until(&mut self.shares, until);
+        set_until(&mut self.group_states, until);
     }
 
     /// Hands the groups out. No memory is taken.
@@ -295,11 +305,11 @@ impl GroupTable {
         ensures groups { result.items ≡ self.old.groups }
         ensures state { self.new ≡ record self.old { out = true } }
     {
-        self.lent = Snapshot::of(&self.shares);
+        self.lent = Snapshot::of(&self.group_states);
         self.out = true;
         let mut groups = Vec::new(alloc);
         std::mem::swap(&mut self.groups, &mut groups);
-        lend(&mut self.shares, &mut groups);
+        lend(&mut self.group_states, &mut groups);
         groups
     }
 
@@ -310,10 +320,10 @@ impl GroupTable {
         ensures { self.new ≡ record { groups = groups.items; out = false } }
     {
         self.groups = groups;
-        regain(&mut self.groups, &mut self.shares);
-        read_nexts(&self.shares, &mut self.nexts);
+        regain(&mut self.groups, &mut self.group_states);
+        read_nexts(&self.group_states, &mut self.nexts);
         self.least = None;
-        self.reported = reported(&self.shares);
+        self.reported = reported(&self.group_states);
         self.out = false;
     }
 }

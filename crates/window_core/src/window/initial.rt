@@ -9,7 +9,7 @@ ghost use Rattle.window_core.specs.Acting.{nothing_after};
 ghost use Rattle.window_law.specs.Lookahead.{lookahead};
 ghost use Rattle.window_core.specs.Initial.{IsFirstWindow};
 ghost use Rattle.net_partition.specs.Partition.{group_in, groups_of};
-ghost use Rattle.node_group.specs.Shares.{AreJoined, AreRooms};
+ghost use Rattle.node_group.specs.GroupStates.{AreJoined, AreRooms};
 ghost use Rattle.window_core.specs.Window.{IsFrom, setting_in, states_of};
 ghost use Rattle.window_law.specs.Windows.{none_fired, window_end};
 
@@ -21,7 +21,7 @@ use line_merge::Batch;
 use net_machine::{LinkEnds, Net, NetParts};
 use net_partition::Partition;
 use node_core::Node;
-use node_group::{Group, Share, ShareParts, rooms_of, share_out};
+use node_group::{Group, GroupState, GroupStateParts, rooms_of, share_out};
 use sim_time::Time;
 use std::alloc::{AllocError, Global};
 use tournament::KeyTournament;
@@ -29,8 +29,8 @@ use tournament::KeyTournament;
 // Memory for a window of some groups.
 #[derive(Drop)]
 struct Room {
-    rooms: Vec<ShareParts>,
-    shares: Vec<Share>,
+    rooms: Vec<GroupStateParts>,
+    group_states: Vec<GroupState>,
     groups: Vec<Group>,
     times: Vec<Time>,
     nexts: Vec<usize>,
@@ -48,7 +48,7 @@ fn room_for(
     requires few { length partition.now ≤ 2 ^ 12 }
     ensures rooms { IfOk result (λ room. length room.rooms.items ≡ groups_of partition.now) }
     ensures each { IfOk result (λ room. AreRooms partition.now links.now.items nodes.now room.rooms.items) }
-    ensures shares { IfOk result (λ room. (room.shares.items ≡ []) × (groups_of partition.now ≤ vec_capacity room.shares)) }
+    ensures group_states { IfOk result (λ room. (room.group_states.items ≡ []) × (groups_of partition.now ≤ vec_capacity room.group_states)) }
     ensures out { IfOk result (λ room. (room.groups.items ≡ []) × (groups_of partition.now ≤ vec_capacity room.groups)) }
     ensures times { IfOk result (λ room. length room.times.items ≡ groups_of partition.now) }
     ensures merge { IfOk result (λ room. (length room.nexts.items ≡ groups_of partition.now) × (length room.tournament ≡ groups_of partition.now)) }
@@ -56,7 +56,7 @@ fn room_for(
     let groups = partition.groups();
     Ok(Room {
         rooms: rooms_of(alloc, nodes, links, partition)?,
-        shares: Vec::with_capacity(alloc, groups)?,
+        group_states: Vec::with_capacity(alloc, groups)?,
         groups: Vec::with_capacity(alloc, groups)?,
         times: vec![in alloc; 0; groups]?,
         nexts: vec![in alloc; 0; groups]?,
@@ -70,7 +70,7 @@ fn opened(alloc: Global, parts: NetParts, partition: Partition, room: Room) -> W
     requires size { length partition ≡ length parts.nodes.items }
     requires rooms { length room.rooms.items ≡ groups_of partition }
     requires each { AreRooms partition parts.links.items parts.nodes.items room.rooms.items }
-    requires shares { (room.shares.items ≡ []) × (groups_of partition ≤ vec_capacity room.shares) }
+    requires group_states { (room.group_states.items ≡ []) × (groups_of partition ≤ vec_capacity room.group_states) }
     requires out { (room.groups.items ≡ []) × (groups_of partition ≤ vec_capacity room.groups) }
     requires times { length room.times.items ≡ groups_of partition }
     requires merge { (length room.nexts.items ≡ groups_of partition) × (length room.tournament ≡ groups_of partition) }
@@ -89,7 +89,7 @@ fn opened(alloc: Global, parts: NetParts, partition: Partition, room: Room) -> W
     } = parts;
     let Room {
         rooms,
-        mut shares,
+        mut group_states,
         groups,
         times,
         nexts,
@@ -105,10 +105,10 @@ fn opened(alloc: Global, parts: NetParts, partition: Partition, room: Room) -> W
         position,
         &partition,
         rooms,
-        &mut shares,
+        &mut group_states,
     );
-    let until = window_end(soonest(&shares), ahead, end);
-    set_until(&mut shares, until);
+    let until = window_end(soonest(&group_states), ahead, end);
+    set_until(&mut group_states, until);
     Window {
         partition,
         links,
@@ -116,7 +116,7 @@ fn opened(alloc: Global, parts: NetParts, partition: Partition, room: Room) -> W
         end,
         until,
         position,
-        group_table: GroupTable::new(shares, times, groups),
+        group_table: GroupTable::new(group_states, times, groups),
         nexts,
         tournament,
         taken: Batch::new(alloc, position + 1),

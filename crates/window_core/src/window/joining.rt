@@ -10,32 +10,32 @@ use super::Window;
 use net_machine::{LinkEnds, Net, NetParts, Spare};
 use net_partition::Partition;
 use node_core::Node;
-use node_group::Share;
+use node_group::GroupState;
 use std::alloc::{AllocError, Global};
 
 // A node of a group, with packets in cells of its own.
-fn copy_of(share: &Share, place: usize) -> Result<Node, AllocError>
-    requires within { place < length share.now.seats }
-    requires seated { is_some (slice_index_or share.now.seats place None) ≡ true }
-    ensures { IfOk result (λ node. node ≡ member share.now place) }
+fn copy_of(group_state: &GroupState, place: usize) -> Result<Node, AllocError>
+    requires within { place < length group_state.now.seats }
+    requires seated { is_some (slice_index_or group_state.now.seats place None) ≡ true }
+    ensures { IfOk result (λ node. node ≡ member group_state.now place) }
 {
-    let node = share.node(place).unwrap();
+    let node = group_state.node(place).unwrap();
     node.copy()
 }
 
 // All nodes, each from its group.
 fn copies_of(
     alloc: Global,
-    shares: &[Share],
+    group_states: &[GroupState],
     partition: &Partition,
 ) -> Result<Vec<Node>, AllocError>
-    requires { AreSeated partition.now shares.now }
-    ensures { IfOk result (λ nodes. AreTogether partition.now shares.now (length partition.now) nodes.items) }
+    requires { AreSeated partition.now group_states.now }
+    ensures { IfOk result (λ nodes. AreTogether partition.now group_states.now (length partition.now) nodes.items) }
 {
     let mut nodes = Vec::new(alloc);
     for number in 0..partition.nodes() {
-        let share = &shares[partition.group(number)];
-        nodes.push(copy_of(share, number)?)?;
+        let group_state = &group_states[partition.group(number)];
+        nodes.push(copy_of(group_state, number)?)?;
     }
     Ok(nodes)
 }
@@ -56,7 +56,7 @@ impl Window {
     {
         let _ = self.partition.groups();
         let _ = self.group_table.reported();
-        let nodes = copies_of(self.alloc, self.group_table.shares(), &self.partition)?;
+        let nodes = copies_of(self.alloc, self.group_table.group_states(), &self.partition)?;
         let links = copied(&self.links)?;
         let spare = Spare::new(self.alloc, nodes.len())?;
         Ok(Net::of_parts(NetParts {

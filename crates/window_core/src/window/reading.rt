@@ -6,15 +6,15 @@ ghost use Rattle.window_core.specs.Window.{states_of};
 ghost use Rattle.window_core.specs.GroupTables.{next_of_group};
 ghost use Rattle.window_law.specs.Windows.{all_lines, soonest};
 
-use node_group::Share;
+use node_group::GroupState;
 use sim_time::Time;
 
 /// When the least event of a group is, in nanoseconds; the last moment that there is where it has
 /// none.
-pub fn next_of(share: &Share) -> Time
-    ensures { result ≡ next_of_group (state_of share.now) }
+pub fn next_of(group_state: &GroupState) -> Time
+    ensures { result ≡ next_of_group (state_of group_state.now) }
 {
-    match share.next() {
+    match group_state.next() {
         Some(time) => time,
         None => Time::MAX,
     }
@@ -32,36 +32,36 @@ fn lesser_of(first: Option<Time>, second: Option<Time>) -> Option<Time>
 }
 
 /// When the least event of all groups is, in nanoseconds.
-pub fn soonest(shares: &[Share]) -> Option<Time>
-    ensures { result ≡ soonest (states_of shares.now) }
+pub fn soonest(group_states: &[GroupState]) -> Option<Time>
+    ensures { result ≡ soonest (states_of group_states.now) }
 {
     let mut least = None;
-    for share in shares {
-        least = lesser_of(least, share.next());
+    for group_state in group_states {
+        least = lesser_of(least, group_state.next());
     }
     least
 }
 
 /// How many lines a group has told.
-pub fn reported_by(share: &Share) -> usize
-    ensures count { result ≡ length share.now.lines }
+pub fn reported_by(group_state: &GroupState) -> usize
+    ensures count { result ≡ length group_state.now.lines }
     ensures few { result ≤ 1000000000000000 }
-    ensures is_group { IsGroup share.now }
+    ensures is_group { IsGroup group_state.now }
 {
-    let _ = share.number();
-    share.reported()
+    let _ = group_state.number();
+    group_state.reported()
 }
 
 /// How many lines all groups have told.
-pub fn reported(shares: &[Share]) -> usize
-    requires { length shares.now ≤ 64 }
-    ensures count { result ≡ length (all_lines (states_of shares.now)) }
+pub fn reported(group_states: &[GroupState]) -> usize
+    requires { length group_states.now ≤ 64 }
+    ensures count { result ≡ length (all_lines (states_of group_states.now)) }
     ensures few { result ≤ 64000000000000000 }
-    ensures are_groups { All IsGroup shares.now }
+    ensures are_groups { All IsGroup group_states.now }
 {
     let mut count = 0;
-    for share in shares {
-        count += reported_by(share);
+    for group_state in group_states {
+        count += reported_by(group_state);
     }
     count
 }

@@ -72,7 +72,7 @@ impl Window {
     }
 
     /// Brings the groups together where none has an event left before the window's end: the sheaf
-    /// has the window's lines, group by group, each group has what others held back for it, and the
+    /// has the window's lines, group by group, each group has the others' messages, and the
     /// next window begins. Where no turn is taken nothing changes, but the sheaf may be empty.
     pub fn turn_apart(&mut self, sheaf: &mut Sheaf) -> Result<(), TurnFault>
         requires { self.old.out ≡ false }
@@ -88,7 +88,7 @@ impl Window {
     }
 
     /// Brings the groups together where none has an event left before the window's end: the batch
-    /// has the window's lines, each group has what others held back for it, and the next window
+    /// has the window's lines, each group has the others' messages, and the next window
     /// begins. Where no turn is taken nothing changes, but the batch may be empty. What was `taken`
     /// stays.
     pub fn turn_into(&mut self, batch: &mut Batch) -> Result<(), TurnFault>
@@ -127,7 +127,7 @@ impl Window {
     }
 
     /// Brings the groups together where none has an event left before the window's end: the answer
-    /// has the window's lines, each group has what others held back for it, and the next window
+    /// has the window's lines, each group has the others' messages, and the next window
     /// begins. Where no turn is taken nothing changes.
     pub fn turn(&mut self) -> Result<Batch, TurnFault>
         requires { self.old.out ≡ false }

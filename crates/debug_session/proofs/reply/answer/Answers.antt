@@ -1,5 +1,5 @@
 use Rattle.std.proofs.Common.{◌∙◌}
-use Rattle.debug_session.specs.Answers.{standing, Answers}
+use Rattle.debug_session.specs.Answers.{session_state, Answers}
 use Rattle.debug_session.specs.WindowMoves.{MoveGoesTo}
 use Rattle.debug_session.proofs.Left.{left_answered}
 use Rattle.debug_session.proofs.Moved.{moved_reported}
@@ -19,7 +19,7 @@ returns-in-Some-clause-answers g c =
     let moved = c.go-moved in
     let reported = c.show_move in
     let gone = moved_reported (MoveGoesTo left here) here moved.new.debugger reported.new.debugger moved.result reported.new.said moved.ensures.moved moved.ensures.goes moved.ensures.err reported.ensures.reported reported.ensures.refused in
-    left_answered old here reported.new.debugger (Answers c.args.limits old.start c.args.line.now (standing old)) left reported.new.said c.in-Some.ensures.answers gone
+    left_answered old here reported.new.debugger (Answers c.args.limits old.start c.args.line.now (session_state old)) left reported.new.said c.in-Some.ensures.answers gone
 
 pub returns-in-Some-clause-start : goal.returns-in-Some-clause-start
 returns-in-Some-clause-start g c =

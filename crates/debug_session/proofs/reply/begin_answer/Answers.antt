@@ -1,12 +1,12 @@
 use Rattle.std.proofs.Common.{Option, Some, Err, refl, sym, subst, ◌∙◌, ap}
 use Rattle.debug_session.specs.Grammar.{Reading}
-use Rattle.debug_session.specs.Answers.{standing, Follows}
+use Rattle.debug_session.specs.Answers.{session_state, Follows}
 use Rattle.debug_session.proofs.Left.{line_obeyed}
 use Rattle.debug_session.proofs.reply.begin_answer.Goals as goal
 
 pub returns-in-None-clause-answers : goal.returns-in-None-clause-answers
 returns-in-None-clause-answers c =
-    subst (λ (r : Option Reading). Follows c.args.debugger.now.start r (standing c.args.debugger.now) (standing c.args.debugger.now) c.clear.new.self) c.in-None.ensures
+    subst (λ (r : Option Reading). Follows c.args.debugger.now.start r (session_state c.args.debugger.now) (session_state c.args.debugger.now) c.clear.new.self) c.in-None.ensures
     (record { same = refl; reported = c.clear.ensures })
 
 pub returns-in-None-clause-start : goal.returns-in-None-clause-start
@@ -14,7 +14,7 @@ returns-in-None-clause-start c = refl
 
 pub returns-in-Some-Err-clause-answers : goal.returns-in-Some-Err-clause-answers
 returns-in-Some-Err-clause-answers c =
-    subst (λ (r : Option Reading). Follows c.args.debugger.now.start r (standing c.args.debugger.now) (standing c.args.debugger.now) c.say_refused.new.self) {x = Some (Err c.in-Some-Err.refusal)} (ap (λ r. Some r) (sym c.in-Some-Err.field-0-is) ∙ c.in-Some-Err.ensures)
+    subst (λ (r : Option Reading). Follows c.args.debugger.now.start r (session_state c.args.debugger.now) (session_state c.args.debugger.now) c.say_refused.new.self) {x = Some (Err c.in-Some-Err.refusal)} (ap (λ r. Some r) (sym c.in-Some-Err.field-0-is) ∙ c.in-Some-Err.ensures)
     (record { same = refl; reported = c.say_refused.ensures })
 
 pub returns-in-Some-Err-clause-start : goal.returns-in-Some-Err-clause-start

@@ -4,14 +4,14 @@ use Rattle.std.specs.Io.KnownBytes.{Appends}
 use Rattle.table_run.specs.State.{State}
 use Rattle.window_engine.specs.Failures.{counted}
 use Rattle.debug_session.specs.Taking.{Takes, IsBeginningOf}
-use Rattle.debug_session.specs.Answers.{standing, Answers}
+use Rattle.debug_session.specs.Answers.{session_state, Answers}
 use Rattle.debug_session.proofs.Words.{after_shorter}
 use Rattle.debug_session.proofs.Running.{first_taken, none_yet, one_more, one_failed, all_answered}
 use Rattle.debug_session.proofs.session.run_commands.Goals as goal
 
 pub loop-rest-init : goal.loop-rest-init
 loop-rest-init g c = record {
-  so_far = none_yet c.args.limits c.args.debugger.now.start c.args.commands.now (standing c.args.debugger.now) (g.S.Sink.contents c.args.out.now);
+  so_far = none_yet c.args.limits c.args.debugger.now.start c.args.commands.now (session_state c.args.debugger.now) (g.S.Sink.contents c.args.out.now);
   start = refl;
   failures = refl;
 }
@@ -23,9 +23,9 @@ pub returns-in-Err-clause-err : goal.returns-in-Err-clause-err
 returns-in-Err-clause-err g c =
     let some : 0 < length c.loop-rest.rest.now = grind (arith, nat_tests) in
     let said = c.answer.new.said in
-    let one = subst (λ (s : State). Answers c.args.limits s c.cut.result.0.now (standing c.loop-rest.debugger) (standing c.answer.new.debugger) said) c.loop-rest.invariant.start c.answer.ensures.answers in
+    let one = subst (λ (s : State). Answers c.args.limits s c.cut.result.0.now (session_state c.loop-rest.debugger) (session_state c.answer.new.debugger) said) c.loop-rest.invariant.start c.answer.ensures.answers in
     one_failed c.args.limits c.args.debugger.now.start c.args.commands.now c.loop-rest.rest.now c.cut.result.0.now c.cut.result.1.now said
-    (standing c.args.debugger.now) (standing c.loop-rest.debugger) (standing c.answer.new.debugger) (g.S.Sink.contents c.args.out.now) (g.S.Sink.contents c.loop-rest.out) (g.S.Sink.contents c.put_all.new.sink)
+    (session_state c.args.debugger.now) (session_state c.loop-rest.debugger) (session_state c.answer.new.debugger) (g.S.Sink.contents c.args.out.now) (g.S.Sink.contents c.loop-rest.out) (g.S.Sink.contents c.put_all.new.sink)
     c.loop-rest.invariant.so_far some c.cut.ensures.before c.cut.ensures.after one
     (subst (λ (whole : List ℕ). Takes (IsBeginningOf (λ all. all ≡ whole)) (g.S.Sink.contents c.loop-rest.out) (g.S.Sink.contents c.put_all.new.sink)) c.as_slice.ensures
     (first_taken c.as_slice.result.now (g.S.Sink.contents c.loop-rest.out) (g.S.Sink.contents c.put_all.new.sink) c.in-Err.field-0 c.in-Err.ensures.err))
@@ -42,10 +42,10 @@ pub loop-rest-preserved : goal.loop-rest-preserved
 loop-rest-preserved g c =
     let some : 0 < length c.loop-rest.rest.now = grind (arith, nat_tests) in
     let said = c.answer.new.said in
-    let one = subst (λ (s : State). Answers c.args.limits s c.cut.result.0.now (standing c.loop-rest.debugger) (standing c.answer.new.debugger) said) c.loop-rest.invariant.start c.answer.ensures.answers in
+    let one = subst (λ (s : State). Answers c.args.limits s c.cut.result.0.now (session_state c.loop-rest.debugger) (session_state c.answer.new.debugger) said) c.loop-rest.invariant.start c.answer.ensures.answers in
     record {
       so_far = one_more c.args.limits c.args.debugger.now.start c.args.commands.now c.loop-rest.rest.now c.cut.result.0.now c.cut.result.1.now said
-          (standing c.args.debugger.now) (standing c.loop-rest.debugger) (standing c.answer.new.debugger) (g.S.Sink.contents c.args.out.now) (g.S.Sink.contents c.loop-rest.out) (g.S.Sink.contents c.put_all.new.sink)
+          (session_state c.args.debugger.now) (session_state c.loop-rest.debugger) (session_state c.answer.new.debugger) (g.S.Sink.contents c.args.out.now) (g.S.Sink.contents c.loop-rest.out) (g.S.Sink.contents c.put_all.new.sink)
           c.loop-rest.invariant.so_far some c.cut.ensures.before c.cut.ensures.after one
           (subst (Appends (g.S.Sink.contents c.loop-rest.out) (g.S.Sink.contents c.put_all.new.sink)) c.as_slice.ensures c.in-Ok.ensures.ok);
       start = c.answer.ensures.start ∙ c.loop-rest.invariant.start;
@@ -55,7 +55,7 @@ loop-rest-preserved g c =
 pub returns-clause-ok : goal.returns-clause-ok
 returns-clause-ok g c =
     let none : length c.loop-rest.rest.now ≡ 0 = grind (arith, nat_tests) in
-    all_answered c.args.limits c.args.debugger.now.start c.args.commands.now c.loop-rest.rest.now (standing c.args.debugger.now) (standing c.loop-rest.debugger) (g.S.Sink.contents c.args.out.now) (g.S.Sink.contents c.loop-rest.out)
+    all_answered c.args.limits c.args.debugger.now.start c.args.commands.now c.loop-rest.rest.now (session_state c.args.debugger.now) (session_state c.loop-rest.debugger) (g.S.Sink.contents c.args.out.now) (g.S.Sink.contents c.loop-rest.out)
     c.loop-rest.invariant.so_far none
 
 pub returns-clause-failures : goal.returns-clause-failures

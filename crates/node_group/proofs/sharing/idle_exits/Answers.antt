@@ -4,7 +4,7 @@ use Rattle.std.proofs.lemmas.List.{get_or_append_left, get_or_push}
 use Rattle.node_core.specs.WireState.{WireState}
 use Rattle.net_machine.specs.Wiring.{place_at}
 use Rattle.node_group.specs.Held.{no_wire, wire_at}
-use Rattle.node_group.specs.Shares.{idle_wire}
+use Rattle.node_group.specs.GroupStates.{idle_wire}
 use Rattle.node_group.proofs.sharing.idle_exits.Goals as goal
 
 pub loop-link-preserved : goal.loop-link-preserved

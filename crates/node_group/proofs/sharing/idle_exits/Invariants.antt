@@ -1,6 +1,6 @@
 use Rattle.std.proofs.Common.{◌≡◌, ◌<◌, ℕ, length}
 use Rattle.node_group.specs.Held.{wire_at}
-use Rattle.node_group.specs.Shares.{idle_wire}
+use Rattle.node_group.specs.GroupStates.{idle_wire}
 use Rattle.node_group.proofs.sharing.idle_exits.Given as goal
 
 -- each link so far has its wire

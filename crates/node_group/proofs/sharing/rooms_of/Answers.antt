@@ -1,5 +1,5 @@
 use Rattle.std.proofs.Common.{◌+◌, [], ◌∷◌, length, length-append, ap, sym, subst, ◌∙◌}
-use Rattle.node_group.specs.Shares.{IsRoom, AreRooms}
+use Rattle.node_group.specs.GroupStates.{IsRoom, AreRooms}
 use Rattle.node_group.proofs.Seating.{rooms_more}
 use Rattle.node_group.proofs.sharing.rooms_of.Goals as goal
 

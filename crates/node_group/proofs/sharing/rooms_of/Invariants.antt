@@ -1,5 +1,5 @@
 use Rattle.std.proofs.Common.{◌≡◌, length}
-use Rattle.node_group.specs.Shares.{AreRooms}
+use Rattle.node_group.specs.GroupStates.{AreRooms}
 use Rattle.node_group.proofs.sharing.rooms_of.Given as goal
 
 -- each group so far has its room

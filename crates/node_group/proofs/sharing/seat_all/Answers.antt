@@ -2,9 +2,9 @@ use Rattle.std.proofs.Common.{◌≡◌, ◌<◌, ◌+◌, ◌-◌, ◌++◌, le
 use Rattle.std.proofs.lemmas.List.{length-set, length-reverse}
 use Rattle.std.specs.Option.{option_to_list}
 use Rattle.node_core.specs.Node.{NodeState}
-use Rattle.node_group.specs.declared.share.ShareParts.{ShareParts}
+use Rattle.node_group.specs.declared.group_state.GroupStateParts.{GroupStateParts}
 use Rattle.net_partition.specs.Partition.{group_in}
-use Rattle.node_group.specs.Shares.{AreSeatedBelow}
+use Rattle.node_group.specs.GroupStates.{AreSeatedBelow}
 use Rattle.net_partition.proofs.Partitions.{upto_greatest}
 use Rattle.node_group.proofs.Seating.{AreLeft, IsNext, all_left, next_left, seated_none, has_room, seated_one}
 use Rattle.node_group.proofs.sharing.seat_all.Goals as goal
@@ -54,7 +54,7 @@ join-requires-clause-room c =
     let number_is = ap (λ (n : NodeState). n.number) next.node_is ∙ c.requires.placed.number place next.within in
     let upto = upto_greatest c.args.partition.now c.from-place.result in
     let inside : c.group.result < length c.loop-node.rooms = omega (arith, upto, c.group.ensures, c.requires.groups, inv.count) in
-    let old : ShareParts = get_or c.loop-node.rooms c.group.result c.index-rooms-group.result in
+    let old : GroupStateParts = get_or c.loop-node.rooms c.group.result c.index-rooms-group.result in
     (has_room c.args.partition.now c.args._links.now all place (omega (arith, next.within, c.requires.size)) c.loop-node.rooms inv.seated
     c.group.result (c.group.ensures ∙ ap (group_in c.args.partition.now) (c.from-place.ensures ∙ c.number.ensures ∙ number_is)) inside old c.index-rooms-group.result refl c.in-Some.node next.node_is number_is).0
 
@@ -68,7 +68,7 @@ join-requires-clause-few c =
     let number_is = ap (λ (n : NodeState). n.number) next.node_is ∙ c.requires.placed.number place next.within in
     let upto = upto_greatest c.args.partition.now c.from-place.result in
     let inside : c.group.result < length c.loop-node.rooms = omega (arith, upto, c.group.ensures, c.requires.groups, inv.count) in
-    let old : ShareParts = get_or c.loop-node.rooms c.group.result c.index-rooms-group.result in
+    let old : GroupStateParts = get_or c.loop-node.rooms c.group.result c.index-rooms-group.result in
     (has_room c.args.partition.now c.args._links.now all place (omega (arith, next.within, c.requires.size)) c.loop-node.rooms inv.seated
     c.group.result (c.group.ensures ∙ ap (group_in c.args.partition.now) (c.from-place.ensures ∙ c.number.ensures ∙ number_is)) inside old c.index-rooms-group.result refl c.in-Some.node next.node_is number_is).1
 
@@ -83,14 +83,14 @@ loop-node-preserved c =
     let place_is = c.from-place.ensures ∙ c.number.ensures ∙ number_is in
     let upto = upto_greatest c.args.partition.now c.from-place.result in
     let inside : c.group.result < length c.loop-node.rooms = omega (arith, upto, c.group.ensures, c.requires.groups, inv.count) in
-    let old : ShareParts = get_or c.loop-node.rooms c.group.result c.index-rooms-group.result in
+    let old : GroupStateParts = get_or c.loop-node.rooms c.group.result c.index-rooms-group.result in
     let after : place + 1 ≡ length all - length before = omega (arith, next.long, inv.within) in
     record {
       left = next.rest;
       within = omega (arith, next.long, inv.within);
-      count = length-set c.loop-node.rooms c.group.result (record old { members = c.join.new.self }) ∙ inv.count;
-      seated = subst (λ n. AreSeatedBelow n c.args.partition.now c.args._links.now all (set c.loop-node.rooms c.group.result (record old { members = c.join.new.self }))) after
+      count = length-set c.loop-node.rooms c.group.result (record old { nodes_by_number = c.join.new.self }) ∙ inv.count;
+      seated = subst (λ n. AreSeatedBelow n c.args.partition.now c.args._links.now all (set c.loop-node.rooms c.group.result (record old { nodes_by_number = c.join.new.self }))) after
           (seated_one c.args.partition.now c.args._links.now all place (omega (arith, next.within, c.requires.size)) c.loop-node.rooms inv.seated
           c.group.result (c.group.ensures ∙ ap (group_in c.args.partition.now) place_is) inside old c.index-rooms-group.result refl c.in-Some.node next.node_is number_is
-          c.join.new.self c.join.ensures.nodes (c.join.ensures.index ∙ ap (λ n. set old.members.index.items n (length old.members.nodes.items)) place_is) c.join.ensures.capacity c.join.ensures.timetable);
+          c.join.new.self c.join.ensures.nodes (c.join.ensures.index ∙ ap (λ n. set old.nodes_by_number.index.items n (length old.nodes_by_number.nodes.items)) place_is) c.join.ensures.capacity c.join.ensures.timetable);
     }

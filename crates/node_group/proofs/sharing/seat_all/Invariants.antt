@@ -1,5 +1,5 @@
 use Rattle.std.proofs.Common.{◌≡◌, ◌≤◌, ◌-◌, length}
-use Rattle.node_group.specs.Shares.{AreSeatedBelow}
+use Rattle.node_group.specs.GroupStates.{AreSeatedBelow}
 use Rattle.node_group.proofs.Seating.{AreLeft}
 use Rattle.node_group.proofs.sharing.seat_all.Given as goal
 

@@ -9,7 +9,7 @@ use Rattle.net_machine.specs.declared.places.LinkEnds.{LinkEnds}
 use Rattle.net_machine.specs.Nodes.{no_node, node_at}
 use Rattle.net_machine.specs.Wiring.{no_ends, ends_at}
 use Rattle.net_machine.proofs.Counting.{counted_more}
-use Rattle.node_group.specs.Shares.{exit_in, sent_over}
+use Rattle.node_group.specs.GroupStates.{exit_in, sent_over}
 use Rattle.node_group.proofs.sharing.sent_over.Goals as goal
 
 pub overflow_add-index : goal.overflow_add-index

@@ -1,7 +1,7 @@
 use Rattle.std.proofs.Common.{◌≡◌, ◌<◌, ◌==◌, ℕ, length, take, get_or}
 use Rattle.std.specs.List.{count_by}
 use Rattle.net_machine.specs.declared.places.LinkEnds.{LinkEnds}
-use Rattle.node_group.specs.Shares.{sent_over}
+use Rattle.node_group.specs.GroupStates.{sent_over}
 use Rattle.node_group.proofs.sharing.sent_over.Given as goal
 
 -- it is known of the links so far, and they are counted at the nodes that they leave

@@ -1,8 +1,8 @@
 use Rattle.std.proofs.Common.{◌≡◌, ◌+◌, ◌++◌, ◌∷◌, [], length, sym, ap, subst, ◌∙◌, arith, length-append}
 use Rattle.std.specs.Option.{option_to_list}
 use Rattle.net_partition.specs.Partition.{groups_of}
-use Rattle.node_group.specs.Shares.{IsSeatedBelow}
-use Rattle.node_group.proofs.SharedOut.{seats_in, front_seated, last_seated, none_missing, room_is_group, room_share, made_more, made_all}
+use Rattle.node_group.specs.GroupStates.{IsSeatedBelow}
+use Rattle.node_group.proofs.SharedOut.{seats_in, front_seated, last_seated, none_missing, room_is_group, room_group_state, made_more, made_all}
 use Rattle.node_group.proofs.sharing.share_out.Goals as goal
 
 pub new-requires-clause-group : goal.new-requires-clause-group
@@ -46,15 +46,15 @@ loop-room-preserved c =
     let here = last_seated c.args.partition.now c.args.links.now c.args.nodes.items c.loop-room.rooms.items before c.in-Some.room more inv.seated in
     let number_is = c.len-number.ensures ∙ c.pop.new.self.ok.0 in
     let long : length c.loop-room.rooms.items ≡ length before + 1 = ap length more ∙ length-append before (c.in-Some.room ∷ []) in
-    let longer : length c.push_reserved.new.self.items ≡ length c.loop-room.shares.items + 1 = ap length c.push_reserved.ensures.items ∙ length-append c.loop-room.shares.items (c.new.result ∷ []) in
-    let sum : length before + length c.loop-room.shares.items + 1 ≡ groups_of c.args.partition.now = omega (arith, inv.total, long) in
-    let share = room_share c.args.partition.now c.args.links.now c.args.nodes.items c.args.end c.args.position (length before) c.in-Some.room c.new.result here
+    let longer : length c.push_reserved.new.self.items ≡ length c.loop-room.group_states.items + 1 = ap length c.push_reserved.ensures.items ∙ length-append c.loop-room.group_states.items (c.new.result ∷ []) in
+    let sum : length before + length c.loop-room.group_states.items + 1 ≡ groups_of c.args.partition.now = omega (arith, inv.total, long) in
+    let group_state = room_group_state c.args.partition.now c.args.links.now c.args.nodes.items c.args.end c.args.position (length before) c.in-Some.room c.new.result here
     (c.new.ensures ∙ (λ i. record { number = number_is i; entries = c.args.partition.now; links = c.in-Some.room.links.items; seats = seats_in c.in-Some.room; held = c.in-Some.room.exits; lines = []; until = c.args.end; position = c.args.position })) in
     record {
       total = omega (arith, inv.total, long, longer);
       seated = front_seated c.args.partition.now c.args.links.now c.args.nodes.items c.loop-room.rooms.items before c.in-Some.room more inv.seated;
       made = subst (Rattle.node_group.proofs.SharedOut.AreMade c.args.partition.now c.args.links.now c.args.nodes.items c.args.end c.args.position (groups_of c.args.partition.now)) (sym c.push_reserved.ensures.items)
-          (made_more c.args.partition.now c.args.links.now c.args.nodes.items c.args.end c.args.position (groups_of c.args.partition.now) c.loop-room.shares.items c.new.result (length before) sum inv.made share);
+          (made_more c.args.partition.now c.args.links.now c.args.nodes.items c.args.end c.args.position (groups_of c.args.partition.now) c.loop-room.group_states.items c.new.result (length before) sum inv.made group_state);
       room = (let capacity = c.push_reserved.ensures.capacity in omega (arith, inv.room, long, longer, capacity));
       kept = c.push_reserved.ensures.capacity ∙ inv.kept;
     }

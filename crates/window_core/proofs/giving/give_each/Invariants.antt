@@ -5,7 +5,7 @@ use Rattle.window_core.proofs.giving.give_each.Given as goal
 
 abbrev pub invariant-loop-at : goal.invariant-loop-at
 invariant-loop-at l = record {
-  size : length l.lists ≡ length l.initial.shares;
+  size : length l.lists ≡ length l.initial.group_states;
   none : (i : ℕ) → i < l.at → lines_of l.lists i ≡ [];
-  shares : l.shares ≡ l.initial.shares;
+  group_states : l.group_states ≡ l.initial.group_states;
 }

@@ -3,5 +3,5 @@ use Rattle.window_core.specs.Window.{no_value}
 use Rattle.window_core.proofs.Each.{IsChangedTo}
 use Rattle.window_core.proofs.window.set_until.Given as goal
 
-abbrev pub invariant-loop-share : goal.invariant-loop-share
-invariant-loop-share l = IsChangedTo no_value (λ (g : GroupValue). record g { until = l.until }) l.initial.shares l.shares l.share-index
+abbrev pub invariant-loop-group_state : goal.invariant-loop-group_state
+invariant-loop-group_state l = IsChangedTo no_value (λ (g : GroupValue). record g { until = l.until }) l.initial.group_states l.group_states l.group_state-index

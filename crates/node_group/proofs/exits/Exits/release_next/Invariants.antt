@@ -2,7 +2,7 @@ use Rattle.std.proofs.Common.{◌≡◌, [], length, vec_capacity}
 use Rattle.node_group.specs.Held.{AreListed}
 use Rattle.node_group.proofs.exits.Exits.release_next.Given as goal
 
--- what is held back is as it was, and the list still has all of it
+-- the outgoing messages are as they were, and the list still has all of them
 abbrev pub invariant-loop-link : goal.invariant-loop-link
 invariant-loop-link l = record {
   wires : l.self-inside.held.items ≡ l.initial.self-inside.held.items;

@@ -6,7 +6,7 @@ use Rattle.net_machine.specs.Nodes.{net_state}
 use Rattle.net_machine.specs.Run.{Reached}
 use Rattle.window_law.specs.Lookahead.{lookahead}
 use Rattle.net_partition.specs.Partition.{group_in}
-use Rattle.node_group.specs.Shares.{AreJoined}
+use Rattle.node_group.specs.GroupStates.{AreJoined}
 use Rattle.node_group.proofs.OfRun.{are_joined}
 use Rattle.window_core.proofs.SameLinks.{one_lookahead}
 use Rattle.window_core.proofs.window.Window.new.Goals as goal

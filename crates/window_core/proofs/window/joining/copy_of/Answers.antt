@@ -6,7 +6,7 @@ use Rattle.window_core.proofs.window.joining.copy_of.Goals as goal
 
 pub returns : goal.returns
 returns c =
-    let g = c.args.share.now in
+    let g = c.args.group_state.now in
     let seat : get_or g.seats c.args.place None ≡ Some c.unwrap-node.result.now = sym c.node.ensures ∙ ap option_copied c.unwrap-node.ensures in
     let here = seat_is g.seats c.args.place c.requires.within c.unwrap-node.result.now seat in
     subst (λ (n : NodeState). IfOk c.copy.result (λ node. node ≡ n)) here c.copy.ensures

@@ -3,13 +3,13 @@ use Rattle.node_group.specs.Group.{IsOnRun}
 use Rattle.window_core.proofs.window.lending.lend.Given as goal
 
 -- what is left, and what went backwards
-abbrev pub invariant-loop-share : goal.invariant-loop-share
-invariant-loop-share l = record {
-  together : l.shares.items ++ reverse l.groups.items ≡ l.initial.shares.items;
-  on_run : All IsOnRun l.shares.items;
-  room : length l.shares.items + length l.groups.items ≤ vec_capacity l.groups;
-  kept : vec_capacity l.shares ≡ vec_capacity l.initial.shares;
+abbrev pub invariant-loop-group_state : goal.invariant-loop-group_state
+invariant-loop-group_state l = record {
+  together : l.group_states.items ++ reverse l.groups.items ≡ l.initial.group_states.items;
+  on_run : All IsOnRun l.group_states.items;
+  room : length l.group_states.items + length l.groups.items ≤ vec_capacity l.groups;
+  kept : vec_capacity l.group_states ≡ vec_capacity l.initial.group_states;
 }
 
-abbrev pub decreases-loop-share : goal.decreases-loop-share
-decreases-loop-share l = goal.left-loop-share l
+abbrev pub decreases-loop-group_state : goal.decreases-loop-group_state
+decreases-loop-group_state l = goal.left-loop-group_state l

@@ -5,9 +5,9 @@ use Rattle.window_law.specs.Windows.{all_lines}
 use Rattle.window_core.proofs.window.reading.reported.Given as goal
 
 -- the lines so far and those of the rest are together all
-abbrev pub invariant-loop-share : goal.invariant-loop-share
-invariant-loop-share l = record {
-  together : l.count + length (all_lines (states_of (drop l.share-index l.shares))) ≡ length (all_lines (states_of l.shares));
-  few : l.count ≤ l.share-index * 1000000000000000;
-  are_groups : (k : ℕ) (d : GroupValue) → k < l.share-index → IsGroup (get_or l.shares k d);
+abbrev pub invariant-loop-group_state : goal.invariant-loop-group_state
+invariant-loop-group_state l = record {
+  together : l.count + length (all_lines (states_of (drop l.group_state-index l.group_states))) ≡ length (all_lines (states_of l.group_states));
+  few : l.count ≤ l.group_state-index * 1000000000000000;
+  are_groups : (k : ℕ) (d : GroupValue) → k < l.group_state-index → IsGroup (get_or l.group_states k d);
 }

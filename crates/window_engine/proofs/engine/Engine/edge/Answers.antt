@@ -9,4 +9,4 @@ returns c =
     let none : e.failed ≡ false = ap (λ (v : EngineValue). v.failed) c.self.view_is ∙ c.requires in
     let rest = (c.self.invariant none).0 in
     subst (λ (v : EngineValue). IfOk c.edge.result (λ net. net ≡ v.net)) c.self.view_is
-    (edge_given c.edge.result e.course.window e.course.position rest.committed c.position-reached.ensures.is_window rest.edge c.edge.ensures)
+    (edge_given c.edge.result e.run_state.window e.run_state.position rest.committed c.position-reached.ensures.is_window rest.edge c.edge.ensures)

@@ -17,20 +17,20 @@ returns-clause-commits g c =
     let e = c.self.inside in
     let rest = (c.self.invariant c.if-self.false).0 in
     let contents = g.S.Sink.contents in
-    let course = c.write_together-outcome.new.self in
-    let at : Reached → Type 0 = λ r. Commits c.args.until r c.write_together-outcome.result (record { state = edge_of course.window; position = course.position }) (contents c.args.sink.now) (contents c.write_together-outcome.new.sink) in
-    subst (λ (v : EngineValue). at v.net) c.self.view_is (subst at (sym (net_is e.course.window e.course.position rest.committed)) c.write_together-outcome.ensures.commits)
+    let run_state = c.write_together-outcome.new.self in
+    let at : Reached → Type 0 = λ r. Commits c.args.until r c.write_together-outcome.result (record { state = edge_of run_state.window; position = run_state.position }) (contents c.args.sink.now) (contents c.write_together-outcome.new.sink) in
+    subst (λ (v : EngineValue). at v.net) c.self.view_is (subst at (sym (net_is e.run_state.window e.run_state.position rest.committed)) c.write_together-outcome.ensures.commits)
 
 pub returns-clause-fault : goal.returns-clause-fault
 returns-clause-fault g c _ =
-    let many = HasTooMany (reached_in c.self.inside.course.window) in
+    let many = HasTooMany (reached_in c.self.inside.run_state.window) in
     IfErr-weaker c.write_together-outcome.result (IsRunFault c.args.workers many) (IsOfRun c.args.workers) (λ fault is. is.0) c.write_together-outcome.ensures.fault
 
 pub returns-clause-full : goal.returns-clause-full
 returns-clause-full g c =
     let e = c.self.inside in
     let rest = (c.self.invariant c.if-self.false).0 in
-    let many = HasTooMany (reached_in e.course.window) in
+    let many = HasTooMany (reached_in e.run_state.window) in
     let full = IfErr-weaker c.write_together-outcome.result (IsRunFault c.args.workers many) (λ fault. fault ≡ CountFull → many) (λ fault is. is.1) c.write_together-outcome.ensures.fault in
     subst (λ (v : EngineValue). IfErr c.write_together-outcome.result (λ fault. fault ≡ CountFull → HasTooMany v.net)) c.self.view_is
-    (subst (λ (r : Reached). IfErr c.write_together-outcome.result (λ fault. fault ≡ CountFull → HasTooMany r)) (sym (net_is e.course.window e.course.position rest.committed)) full)
+    (subst (λ (r : Reached). IfErr c.write_together-outcome.result (λ fault. fault ≡ CountFull → HasTooMany r)) (sym (net_is e.run_state.window e.run_state.position rest.committed)) full)

@@ -11,30 +11,30 @@ use Rattle.window_engine.proofs.engine.Engine.window.Goals as goal
 pub returns-clause-none_left : goal.returns-clause-none_left
 returns-clause-none_left g c =
     let e = c.self.inside in
-    let u = e.course.window in
+    let u = e.run_state.window in
     let kept = c.self.invariant c.if-self.false in
     subst (λ (v : EngineValue). NoneBelow (window_end_by v c.args.until) (edge_of c.finish.new.window)) c.self.view_is
-    (left_apart e.course.window u e.course.groups e.course.ahead e.course.position c.args.until kept.0.edge c.position-reached.ensures.is_window refl kept.1.apart.1 c.finish.new.window (subst (λ (w : WindowValue). NoneBelow (min w.until c.args.until) (edge_of c.finish.new.window)) c.of-before.ensures c.in-Ok.ensures.none_left))
+    (left_apart e.run_state.window u e.run_state.groups e.run_state.ahead e.run_state.position c.args.until kept.0.edge c.position-reached.ensures.is_window refl kept.1.apart.1 c.finish.new.window (subst (λ (w : WindowValue). NoneBelow (min w.until c.args.until) (edge_of c.finish.new.window)) c.of-before.ensures c.in-Ok.ensures.none_left))
 
 pub returns-clause-early : goal.returns-clause-early
 returns-clause-early g c =
     let e = c.self.inside in
-    let u = e.course.window in
+    let u = e.run_state.window in
     let kept = c.self.invariant c.if-self.false in
     let lines = c.finish.new.lines.lines in
     subst (λ (v : EngineValue). AreBelow (window_end_by v c.args.until) lines) c.self.view_is
-    (early_apart e.course.window u e.course.groups e.course.ahead e.course.position c.args.until kept.0.edge c.position-reached.ensures.is_window refl kept.1.apart.1 lines (subst (λ (w : WindowValue). AreBelow (min w.until c.args.until) lines) c.of-before.ensures c.in-Ok.ensures.early))
+    (early_apart e.run_state.window u e.run_state.groups e.run_state.ahead e.run_state.position c.args.until kept.0.edge c.position-reached.ensures.is_window refl kept.1.apart.1 lines (subst (λ (w : WindowValue). AreBelow (min w.until c.args.until) lines) c.of-before.ensures c.in-Ok.ensures.early))
 
 pub returns-in-Err-clause-full : goal.returns-in-Err-clause-full
 returns-in-Err-clause-full g c is =
     let e = c.self.inside in
     let rest = (c.self.invariant c.if-self.false).0 in
     subst (λ (v : EngineValue). HasTooMany v.net) c.self.view_is
-    (subst HasTooMany (sym (net_is e.course.window e.course.position rest.committed)) (subst (λ (w : WindowValue). HasTooMany (reached_in w)) c.of-before.ensures (c.in-Err.ensures.fault.1 is)))
+    (subst HasTooMany (sym (net_is e.run_state.window e.run_state.position rest.committed)) (subst (λ (w : WindowValue). HasTooMany (reached_in w)) c.of-before.ensures (c.in-Err.ensures.fault.1 is)))
 
 pub invariant_of-self-2 : goal.invariant_of-self-2
 invariant_of-self-2 g c _ =
-    let u = c.self.inside.course in
+    let u = c.self.inside.run_state in
     let w = c.finish.new.window in
     let ran = c.in-Ok.ensures in
     let kept = c.self.invariant c.if-self.false in

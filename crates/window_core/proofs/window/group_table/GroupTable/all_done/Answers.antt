@@ -10,8 +10,8 @@ pub returns : goal.returns
 returns c =
     let w = c.self.inside in
     let out : w.out ≡ false = ap (λ (x : GroupTableValue). x.out) c.self.view_is ∙ c.requires in
-    let in_is : w.shares.items ≡ c.args.self.now.groups = ap (λ b. cond b w.lent.value.items w.shares.items) (sym out) ∙ ap (λ (x : GroupTableValue). x.groups) c.self.view_is in
+    let in_is : w.group_states.items ≡ c.args.self.now.groups = ap (λ b. cond b w.lent.value.items w.group_states.items) (sym out) ∙ ap (λ (x : GroupTableValue). x.groups) c.self.view_is in
     let until = c.args.until in
     let few = c.ranges.until.fits in
-    let least : c.least.result ≡ least_moment (nexts_of (states_of w.shares.items)) = c.least.ensures ∙ ap least_moment (c.deref.ensures.value ∙ c.self.invariant.nexts out) in
-    ap (leb until) least ∙ sym (done_is until (states_of w.shares.items) (omega (arith, few))) ∙ ap (λ (gs : List GroupValue). all_done until (states_of gs)) in_is
+    let least : c.least.result ≡ least_moment (nexts_of (states_of w.group_states.items)) = c.least.ensures ∙ ap least_moment (c.deref.ensures.value ∙ c.self.invariant.nexts out) in
+    ap (leb until) least ∙ sym (done_is until (states_of w.group_states.items) (omega (arith, few))) ∙ ap (λ (gs : List GroupValue). all_done until (states_of gs)) in_is

@@ -15,11 +15,11 @@ invariant_of-self-2 c =
     let out : w.out ≡ false = ap (λ (x : GroupTableValue). x.out) c.self.view_is ∙ c.requires.inside in
     let is = c.self.invariant in
     let n = c.args.position + c.args.count in
-    let now = with_items w.shares c.gather.new.shares in
-    let given : c.gather.new.shares ≡ map (cleared n) w.shares.items = c.in_ok-gather.ensures.shares ∙ ap (map (cleared n)) c.deref_mut.ensures.value in
-    let size : length c.gather.new.shares ≡ length w.shares.items = ap length given ∙ length-map w.shares.items (cleared n) in
-    let items : now.items ≡ map (cleared n) w.shares.items = with_items_is w.shares c.gather.new.shares (size ∙ sym w.shares.ok.0) ∙ given in
-    with_groups w now w.nexts w.least 0 is out (ap length items ∙ length-map w.shares.items (cleared n))
-    (is.nexts out ∙ sym (ap (λ (gs : List GroupValue). nexts_of (states_of gs)) items ∙ nexts_cleared n w.shares.items))
+    let now = with_items w.group_states c.gather.new.group_states in
+    let given : c.gather.new.group_states ≡ map (cleared n) w.group_states.items = c.in_ok-gather.ensures.group_states ∙ ap (map (cleared n)) c.deref_mut.ensures.value in
+    let size : length c.gather.new.group_states ≡ length w.group_states.items = ap length given ∙ length-map w.group_states.items (cleared n) in
+    let items : now.items ≡ map (cleared n) w.group_states.items = with_items_is w.group_states c.gather.new.group_states (size ∙ sym w.group_states.ok.0) ∙ given in
+    with_groups w now w.nexts w.least 0 is out (ap length items ∙ length-map w.group_states.items (cleared n))
+    (is.nexts out ∙ sym (ap (λ (gs : List GroupValue). nexts_of (states_of gs)) items ∙ nexts_cleared n w.group_states.items))
     is.least
-    (sym (ap (λ (gs : List GroupValue). length (all_lines (states_of gs))) items ∙ ap length (none_reported n w.shares.items)))
+    (sym (ap (λ (gs : List GroupValue). length (all_lines (states_of gs))) items ∙ ap length (none_reported n w.group_states.items)))

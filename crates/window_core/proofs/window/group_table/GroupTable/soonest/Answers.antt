@@ -11,11 +11,11 @@ pub returns-then-least-lt18446744073709551615 : goal.returns-then-least-lt184467
 returns-then-least-lt18446744073709551615 c =
     let w = c.self.inside in
     let out : w.out ≡ false = ap (λ (x : GroupTableValue). x.out) c.self.view_is ∙ c.requires in
-    let in_is : w.shares.items ≡ c.args.self.now.groups = ap (λ b. cond b w.lent.value.items w.shares.items) (sym out) ∙ ap (λ (x : GroupTableValue). x.groups) c.self.view_is in
+    let in_is : w.group_states.items ≡ c.args.self.now.groups = ap (λ b. cond b w.lent.value.items w.group_states.items) (sym out) ∙ ap (λ (x : GroupTableValue). x.groups) c.self.view_is in
     let known = c.self.invariant.least in
     let nexts = c.self.invariant.nexts out in
-    let least : c.match-self.least ≡ least_moment (nexts_of (states_of w.shares.items)) = elim c.match-self.branch [
+    let least : c.match-self.least ≡ least_moment (nexts_of (states_of w.group_states.items)) = elim c.match-self.branch [
       | in-Some b ↦ b.least-is ∙ subst (λ (o : Option ℕ). IfSome o (λ n. n ≡ least_moment w.nexts.items)) b.in-Some.is known ∙ ap least_moment nexts
       | in-None b ↦ b.least-is ∙ b.least-least.ensures ∙ ap least_moment (b.deref.ensures.value ∙ nexts)
     ] in
-    sym (soonest_is (states_of w.shares.items) c.match-self.least least c.if-least-lt18446744073709551615.true) ∙ ap (λ (gs : List GroupValue). soonest (states_of gs)) in_is
+    sym (soonest_is (states_of w.group_states.items) c.match-self.least least c.if-least-lt18446744073709551615.true) ∙ ap (λ (gs : List GroupValue). soonest (states_of gs)) in_is

@@ -1,0 +1,12 @@
+-- the net's events so far are committed and written, and the sink has not failed
+use Rattle.std.proofs.Common.{◌≡◌, ◌-◌, ◌+◌, ◌*◌, cond}
+use Rattle.window_engine.proofs.OneByOne.{IsOn}
+use Rattle.window_engine.proofs.run_state.RunState.go_singly.Given as goal
+
+abbrev pub invariant-loop-more : goal.invariant-loop-more
+invariant-loop-more g l =
+    IsOn l.bound l.fn.self l.self l.single.net l.fn.written l.written (g.S.Sink.contents l.fn.sink) (g.S.Sink.contents l.sink) × (g.S.Sink.failures l.sink ≡ g.S.Sink.failures l.fn.sink)
+
+-- each time but the last has an event
+abbrev pub decreases-loop-more : goal.decreases-loop-more
+decreases-loop-more g l = (1000000000000000 - l.single.net.position) * 2 + cond l.more 1 0

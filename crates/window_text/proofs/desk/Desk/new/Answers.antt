@@ -1,6 +1,0 @@
-use Rattle.std.proofs.Common.{rules}
-use Rattle.window_text.proofs.Desks.{starts}
-use Rattle.window_text.proofs.desk.Desk.new.Goals as goal
-
-pub vacant-requires : goal.vacant-requires
-vacant-requires c = starts _ _ _ _ (search rules)

@@ -1,6 +1,0 @@
-use Rattle.std.proofs.Common.{sym, ap, ◌∙◌}
-use Rattle.window_text.proofs.Desks.{splits}
-use Rattle.window_text.proofs.desk.Desk.split.Goals as goal
-
-pub split_seat-other-requires : goal.split_seat-other-requires
-split_seat-other-requires c = (c.ticket.view_is ∙ (c.requires ∙ sym (ap (λ d. d.table) c.self.view_is)), c.self.invariant.1, splits _ _ _ _ _)
