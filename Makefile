@@ -3,7 +3,7 @@
 # (`make test-tools` passes those that are in Python alone);
 # `make mutants` tries the mutants that stand beside the gate, `make mutants NAME=aqm` those
 # of one crate;
-# `make bench` measures the built program and writes bench/RESULTS.md (python3 and valgrind);
+# `make bench` measures the built program and writes bench/RESULTS.md and its tables in bench/csv (python3 and valgrind);
 # `make pictures` draws the pictures of README.md and docs/ (python3 and matplotlib);
 # `make page` writes the page with the simulator, out/page/tcpsim.html, of the module of the program's proof (chromium or
 # firefox-esr open it; libjs-codemirror and python3-markdown of Debian);
@@ -57,6 +57,7 @@ run:
 
 bench:
 	@python3 bench/measure.py
+	@python3 bench/tables.py
 
 pictures:
 	@[ -n '$(PYTHON)' ] || { echo 'no python3 with matplotlib: apt-get install python3-matplotlib'; exit 1; }
