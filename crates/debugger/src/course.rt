@@ -93,7 +93,8 @@ impl WindowedNet {
         };
         let until = next.saturating_add(self.slice);
         let batch = self.engine.window(hands, workers, gate, until)?;
-        self.slice = next_slice(self.slice, &batch, workers);
+        let (events, shared) = (batch.len(), batch.beside_most());
+        self.slice = next_slice(self.slice, self.slice, events, shared, workers);
         let _reached = self.engine.position();
         Ok(Some(batch))
     }

@@ -14,12 +14,12 @@ use Rattle.net_machine.specs.Run.{Reached, IsRun}
 use Rattle.window_core.specs.Batches.{BatchValue}
 use Rattle.window_core.specs.Window.{WindowValue, IsFrom, IsWindow, states_of}
 use Rattle.window_core.specs.Windows.{AreBelow, none_fired}
-use Rattle.window_engine.specs.Edges.{IsAtEdge, edge_of, reached_in}
+use Rattle.window_workers.specs.Edges.{IsAtEdge, edge_of, reached_in}
 use Rattle.window_engine.specs.Engines.{EngineValue, GoesOn, NoneBelow, Commits, window_end_by}
 use Rattle.window_engine.specs.declared.fault.EngineFault.TheVariants.{Failed}
 use Rattle.window_engine.proofs.Whole.{whole_none}
 use Rattle.window_text.proofs.Bytes.{appends_nothing}
-use Rattle.window_engine.proofs.Edge.{edge_is}
+use Rattle.window_workers.proofs.Edge.{edge_is}
 use Rattle.window_engine.proofs.Resting.{end_is}
 
 -- the net of a window, where so many events are committed

@@ -1,6 +1,5 @@
 -- A call of windows: what a window more leaves of it, and how it ends.
-use Rattle.std.proofs.Common.{◌≡◌, ◌≤◌, ◌<◌, ◌+◌, ◌^◌, ℕ, All, List, [], length, Option, None, Ok, Err, refl, sym, ap, subst, ◌∙◌, arith}
-use Rattle.std.proofs.lemmas.List.Elements.{All-nil}
+use Rattle.std.proofs.Common.{◌≡◌, ◌≤◌, ◌<◌, ◌+◌, ◌^◌, ℕ, List, [], length, Option, None, Ok, Err, refl, sym, ap, subst, ◌∙◌, arith}
 use Rattle.std.specs.Io.KnownBytes.{Appends}
 use Rattle.net_machine.specs.Run.{Reached}
 use Rattle.window_core.specs.Full.{HasTooMany}
@@ -11,22 +10,25 @@ use Rattle.window_core.specs.Windows.{AreBelow}
 use Rattle.window_engine.specs.declared.run_state.RunState.{RunState}
 use Rattle.window_engine.specs.declared.run_state.WriteFault.{WriteFault}
 use Rattle.window_engine.specs.declared.run_state.WriteFault.TheVariants.{Workers, Sink as Failing}
-use Rattle.window_engine.specs.declared.fault.EngineFault.{EngineFault}
-use Rattle.window_engine.specs.declared.fault.EngineFault.TheVariants.{CountFull, NoMemory, Sink as SinkFailed}
+use Rattle.window_engine.specs.declared.fault.EngineFault.TheVariants.{NoMemory, Sink as SinkFailed}
+use Rattle.window_workers.specs.declared.fault.WorkersFault.TheVariants as below
+use Rattle.window_workers.specs.declared.fault.WorkersFault.{WorkersFault}
+use Rattle.window_workers.specs.WindowOutcomes.{IsWorkersFault}
 use Rattle.window_engine.specs.declared.fault.Stop.{Stop}
 use Rattle.window_text.specs.declared.pending_text.PendingText.{PendingText}
 use Rattle.window_engine.specs.RunStates.{AtRest, AwaitsSink, HasGroups, IsBehind, IsOwing, IsWriting, HasEnded, Broke, CanTell, WindowsRest, Wrote, fails_after, reported_as}
-use Rattle.window_engine.specs.Edges.{IsAtEdge, edge_of, reached_in}
+use Rattle.window_workers.specs.Edges.{IsAtEdge, edge_of, reached_in}
 use Rattle.window_engine.specs.Engines.{IsStop}
 use Rattle.window_text.specs.Failures.{counted}
-use Rattle.window_engine.specs.Outcomes.{IsOfWorkers}
-use Rattle.window_text.specs.PendingText.{Fares, Owes, text_pending}
-use Rattle.window_text.specs.Parts.{IsInside, IsReady, text_of}
+use Rattle.window_engine.specs.Outcomes.{as_engine_fault}
+use Rattle.window_text.specs.Parts.{text_of}
 use Rattle.window_text.specs.Puts.{TakesFirst}
 use Rattle.window_text.specs.Text.{text_from}
 use Rattle.window_engine.proofs.Grouped.{groups_kept}
-use Rattle.window_engine.proofs.TooMany.{reported_full, workers_full}
-use Rattle.window_engine.proofs.Unwritten.{all_committed, behind_by_none, few_before, full_before, no_line, wrote_to_edge}
+use Rattle.window_engine.proofs.TooMany.{full_of, of_workers, reported_full, workers_full}
+use Rattle.window_engine.proofs.Unwritten.{all_committed, behind_by_none, few_before, full_before, wrote_to_edge}
+use Rattle.window_workers.proofs.NoLine.{no_line}
+use Rattle.window_workers.proofs.Pending.{ready_nothing}
 use Rattle.window_engine.proofs.Writing.{broke_batch, can_tell, committed, ended, fails_reported, still_fits, reported_of, wrote_batch, wrote_more, wrote_no_more, wrote_none}
 
 -- before the first window
@@ -70,14 +72,10 @@ awaits_nothing until began c pending_text written known now f g o empty lines wa
   owing =
       subst (λ (t : List ℕ). IsOwing until began c t pending_text.lines written known now) (sym (ap (text_of pending_text.text.formatters.items) empty))
       (subst (λ (n : ℕ). IsOwing until began c [] n written known now) (sym lines) o);
-  ready = record { inside = subst (All (IsInside pending_text.text.formatters.items)) (sym empty) (All-nil (IsInside pending_text.text.formatters.items)); few = (let e = ap length empty in omega (arith, e)) };
+  ready = ready_nothing pending_text.text empty;
   waits = waits;
   failures_are = same;
 }
-
--- of what is owed nothing was written yet
-pub unput : (o : PendingText) (before now : Option (List ℕ)) (f g : ℕ) → IsReady o.text → o.put ≡ None → now ≡ before → g ≡ f → Owes o before now f g
-unput o before now f g ready waits same fails = record { ready = ready; fares = subst (Fares (text_pending o) before now f g) (sym waits) (same, fails) }
 
 -- where there is no memory for a first one
 pub not_begun : (workers until : ℕ) (c : RunState) (known : Option (List ℕ)) (failures : ℕ) → AtRest c → HasEnded workers until c c (Err NoMemory) known known failures failures
@@ -86,7 +84,7 @@ not_begun workers until c known failures rest =
     record {
       rest = tt;
       has = tt;
-      commits = ended workers until net net 0 (record { state = edge_of c.window; position = c.position }) known known known (Workers NoMemory) (wrote_none until net known) (wrote_no_more until net c.position known rest.committed, tt);
+      commits = ended workers until net net 0 (record { state = edge_of c.window; position = c.position }) known known known (Workers below.NoMemory) (wrote_none until net known) (wrote_no_more until net c.position known rest.committed, tt);
       stop = tt;
       fault = (tt, λ is. absurd (cc));
       failures_are = refl;
@@ -96,7 +94,7 @@ not_begun workers until c known failures rest =
 
 -- a call has written so much, and ends by a fault in what follows
 pub broken_at : (workers until : ℕ) (began new : RunState) (net : Reached) (written : ℕ) (known now later : Option (List ℕ)) (fault : WriteFault) (f g h : ℕ) → Wrote until (reached_in began.window) net written known now → net.position ≤ 1000000000000000
-    → Broke workers until net new.position now later fault → (fault ≡ Workers CountFull → HasTooMany net) → g ≡ f → h ≡ fails_after {T = ℕ} (Err fault) g → new.groups ≡ began.groups → new.ahead ≡ began.ahead
+    → Broke workers until net new.position now later fault → (fault ≡ Workers below.CountFull → HasTooMany net) → g ≡ f → h ≡ fails_after {T = ℕ} (Err fault) g → new.groups ≡ began.groups → new.ahead ≡ began.ahead
     → HasEnded workers until began new (Err (reported_as written fault)) known later f h
 broken_at workers until began new net written known now later fault f g h wrote few broke full same fails groups ahead =
     let from = reached_in began.window in
@@ -149,7 +147,7 @@ module _ (until : ℕ) (began c : RunState) (written : ℕ) (known now : Option 
   some_fit text lines count later is many takes few = tells 1 (c.position + lines) later (Failing count) (broke_all 1 text lines count (c.position + lines) later is many refl takes few)
 
   -- the call ends by a fault in the next window
-  pub broken : (workers : ℕ) (new : RunState) (later : Option (List ℕ)) (fault : WriteFault) (f g h : ℕ) → Broke workers until w.net new.position now later fault → (fault ≡ Workers CountFull → HasTooMany w.net) → g ≡ f → h ≡ fails_after {T = ℕ} (Err fault) g
+  pub broken : (workers : ℕ) (new : RunState) (later : Option (List ℕ)) (fault : WriteFault) (f g h : ℕ) → Broke workers until w.net new.position now later fault → (fault ≡ Workers below.CountFull → HasTooMany w.net) → g ≡ f → h ≡ fails_after {T = ℕ} (Err fault) g
       → new.groups ≡ c.groups → new.ahead ≡ c.ahead → HasEnded workers until began new (Err (reported_as written fault)) known later f h
   broken workers new later fault f g h broke full same fails groups ahead =
       broken_at workers until began new w.net written known now later fault f g h w.wrote few broke full same fails (groups ∙ w.groups) (ahead ∙ w.ahead)
@@ -157,7 +155,7 @@ module _ (until : ℕ) (began c : RunState) (written : ℕ) (known now : Option 
   -- it ends for want of memory before the next window
   pub out_of_memory : (workers f g : ℕ) → g ≡ f → HasEnded workers until began c (Err NoMemory) known now f g
   out_of_memory workers f g same =
-      broken workers c now (Workers NoMemory) f g g (wrote_no_more until w.net c.position now w.behind.committed, tt) (λ is. absurd (cc)) same refl refl refl
+      broken workers c now (Workers below.NoMemory) f g g (wrote_no_more until w.net c.position now w.behind.committed, tt) (λ is. absurd (cc)) same refl refl refl
 
   -- what was left is written
   pub settled : (bytes : ℕ) (new : RunState) (later : Option (List ℕ)) → Wrote until w.net (reached_in c.window) bytes now later → new ≡ record c { position = new.position } → new.position ≡ c.position + length (merged c.sheaf).lines → WindowsRest until began new (written + bytes) known later
@@ -183,11 +181,11 @@ module _ (until : ℕ) (began c : RunState) (written : ℕ) (known now : Option 
       }
 
   -- the call ends by a fault of the workers in the next window, and the text of what was there is written
-  pub stopped_after : (workers : ℕ) (text : List ℕ) (lines count : ℕ) (new : RunState) (later : Option (List ℕ)) (fault : EngineFault) (f g h : ℕ) → text ≡ text_from c.sheaf.first (merged c.sheaf).lines → lines ≡ length (merged c.sheaf).lines → new.position ≡ c.position + lines → Appends now later text
-      → count ≡ length text → count < 2 ^ 71 → IsOfWorkers workers fault → (fault ≡ CountFull → HasTooMany (reached_in c.window)) → g ≡ f → h ≡ g → new.groups ≡ c.groups → new.ahead ≡ c.ahead → HasEnded workers until began new (Err fault) known later f h
-  stopped_after workers text lines count new later fault f g h is many at takes sized short of full same fails groups ahead =
+  pub stopped_after : (workers : ℕ) (text : List ℕ) (lines count : ℕ) (new : RunState) (later : Option (List ℕ)) (fault : WorkersFault) (f g h : ℕ) → text ≡ text_from c.sheaf.first (merged c.sheaf).lines → lines ≡ length (merged c.sheaf).lines → new.position ≡ c.position + lines → Appends now later text
+      → count ≡ length text → count < 2 ^ 71 → IsWorkersFault workers (HasTooMany (reached_in c.window)) fault → g ≡ f → h ≡ g → new.groups ≡ c.groups → new.ahead ≡ c.ahead → HasEnded workers until began new (Err (as_engine_fault fault)) known later f h
+  stopped_after workers text lines count new later fault f g h is many at takes sized short meant same fails groups ahead =
       let wrote = wrote_batch until w.net (reached_in c.window) count (merged c.sheaf) text now later w.early w.behind.gone is sized short takes in
-      broken workers new later (Workers fault) f g h (wrote_to_edge w.net c w.behind until new.position count now later (omega (arith, at, many)) wrote, of) (workers_full w.net fault (λ is. full_before w.net c w.behind (full is))) same fails groups ahead
+      broken workers new later (Workers fault) f g h (wrote_to_edge w.net c w.behind until new.position count now later (omega (arith, at, many)) wrote, of_workers workers (HasTooMany (reached_in c.window)) fault meant) (workers_full w.net fault (λ is. full_before w.net c w.behind (full_of workers (HasTooMany (reached_in c.window)) fault meant is))) same fails groups ahead
 
   -- and the sink failed in that text
   pub failed_after : (workers : ℕ) (text : List ℕ) (lines count : ℕ) (new : RunState) (later : Option (List ℕ)) (f g h : ℕ) → text ≡ text_from c.sheaf.first (merged c.sheaf).lines → lines ≡ length (merged c.sheaf).lines → new.position ≡ c.position + lines → TakesFirst count text now later

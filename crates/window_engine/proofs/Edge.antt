@@ -1,4 +1,4 @@
--- What a window at its edge stands for, and what is left below its end after a turn.
+-- What is left below a window's end after a turn.
 use Rattle.std.proofs.Common.{◌≡◌, ◌+◌, min, ℕ, zero, suc, List, [], ◌∷◌, length, true, is_none, Option, Some, None, refl, sym, ap, subst, ◌∙◌, map, cond, false, Bool}
 use Rattle.std.proofs.lemmas.Bool.{and_parts}
 use Rattle.std.specs.List.{enumerate_from}
@@ -11,7 +11,6 @@ use Rattle.table_run.specs.State.{State, due, run}
 use Rattle.table_run.proofs.Runs.{run_length}
 use Rattle.window_core.specs.Groups.{GroupState, group_at, up_to as group_up_to, fires}
 use Rattle.window_core.specs.Partition.{group_in}
-use Rattle.window_core.specs.Standing.{Stands, joined}
 use Rattle.window_core.specs.Batches.{BatchValue}
 use Rattle.window_core.specs.Window.{WindowValue, IsFrom, IsWindow, HasGoneOn, HasTurned, states_of, machine_of, setting_in}
 use Rattle.window_core.specs.Windows.{Setting, WindowState, AreBelow, Turn, all_done, none_fired, in_order, all_lines, all_held, groups_delivered, delivered_to, opened, moved, window_end, setting_of}
@@ -22,27 +21,13 @@ use Rattle.window_law.proofs.Brought.{Done, Comes, window}
 use Rattle.window_law.proofs.Tidy.{Tidy, run_tidy}
 use Rattle.window_law.proofs.Turn.{lines_of_all}
 use Rattle.window_law.proofs.Fair.{maker_of, every_run_is_fair}
-use Rattle.window_law.proofs.Calls.{nothing_due, below_end, initial_matches, unfired_stand}
+use Rattle.window_law.proofs.Calls.{nothing_due, below_end, initial_matches}
 use Rattle.window_law.proofs.EveryRun.{same_end}
-use Rattle.window_law.proofs.Joined.{joined_is_the_state}
 use Rattle.window_core.specs.Lookahead.{lookahead}
-use Rattle.window_engine.specs.Edges.{IsAtEdge, StaysNet, nodes_in, edge_of, reached_in}
-use Rattle.window_engine.specs.Laid.{IsDoneBy}
+use Rattle.window_workers.specs.Edges.{IsAtEdge, StaysNet, edge_of, reached_in}
+use Rattle.window_workers.specs.Laid.{IsDoneBy}
 use Rattle.window_engine.specs.Engines.{GoesOn, NoneBelow}
-
--- the groups hold the state at which the window opened, while none has fired
-pub stands_at : (v : WindowValue) (edge : State) → IsFrom edge v → none_fired (states_of v.groups) ≡ true → Stands (group_in v.entries) edge (states_of v.groups)
-stands_at v edge f none = unfired_stand (setting_of (group_in v.entries) f.scenario) edge (machine_of v) f.in_run.is_open none
-
--- and are it together
-pub edge_is : (v : WindowValue) (edge : State) → IsFrom edge v → none_fired (states_of v.groups) ≡ true → edge_of v ≡ edge
-edge_is v edge f none =
-    let st = stands_at v edge f none in
-    let ends : v.end ≡ edge.end = f.end_is ∙ sym (same_end f.scenario v.position f.before edge f.in_run.comes) in
-    let many : nodes_in v ≡ length edge.parts = st.sizes 0 in
-    ap (λ n. joined (group_in v.entries) n v.end (states_of v.groups)) many
-    ∙ ap (λ e. joined (group_in v.entries) (length edge.parts) e (states_of v.groups)) ends
-    ∙ joined_is_the_state (group_in v.entries) edge (states_of v.groups) st
+use Rattle.window_workers.proofs.Edge.{edge_is}
 
 none_is : {A : Type 0} (o : Option A) → is_none o ≡ true → o ≡ None
 none_is None e = refl

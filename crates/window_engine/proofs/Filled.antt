@@ -9,11 +9,14 @@ use Rattle.tournament.proofs.Maps.{same_some}
 use Rattle.window_core.specs.Batches.{BatchValue}
 use Rattle.window_core.specs.Lookahead.{lesser, lookahead}
 use Rattle.window_core.specs.Partition.{group_in}
-use Rattle.window_core.specs.Window.{WindowValue, IsWindow}
-use Rattle.window_core.specs.Windows.{sum_of, at_most}
-use Rattle.window_engine.specs.Edges.{IsAtEdge, edge_of, reached_in}
+use Rattle.window_core.specs.Window.{WindowValue, IsFrom, IsWindow, HasGoneOn, HasTurned}
+use Rattle.window_core.specs.Windows.{AreBelow, sum_of, at_most}
+use Rattle.window_workers.specs.Laid.{IsDoneBy}
+use Rattle.window_workers.specs.Edges.{IsAtEdge, edge_of, reached_in}
 use Rattle.window_engine.specs.Engines.{GoesOn, IsNext, NoneBelow, net_up_to}
-use Rattle.window_engine.proofs.Laying.{All-first, All-rest}
+use Rattle.window_workers.proofs.Laying.{All-first, All-rest}
+use Rattle.window_engine.specs.RunStates.{IsTurnedBy}
+use Rattle.window_engine.proofs.Edge.{left_none, turned_below, turned_edge, went_on}
 use Rattle.window_engine.proofs.Resting.{end_is, some_due}
 
 -- a delay is not nothing, where there is one
@@ -59,3 +62,16 @@ has_line v until time batch new at is gone none next =
     let ends : v.until ≡ at_most (sum_of (Some time) v.ahead) v.end = end_is v at is ∙ ap (λ o. at_most (sum_of o v.ahead) v.end) next.least in
     let before : time < min v.until until = subst (λ e. time < min e until) (sym ends) inside in
     some_line (edge_of v) new.state batch.lines (min v.until until) time gone.is_run record { least = next.least; within = before; below = before } none
+
+-- a window whose groups are done by the moment was turned
+pub turned_by : (v w u : WindowValue) (until : ℕ) (batch : BatchValue) → IsAtEdge v → IsWindow v → IsDoneBy until v w → HasTurned w batch u → ((edge : State) → IsFrom edge w → HasGoneOn edge batch.lines u) → AreBelow w.until batch.lines → IsTurnedBy until v batch u
+turned_by v w u until batch at is done has gone below =
+    let on = went_on v w u until batch at is done has gone below in
+    let none = left_none v w u until batch at is done has gone below in
+    record {
+      edge = turned_edge w u batch done.inside has;
+      gone = on;
+      none_left = none;
+      early = turned_below v w u until batch at is done has gone below;
+      some = λ time next. has_line v until time batch (reached_in u) at is on none next;
+    }

@@ -16,10 +16,10 @@ use Rattle.window_core.specs.Window.{WindowValue, IsFrom, states_of}
 use Rattle.window_core.specs.Windows.{none_fired}
 use Rattle.window_engine.specs.declared.run_state.RunState.{RunState}
 use Rattle.window_engine.specs.RunStates.{AtRest, HasGroups, IsApart, RunsIn}
-use Rattle.window_engine.specs.Edges.{IsAtEdge, StaysNet, edge_of, reached_in}
+use Rattle.window_workers.specs.Edges.{IsAtEdge, StaysNet, edge_of, reached_in}
 use Rattle.window_engine.specs.Engines.{GoesOn}
 use Rattle.window_engine.proofs.Between.{net_is, opened_net}
-use Rattle.window_engine.proofs.Edge.{edge_is}
+use Rattle.window_workers.proofs.Edge.{edge_is}
 
 -- a state of a scenario's run has its nodes
 pub nodes_at : (p : ScenarioParts) (n : ℕ) (before : List TraceLine) (s : State) → IsScenario p → ComesTo p n before s → length s.parts ≡ length p.nodes

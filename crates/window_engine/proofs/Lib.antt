@@ -1,8 +1,5 @@
-pub mod Gathering
-pub mod Full
 pub mod Edge
 pub mod Soonest
-pub mod Laying
 pub mod Resting
 pub mod Whole
 pub mod Writing
@@ -13,5 +10,3 @@ pub mod Filled
 pub mod Grouped
 pub mod Called
 pub mod OneByOne
-pub mod Meant
-pub mod PoolSent

@@ -23,10 +23,10 @@ use Rattle.window_core.specs.Windows.{AreBelow}
 use Rattle.window_engine.specs.declared.run_state.RunState.{RunState}
 use Rattle.window_engine.specs.declared.run_state.WriteFault.{WriteFault}
 use Rattle.window_engine.specs.declared.run_state.WriteFault.TheVariants.{Workers}
-use Rattle.window_engine.specs.declared.fault.EngineFault.TheVariants.{CountFull}
+use Rattle.window_workers.specs.declared.fault.WorkersFault.TheVariants.{CountFull}
 use Rattle.window_engine.specs.declared.granularity.Granularity.{Granularity}
 use Rattle.window_engine.specs.RunStates.{AtRest, HasEnded, IsApart, WindowsRest, RunsIn, Broke, CanTell, Wrote, WroteFirst, fails_after, reported_as}
-use Rattle.window_engine.specs.Edges.{IsAtEdge, edge_of, reached_in}
+use Rattle.window_workers.specs.Edges.{IsAtEdge, edge_of, reached_in}
 use Rattle.window_engine.specs.Engines.{GoesOn}
 use Rattle.window_text.specs.Puts.{TakesFirst}
 use Rattle.window_engine.specs.Singly.{CanStop, HasGone, IsBefore, IsGoing, IsPaged, key_of}

@@ -9,9 +9,9 @@ use Rattle.table_run.specs.State.{State, below, due}
 use Rattle.window_core.specs.Partition.{group_in}
 use Rattle.window_core.specs.Window.{WindowValue, IsWindow, states_of}
 use Rattle.window_core.specs.Windows.{soonest, sum_of, at_most}
-use Rattle.window_engine.specs.Edges.{IsAtEdge, edge_of}
+use Rattle.window_workers.specs.Edges.{IsAtEdge, edge_of}
 use Rattle.window_engine.specs.Engines.{NoneBelow, next_time}
-use Rattle.window_engine.proofs.Edge.{stands_at, edge_is}
+use Rattle.window_workers.proofs.Edge.{stands_at, edge_is}
 use Rattle.window_engine.proofs.Soonest.{soonest_is}
 
 abbrev time_of : Option (Key × Event) → Option ℕ

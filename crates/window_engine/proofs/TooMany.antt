@@ -1,58 +1,23 @@
--- Where the workers' fault is that the count is full, the run has more events than there may be.
-use Rattle.std.proofs.Common.{◌≡◌, ◌≤◌, ◌<◌, ◌+◌, ◌-◌, ◌++◌, ℕ, List, length, map, Option, sym, ap, subst, ◌∙◌, arith, Some}
-use Rattle.std.proofs.lemmas.List.{length-map}
-use Rattle.std.proofs.lemmas.Option.{slice_get_within}
-use Rattle.node_group.specs.declared.group.GroupFault.TheVariants as group
+-- Where the fault is that the count is full, the run has more events than there may be.
+use Rattle.std.proofs.Common.{◌≡◌, ◌≤◌, ◌+◌, ◌-◌, ◌++◌, ℕ, List, length, Option, ap, ◌∙◌, arith, refl, Some}
 use Rattle.table_run.specs.State.{State, run}
 use Rattle.table_run.proofs.Runs.{run_add}
 use Rattle.node_core.specs.TraceLine.{TraceLine}
 use Rattle.net_machine.specs.Run.{Reached}
-use Rattle.window_core.specs.GroupFaults.{IsFaultAt}
-use Rattle.window_core.specs.Full.{HasTooMany, RunsTooLong, initial_at}
-use Rattle.window_core.specs.Group.{GroupValue, AfterFirings}
-use Rattle.window_core.specs.Window.{WindowValue, IsFrom, IsWindow, value_at}
-use Rattle.window_core.proofs.TooMany.{full_group_has_too_many}
-use Rattle.work_board.specs.Pieces.{PieceState}
+use Rattle.window_core.specs.Full.{HasTooMany, RunsTooLong}
+use Rattle.window_core.specs.Window.{WindowValue, IsWindow}
+use Rattle.window_workers.specs.declared.fault.WorkersFault.{WorkersFault}
+use Rattle.window_workers.specs.declared.fault.WorkersFault.TheVariants as below
+use Rattle.window_workers.specs.Edges.{IsAtEdge, reached_in}
+use Rattle.window_workers.specs.Laid.{IsDoneBy}
+use Rattle.window_workers.specs.WindowOutcomes.{IsWorkersFault}
+use Rattle.window_workers.proofs.TooMany.{at_edge}
 use Rattle.window_engine.specs.declared.fault.EngineFault.{EngineFault}
-use Rattle.window_engine.specs.declared.fault.EngineFault.TheVariants.{CountFull, Failed}
+use Rattle.window_engine.specs.declared.fault.EngineFault.TheVariants.{CountFull}
 use Rattle.window_engine.specs.declared.run_state.WriteFault.{WriteFault}
 use Rattle.window_engine.specs.declared.run_state.WriteFault.TheVariants.{Workers, Sink as Failing}
+use Rattle.window_engine.specs.Outcomes.{IsOfWorkers, as_engine_fault}
 use Rattle.window_engine.specs.RunStates.{Wrote, reported_as}
-use Rattle.window_engine.specs.Edges.{IsAtEdge, edge_of, reached_in}
-use Rattle.window_engine.specs.Laid.{laid_for, HasFullGroup, IsDoneBy}
-use Rattle.window_engine.specs.Outcomes.{SomeLaidFull}
-use Rattle.window_engine.proofs.Edge.{edge_is}
-use Rattle.window_engine.proofs.Laying.{laid_at}
-
--- what holds of the state at which a window opened holds of its edge
-at_edge : (v w : WindowValue) (is : IsWindow v) → IsAtEdge v → w.position ≡ v.position → HasTooMany (initial_at is.edge w) → HasTooMany (reached_in v)
-at_edge v w is at position many =
-    let state : is.edge ≡ edge_of v = sym (edge_is v is.edge is.from at.unfired) in
-    subst (λ (s : State). HasTooMany (record { state = s; position = v.position })) state
-    (subst (λ (n : ℕ). HasTooMany (record { state = is.edge; position = n })) position many)
-
--- a piece of a window's groups is full
-pub pieces_full : (w : WindowValue) (end : ℕ) (lent : List GroupValue) (laid : List PieceState) → lent ≡ w.groups → end ≡ w.until → laid ≡ map (laid_for end) lent → SomeLaidFull laid → HasFullGroup w
-pieces_full w end lent laid lent_is ends laid_is some =
-    let p = some.piece in
-    let n = some.place in
-    let first = laid_at end lent laid laid_is n some.began.0 some.began.1 in
-    let within : n < length laid = slice_get_within laid n some.began.0 some.began.1 in
-    let many : length laid ≡ length w.groups = ap length laid_is ∙ length-map lent (laid_for end) ∙ ap length lent_is in
-    let began : p.began ≡ value_at w.groups n = some.began.2.1 ∙ ap (λ (q : PieceState). q.began) first ∙ ap (λ (l : List GroupValue). value_at l n) lent_is in
-    let same_end : p.end ≡ w.until = some.began.2.0 ∙ ap (λ (q : PieceState). q.end) first ∙ ends in
-    record {
-      number = n;
-      group = p.group;
-      within = omega (arith, within, many);
-      after = subst (λ (e : ℕ). AfterFirings e (value_at w.groups n) p.group) same_end (subst (λ (g : GroupValue). AfterFirings p.end g p.group) began some.full.after);
-      full = subst (λ (e : ℕ). IsFaultAt e p.group group.CountFull) same_end some.full.full;
-    }
-
--- a group of a window that ends by a moment is full
-pub group_full : (v w : WindowValue) → IsAtEdge v → IsWindow v → IsWindow w → ((edge : State) → IsFrom edge v → IsFrom edge w) → w.position ≡ v.position → HasFullGroup w → HasTooMany (reached_in v)
-group_full v w at is is_w from position f =
-    at_edge v w is at position (full_group_has_too_many is.edge w is_w (from is.edge is.from) f.number f.group f.within f.after w.until (omega arith) f.full)
 
 -- a turn has too many lines
 pub turn_full : (v w : WindowValue) (until : ℕ) → IsAtEdge v → IsWindow v → IsDoneBy until v w → RunsTooLong w → HasTooMany (reached_in v)
@@ -69,15 +34,31 @@ earlier_full from to lines runs at few many =
       one_due = many.one_due;
     }
 
-reported_by : WriteFault → EngineFault
+reported_by : WriteFault → WorkersFault
 reported_by (Workers fault) = fault
-reported_by (Failing count) = Failed
+reported_by (Failing count) = below.Failed
 
 -- the workers' fault is that the count is full
-pub workers_full : (at : Reached) (fault : EngineFault) → (fault ≡ CountFull → HasTooMany at) → Workers fault ≡ Workers CountFull → HasTooMany at
+pub workers_full : (at : Reached) (fault : WorkersFault) → (fault ≡ below.CountFull → HasTooMany at) → Workers fault ≡ Workers below.CountFull → HasTooMany at
 unfolding reported_by
 workers_full at fault full is = full (ap reported_by is)
 
-pub reported_full : (until : ℕ) (from to : Reached) (n written : ℕ) (a b : Option (List ℕ)) (fault : WriteFault) → Wrote until from to n a b → to.position ≤ 1000000000000000 → (fault ≡ Workers CountFull → HasTooMany to) → reported_as written fault ≡ CountFull → HasTooMany from
-reported_full until from to n written a b (Workers fault) w few full is = earlier_full from to w.lines w.is_run w.position_is few (full (ap (λ (f : EngineFault). Workers f) is))
+-- what the workers' fault means of the engine's
+pub of_workers : (workers : ℕ) (Full : Type 0) (fault : WorkersFault) → IsWorkersFault workers Full fault → IsOfWorkers workers (as_engine_fault fault)
+of_workers workers Full below.NoMemory is = tt
+of_workers workers Full below.CountFull is = tt
+of_workers workers Full below.Failed is = is
+
+pub full_of : (workers : ℕ) (Full : Type 0) (fault : WorkersFault) → IsWorkersFault workers Full fault → fault ≡ below.CountFull → Full
+full_of workers Full below.NoMemory is e = let x : ⊥ = cc in absurd x
+full_of workers Full below.CountFull is e = is
+full_of workers Full below.Failed is e = let x : ⊥ = cc in absurd x
+
+pub count_of : (fault : WorkersFault) → as_engine_fault fault ≡ CountFull → fault ≡ below.CountFull
+count_of below.NoMemory e = let x : ⊥ = cc in absurd x
+count_of below.CountFull e = refl
+count_of below.Failed e = let x : ⊥ = cc in absurd x
+
+pub reported_full : (until : ℕ) (from to : Reached) (n written : ℕ) (a b : Option (List ℕ)) (fault : WriteFault) → Wrote until from to n a b → to.position ≤ 1000000000000000 → (fault ≡ Workers below.CountFull → HasTooMany to) → reported_as written fault ≡ CountFull → HasTooMany from
+reported_full until from to n written a b (Workers fault) w few full is = earlier_full from to w.lines w.is_run w.position_is few (full (ap (λ (f : WorkersFault). Workers f) (count_of fault is)))
 reported_full until from to n written a b (Failing count) w few full is = let x : ⊥ = cc in absurd x

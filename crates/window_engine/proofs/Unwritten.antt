@@ -5,10 +5,10 @@ use Rattle.table_run.specs.State.{State, run}
 use Rattle.net_machine.specs.Run.{Reached}
 use Rattle.window_core.specs.Full.{HasTooMany}
 use Rattle.window_core.specs.Sheaves.{SheafValue, merged}
-use Rattle.line_merge.proofs.Rests.{nothing_in_order}
+use Rattle.window_workers.proofs.NoLine.{no_line}
 use Rattle.window_engine.specs.declared.run_state.RunState.{RunState}
 use Rattle.window_engine.specs.RunStates.{AtRest, IsBehind, Wrote, WroteTo}
-use Rattle.window_engine.specs.Edges.{edge_of, reached_in}
+use Rattle.window_workers.specs.Edges.{edge_of, reached_in}
 use Rattle.window_engine.specs.Engines.{AreWhole}
 use Rattle.window_engine.proofs.TooMany.{earlier_full}
 use Rattle.window_engine.proofs.Whole.{whole_none}
@@ -29,10 +29,6 @@ module _ (net : Reached) (c : RunState) (is : IsBehind net c) where
   -- those that are committed can be counted
   pub few_before : net.position ≤ 1000000000000000
   few_before = let p = is.gone.position in let q = is.few in omega (arith, p, q)
-
--- a sheaf of no list has no line
-pub no_line : (s : SheafValue) (first : ℕ) → s ≡ record { first = first; lists = [] } → (merged s).lines ≡ []
-no_line s first is = ap (λ (x : SheafValue). (merged x).lines) is ∙ nothing_in_order
 
 -- with a sheaf of no line a run state at rest is behind by none
 pub behind_by_none : (c : RunState) (s : SheafValue) → AtRest c → s ≡ record { first = c.position + 1; lists = [] } → IsBehind (reached_in c.window) (record c { sheaf = s })

@@ -9,7 +9,8 @@ use Rattle.window_core.specs.Batches.{BatchValue}
 use Rattle.window_engine.specs.declared.fault.EngineFault.{EngineFault}
 use Rattle.window_engine.specs.declared.fault.EngineFault.TheVariants.{NoMemory, CountFull, NoWorker, Sink, Failed}
 use Rattle.window_core.specs.Windows.{AreBelow}
-use Rattle.window_engine.specs.Outcomes.{IsOfRun, IsOfWorkers}
+use Rattle.window_engine.specs.Outcomes.{IsOfRun, IsOfWorkers, as_engine_fault}
+use Rattle.window_workers.specs.declared.fault.WorkersFault.TheVariants as below
 use Rattle.window_text.specs.Puts.{TakesFirst}
 use Rattle.window_text.specs.Text.{text_from}
 use Rattle.window_engine.specs.Engines.{GoesOn, Commits, SinkTakes, sink_failures}
@@ -144,7 +145,7 @@ failed until from to n count new a b c w x =
 -- where the next window wasn't written
 pub ended : {T : Type 0} (workers until : ℕ) (from to : Reached) (n : ℕ) (new : Reached) (a b c : Option (List ℕ)) (fault : WriteFault) → Wrote until from to n a b → Broke workers until to new.position b c fault
     → Commits {T = T} until from (Err (reported_as n fault)) new a c
-ended {T} workers until from to n new a b c (Workers fault) w broke = stopped {T = T} workers until from to n new a b c fault w broke.0 broke.1
+ended {T} workers until from to n new a b c (Workers fault) w broke = stopped {T = T} workers until from to n new a b c (as_engine_fault fault) w broke.0 broke.1
 ended {T} workers until from to n new a b c (Failing count) w broke = failed {T = T} until from to n count new a b c w broke
 
 -- what was written below a moment is below a later one
@@ -164,7 +165,7 @@ of_more v w (Sink written) few is = is
 pub broke_later : (v w a b : ℕ) (from : Reached) (at : ℕ) (x y : Option (List ℕ)) (fault : WriteFault) → v ≤ w → a ≤ b → Broke v a from at x y fault → Broke w b from at x y fault
 broke_later v w a b from at x y (Workers fault) few upto broke =
     let to = broke.0 in
-    (record { new = to.new; count = to.count; wrote = wrote_later a b from to.new to.count x y upto to.wrote; position_is = to.position_is }, of_more v w fault few broke.1)
+    (record { new = to.new; count = to.count; wrote = wrote_later a b from to.new to.count x y upto to.wrote; position_is = to.position_is }, of_more v w (as_engine_fault fault) few broke.1)
 broke_later v w a b from at x y (Failing count) few upto broke =
     record { lines = broke.lines; early = below_later a b broke.lines upto broke.early; state = broke.state; is_run = broke.is_run; whole = broke.whole; position_is = broke.position_is; takes = broke.takes; few = broke.few }
 
@@ -177,17 +178,15 @@ of_run workers (Sink written) is = tt
 
 -- the fault that is told is of the workers or of the sink
 pub reported_of : (workers until n : ℕ) (from : Reached) (at : ℕ) (x y : Option (List ℕ)) (fault : WriteFault) → Broke workers until from at x y fault → IsOfRun workers (reported_as n fault)
-reported_of workers until n from at x y (Workers fault) broke = of_run workers fault broke.1
+reported_of workers until n from at x y (Workers fault) broke = of_run workers (as_engine_fault fault) broke.1
 reported_of workers until n from at x y (Failing count) broke = tt
 
 -- a failure is counted once
 pub fails_reported : (T U : Type 0) (workers until written n : ℕ) (fault : WriteFault) (old new : Option (List ℕ)) (from : Reached) (at : ℕ) → Broke workers until from at old new fault
     → fails_after {T = U} (Err fault) n ≡ sink_failures {T = T} (Err (reported_as written fault)) n
-fails_reported T U workers until written n (Workers NoMemory) old new from at broke = refl
-fails_reported T U workers until written n (Workers CountFull) old new from at broke = refl
-fails_reported T U workers until written n (Workers NoWorker) old new from at broke = absurd broke.1
-fails_reported T U workers until written n (Workers Failed) old new from at broke = refl
-fails_reported T U workers until written n (Workers (Sink count)) old new from at broke = absurd broke.1
+fails_reported T U workers until written n (Workers below.NoMemory) old new from at broke = refl
+fails_reported T U workers until written n (Workers below.CountFull) old new from at broke = refl
+fails_reported T U workers until written n (Workers below.Failed) old new from at broke = refl
 fails_reported T U workers until written n (Failing count) old new from at broke = refl
 
 can_tell_of : (workers until : ℕ) (from : Reached) (at n : ℕ) (fault : WriteFault) (old new : Option (List ℕ)) → Broke workers until from at old new fault → n < 2 ^ 127 → CanTell n fault

@@ -2,7 +2,7 @@
 use Rattle.std.specs.Prelude.{◌≡◌, false}
 use Rattle.window_engine.specs.declared.engine.Engine.TheInside.{Inside}
 use Rattle.window_engine.specs.RunStates.{AtRest, HasGroups}
-use Rattle.window_engine.specs.Edges.{edge_of}
+use Rattle.window_workers.specs.Edges.{edge_of}
 use Rattle.window_engine.specs.Engines.{EngineValue}
 
 abbrev pub engine_of : Inside → EngineValue

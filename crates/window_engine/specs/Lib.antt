@@ -1,12 +1,14 @@
-pub mod Sweeps
 pub mod Outcomes
 pub mod Engines
 pub mod EngineCode
-pub mod Edges
-pub mod Laid
 pub mod RunStates
+pub mod Calls
 pub mod Singly
 pub mod EngineOf
+pub use Rattle.window_workers.specs.Edges
+pub use Rattle.window_workers.specs.Laid
+pub use Rattle.window_workers.specs.TextStates
+pub use Rattle.window_workers.specs.WindowOutcomes
 pub use Rattle.window_text.specs.Failures
 pub use Rattle.window_text.specs.Over
 pub use Rattle.window_text.specs.Puts

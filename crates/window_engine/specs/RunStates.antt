@@ -1,5 +1,5 @@
 -- The net on its way: what it is between windows, and what a window that was written leaves.
-use Rattle.std.specs.Prelude.{◌≡◌, ◌≤◌, ◌<◌, ◌+◌, ◌*◌, ◌^◌, ℕ, List, length, Option, Some, None, Result, Err, OnOk, IfOk, IfErr}
+use Rattle.std.specs.Prelude.{◌≡◌, ◌≤◌, ◌<◌, ◌+◌, ◌*◌, ◌^◌, ℕ, min, List, length, Option, Some, None, Result, Err, OnOk, IfOk, IfErr}
 use Rattle.std.specs.Io.KnownBytes.{Appends}
 use Rattle.scenario_image.specs.declared.parts.ScenarioParts.{ScenarioParts}
 use Rattle.scenario_image.specs.Scenario.{IsScenario}
@@ -7,6 +7,7 @@ use Rattle.node_core.specs.TraceLine.{TraceLine}
 use Rattle.table_run.specs.State.{State, run}
 use Rattle.table_run.specs.Laws.{ComesTo}
 use Rattle.net_machine.specs.Run.{Reached}
+use Rattle.window_core.specs.Batches.{BatchValue}
 use Rattle.window_core.specs.Full.{HasTooMany}
 use Rattle.window_core.specs.Lookahead.{lookahead}
 use Rattle.window_core.specs.Partition.{group_in, groups_of}
@@ -22,10 +23,10 @@ use Rattle.window_engine.specs.declared.fault.Stop.{Stop}
 use Rattle.window_text.specs.declared.pending_text.PendingText.{PendingText}
 use Rattle.window_engine.specs.declared.pipeline.Stage.{Stage}
 use Rattle.window_engine.specs.declared.pipeline.Stage.TheVariants.{ToShare, Ended}
-use Rattle.window_engine.specs.Edges.{IsAtEdge, edge_of, reached_in}
-use Rattle.window_engine.specs.Engines.{AreWhole, Commits, GoesOn, IsStop, sink_failures}
+use Rattle.window_workers.specs.Edges.{IsAtEdge, edge_of, reached_in}
+use Rattle.window_engine.specs.Engines.{AreWhole, Commits, GoesOn, IsNext, IsStop, NoneBelow, sink_failures}
 use Rattle.window_text.specs.Failures.{counted}
-use Rattle.window_engine.specs.Outcomes.{IsOfWorkers, IsRunFault}
+use Rattle.window_engine.specs.Outcomes.{IsOfWorkers, IsRunFault, as_engine_fault}
 use Rattle.window_text.specs.PendingText.{text_pending}
 use Rattle.window_text.specs.Parts.{IsReady}
 use Rattle.window_text.specs.Puts.{TakesFirst}
@@ -66,6 +67,14 @@ pub record IsBehind (net : Reached) (c : RunState) : Type 0 where
   pub end : c.end ≡ c.window.end
   pub groups : groups_of c.window.entries ≤ 64
 
+-- a window was run up to its end or a bound, and turned: its lines are the run's next ones, and where an event was there, it has one
+pub record IsTurnedBy (until : ℕ) (old : WindowValue) (batch : BatchValue) (new : WindowValue) : Type 0 where
+  pub edge : IsAtEdge new
+  pub gone : GoesOn (reached_in old) batch (reached_in new)
+  pub none_left : NoneBelow (min old.until until) (edge_of new)
+  pub early : AreBelow (min old.until until) batch.lines
+  pub some : (time : ℕ) → IsNext until (edge_of old) time → 0 < length batch.lines
+
 -- lines of whole windows were committed, each of an event below a moment, and the sink took all their text, so many bytes
 pub record Wrote (until : ℕ) (old new : Reached) (count : ℕ) (before after : Option (List ℕ)) : Type 0 where
   pub lines : List TraceLine
@@ -97,7 +106,7 @@ pub record WroteTo (until : ℕ) (old : Reached) (position : ℕ) (before after 
 
 -- what a fault of so many workers leaves, or one of the sink: where workers failed, all lines that were committed were written
 abbrev pub Broke : ℕ → ℕ → Reached → ℕ → Option (List ℕ) → Option (List ℕ) → WriteFault → Type 0
-Broke workers until old position before after (Workers fault) = WroteTo until old position before after × IsOfWorkers workers fault
+Broke workers until old position before after (Workers fault) = WroteTo until old position before after × IsOfWorkers workers (as_engine_fault fault)
 Broke workers until old position before after (Sink count) = WroteFirst until old position count before after
 
 -- the sink's count of failures after a window
@@ -112,7 +121,7 @@ CanTell written (Sink count) = written + count < 2 ^ 128
 
 -- the fault of a call in which earlier windows wrote so many bytes
 abbrev pub reported_as : ℕ → WriteFault → EngineFault
-reported_as written (Workers fault) = fault
+reported_as written (Workers fault) = as_engine_fault fault
 reported_as written (Sink count) = SinkFailed (written + count)
 
 -- a call's windows so far, from a run state on: all but the last are written, so many bytes of a text, and the sheaf has the lines of the last, whose events are not committed

@@ -3,12 +3,11 @@ ghost use Rattle.std.specs.Prelude.{◌≡◌, [], None, IfOk};
 
 use crate::run_state::RunState;
 use crate::slice::FIRST_SLICE;
-use crate::window_workers::WindowWorkers;
 use sim_time::Time;
 use std::alloc::{AllocError, Global};
 use std::snapshot::Snapshot;
 use window_core::Window;
-use window_text::{PendingText, Text};
+use window_workers::{TextState, WindowWorkers};
 
 /// How a call began.
 #[derive(Drop)]
@@ -25,36 +24,30 @@ pub(crate) struct Call<'a, S> {
 
 /// How far a call is.
 #[derive(Drop)]
-pub struct Writing<S> {
-    /// Memory for the text of the last window's lines.
-    pub(crate) text: Text,
-    /// The text of the window before the last.
-    pub(crate) pending_text: PendingText,
+pub(crate) struct Writing<S> {
+    /// The text of its windows.
+    pub texts: TextState<S>,
     /// How long the next window may be, in nanoseconds.
-    pub(crate) slice: Time,
+    pub slice: Time,
     /// How many bytes were written.
-    pub(crate) written: u128,
-    /// The sink before any of the pending text was written, for clauses alone.
-    pub(crate) before: Snapshot<S>,
+    pub written: u128,
     /// The window before it is run, for clauses alone.
-    pub(crate) window: Snapshot<Window>,
+    pub window: Snapshot<Window>,
 }
 
 impl<S> Writing<S> {
     /// Nothing was written yet.
     pub(crate) fn new(alloc: Global, window: &Window, sink: &S) -> Result<Writing<S>, AllocError>
-        ensures empty { IfOk result (λ writing. writing.pending_text.text.places.items ≡ []) }
-        ensures lines { IfOk result (λ writing. writing.pending_text.lines ≡ 0) }
-        ensures waits { IfOk result (λ writing. writing.pending_text.put ≡ None) }
+        ensures empty { IfOk result (λ writing. writing.texts.pending_text.text.places.items ≡ []) }
+        ensures lines { IfOk result (λ writing. writing.texts.pending_text.lines ≡ 0) }
+        ensures waits { IfOk result (λ writing. writing.texts.pending_text.put ≡ None) }
         ensures written { IfOk result (λ writing. writing.written ≡ 0) }
-        ensures before { IfOk result (λ writing. writing.before.value ≡ sink.now) }
+        ensures before { IfOk result (λ writing. writing.texts.before.value ≡ sink.now) }
     {
         Ok(Writing {
-            text: Text::new(alloc)?,
-            pending_text: PendingText::new(alloc)?,
+            texts: TextState::new(alloc, sink)?,
             slice: FIRST_SLICE,
             written: 0,
-            before: Snapshot::of(sink),
             window: Snapshot::of(window),
         })
     }

@@ -1,5 +1,5 @@
 //! The engine: a scenario's run by windows on many workers.
-ghost use Rattle.std.specs.Prelude.{◌≡◌, ◌≢◌, ◌<◌, ◌≤◌, ℕ, List, length, true, false, is_err, IfErr, IfOk, IfSome, OnOk, OnErr, None, Some, Err};
+ghost use Rattle.std.specs.Prelude.{◌≡◌, ◌<◌, ◌≤◌, ℕ, List, length, true, false, is_err, IfErr, IfOk, IfSome, OnOk, OnErr, None, Some, Err};
 ghost use Rattle.scenario_image.specs.declared.parts.ScenarioParts.{ScenarioParts};
 ghost use Rattle.scenario_image.specs.Scenario.{IsScenario};
 ghost use Rattle.node_core.specs.TraceLine.{TraceLine};
@@ -14,12 +14,9 @@ ghost use Rattle.window_engine.specs.Outcomes.{IsOfRun, IsOfWorkers};
 ghost use Rattle.window_engine.specs.Engines.{GoesOn, NoneBelow, Commits, IsNext, IsStop, next_time, window_end_by, sink_failures};
 
 use crate::advance::finish;
-use crate::fault::{EngineFault, Stop};
-use crate::gate::Gate;
+use crate::fault::{EngineFault, Stop, engine_fault};
 use crate::granularity::Granularity;
 use crate::run_state::RunState;
-use crate::several::Hands;
-use crate::window_workers::WindowWorkers;
 use net_machine::Net;
 use scenario_image::Scenario;
 use sim_time::Time;
@@ -28,6 +25,7 @@ use std::marker::Model;
 use std::snapshot::Snapshot;
 use window_core::{Batch, Partition, Sheaf, Window};
 use window_text::Sink;
+use window_workers::{Gate, Hands, WindowWorkers};
 
 /// A scenario's run by windows on many workers. After a fault each call answers `Failed`.
 #[derive(Drop)]
@@ -208,7 +206,7 @@ impl Engine {
             Ok(()) => {}
             Err(fault) => {
                 self.failed = true;
-                return Err(fault);
+                return Err(engine_fault(fault));
             }
         }
         self.run_state.position = self.run_state.window.position();

@@ -1,9 +1,9 @@
 //! How the engine's calls end.
 ghost use Rattle.std.specs.Prelude.{◌≡◌};
-ghost use Rattle.window_engine.specs.Outcomes.{as_fault};
+ghost use Rattle.window_engine.specs.Outcomes.{as_engine_fault};
 
 use std::alloc::AllocError;
-use window_core::GroupFault;
+use window_workers::WorkersFault;
 
 /// Why windows were not run, or not written. Each later call answers `Failed`.
 #[derive(Clone, Copy, PartialEq, Eq, Debug, Drop)]
@@ -34,13 +34,14 @@ impl From<AllocError> for EngineFault {
     }
 }
 
-/// A group's fault as the engine tells it.
-pub(crate) fn group_fault(fault: GroupFault) -> EngineFault
-    ensures { result ≡ as_fault fault }
+/// The workers' fault as the engine tells it.
+pub(crate) fn engine_fault(fault: WorkersFault) -> EngineFault
+    ensures { result ≡ as_engine_fault fault }
 {
     match fault {
-        GroupFault::NoMemory => EngineFault::NoMemory,
-        GroupFault::CountFull => EngineFault::CountFull,
+        WorkersFault::NoMemory => EngineFault::NoMemory,
+        WorkersFault::CountFull => EngineFault::CountFull,
+        WorkersFault::Failed => EngineFault::Failed,
     }
 }
 

@@ -3,8 +3,8 @@
 //! late, since the calling thread then runs all groups by itself.
 ghost use Rattle.std.specs.Prelude.{◌≡◌};
 
-use crate::slice::WORTH;
 use window_text::TextFormatter;
+use window_workers::WORTH;
 
 /// Over how many windows it is asked how many events they hold.
 const LOOK: u64 = 32;

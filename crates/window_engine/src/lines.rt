@@ -1,7 +1,7 @@
 //! What a window's lines go to: a sheaf, where they stay group by group, or a batch, which has them in
 //! the order of their keys.
-use crate::fault::EngineFault;
 use window_core::{Batch, Sheaf, TurnFault, Window};
+use window_workers::WorkersFault;
 
 /// What a window's lines go to.
 pub(crate) trait LineTarget {
@@ -11,8 +11,8 @@ pub(crate) trait LineTarget {
     ghost use Rattle.window_core.specs.Full.{RunsTooLong};
     ghost use Rattle.window_core.specs.Window.{IsFrom, HasGoneOn, HasTurned, states_of};
     ghost use Rattle.window_core.specs.Windows.{AreBelow, all_done};
-    ghost use Rattle.window_engine.specs.Edges.{StaysNet};
-    ghost use Rattle.window_engine.specs.Outcomes.{IsWorkersFault};
+    ghost use Rattle.window_workers.specs.Edges.{StaysNet};
+    ghost use Rattle.window_workers.specs.WindowOutcomes.{IsWorkersFault};
 
     // The lines that it has.
     ghost reported: { Self → BatchValue };
@@ -23,7 +23,7 @@ pub(crate) trait LineTarget {
         ensures { window.new ≡ window.old };
 
     /// Turns a window whose groups are done, and then has its lines. After a fault it may be empty.
-    fn turn(&mut self, window: &mut Window) -> Result<(), EngineFault>
+    fn turn(&mut self, window: &mut Window) -> Result<(), WorkersFault>
         requires inside { window.old.out ≡ false }
         requires done { all_done window.old.until (states_of window.old.groups) ≡ true }
         ensures turned { OnOk result (HasTurned window.old (reported self.new) window.new) }
@@ -38,12 +38,12 @@ impl LineTarget for Batch {
 
     fn give_back(&mut self, _window: &mut Window) {}
 
-    fn turn(&mut self, window: &mut Window) -> Result<(), EngineFault> {
+    fn turn(&mut self, window: &mut Window) -> Result<(), WorkersFault> {
         match window.turn_into(self) {
             Ok(()) => Ok(()),
             Err(TurnFault::NotDone) => unreachable!(),
-            Err(TurnFault::NoMemory) => Err(EngineFault::NoMemory),
-            Err(TurnFault::CountFull) => Err(EngineFault::CountFull),
+            Err(TurnFault::NoMemory) => Err(WorkersFault::NoMemory),
+            Err(TurnFault::CountFull) => Err(WorkersFault::CountFull),
         }
     }
 }
@@ -57,12 +57,12 @@ impl LineTarget for Sheaf {
         window.reclaim(self);
     }
 
-    fn turn(&mut self, window: &mut Window) -> Result<(), EngineFault> {
+    fn turn(&mut self, window: &mut Window) -> Result<(), WorkersFault> {
         match window.turn_apart(self) {
             Ok(()) => Ok(()),
             Err(TurnFault::NotDone) => unreachable!(),
-            Err(TurnFault::NoMemory) => Err(EngineFault::NoMemory),
-            Err(TurnFault::CountFull) => Err(EngineFault::CountFull),
+            Err(TurnFault::NoMemory) => Err(WorkersFault::NoMemory),
+            Err(TurnFault::CountFull) => Err(WorkersFault::CountFull),
         }
     }
 }

@@ -5,28 +5,23 @@
 //! so that they do not wait for the sink.
 ghost use Rattle.std.specs.Prelude.{◌≡◌, ◌+◌, ◌<◌, ◌≤◌, ◌^◌, ℕ, [], length, true, Err, None, IfOk, IfErr, OnOk};
 ghost use Rattle.net_machine.specs.Run.{Reached};
-ghost use Rattle.window_core.specs.Full.{HasTooMany};
 ghost use Rattle.window_core.specs.Partition.{groups_of};
 ghost use Rattle.window_core.specs.Sheaves.{merged};
 ghost use Rattle.window_core.specs.Window.{IsWindow};
 ghost use Rattle.window_core.specs.Windows.{AreBelow};
-ghost use Rattle.window_engine.specs.RunStates.{AtRest, AwaitsSink, HasGroups, IsOwing, IsWriting, HasEnded, WindowsRest, StandsAt, Wrote, Broke, fails_after};
-ghost use Rattle.window_engine.specs.Edges.{IsAtEdge, StaysNet, edge_of, reached_in};
+ghost use Rattle.window_engine.specs.Calls.{HasPending, HasRested, HasWrittenAll};
+ghost use Rattle.window_engine.specs.RunStates.{AtRest, AwaitsSink, HasGroups, IsOwing, HasEnded, StandsAt, Wrote, Broke, fails_after};
+ghost use Rattle.window_workers.specs.Edges.{IsAtEdge, edge_of};
 ghost use Rattle.window_engine.specs.Engines.{GoesOn, IsNext, IsStop};
-ghost use Rattle.window_engine.specs.Laid.{HasRunOr};
-ghost use Rattle.window_engine.specs.Outcomes.{IsWorkersFault};
-ghost use Rattle.window_text.specs.PendingText.{Owes, text_pending};
-ghost use Rattle.window_text.specs.Parts.{AreRight, IsReady, IsWhole};
+ghost use Rattle.window_workers.specs.Laid.{HasRunBy};
+ghost use Rattle.window_workers.specs.TextStates.{CanMakeText, HasMadeText};
+ghost use Rattle.window_text.specs.Parts.{AreRight, IsWhole};
 
 use crate::advance::finish;
 use crate::call::{Call, Writing};
-use crate::fault::{EngineFault, Stop};
+use crate::fault::{EngineFault, Stop, engine_fault};
 use crate::granularity::Turnout;
-use crate::job::Job;
 use crate::run_state::{RunState, WindowPlan, WriteFault, reported};
-use crate::several::Hands;
-use crate::window_job::WindowJob;
-use crate::window_workers::{WindowWorkers, lacks_threads};
 use sim_time::Time;
 use std::alloc::AllocError;
 use std::mem::swap;
@@ -34,6 +29,9 @@ use std::snapshot::Snapshot;
 use thread_pool::ThreadPool;
 use window_core::Sheaf;
 use window_text::{Sink, Text};
+use window_workers::{
+    Hands, Job, TextState, WindowJob, WindowWorkers, WorkersFault, lacks_threads,
+};
 
 /// Where a call's windows stand.
 #[derive(Drop)]
@@ -68,12 +66,12 @@ impl RunState {
         ensures rest { self.new ≡ record self.old { position = self.new.position } }
         ensures wrote { IfOk result (λ bytes. (until : ℕ) (from to : Reached) → AreBelow until (merged self.old.sheaf).lines → GoesOn from (merged self.old.sheaf) to → Wrote until from to bytes (S.contents sink.old) (S.contents sink.new)) }
         ensures broke { IfErr result (λ fault. (until : ℕ) (from to : Reached) → AreBelow until (merged self.old.sheaf).lines → GoesOn from (merged self.old.sheaf) to → self.old.position ≡ from.position → Broke 1 until from self.new.position (S.contents sink.old) (S.contents sink.new) fault) }
-        ensures not_full { IfErr result (λ fault. fault ≡ WriteFault.Workers EngineFault.CountFull → ⊥) }
+        ensures not_full { IfErr result (λ fault. fault ≡ WriteFault.Workers WorkersFault.CountFull → ⊥) }
         ensures failures { S.failures sink.new ≡ fails_after result (S.failures sink.old) }
     {
         let position = self.position + self.sheaf.len() as u64;
         let Ok(()) = made else {
-            return Err(WriteFault::Workers(EngineFault::NoMemory));
+            return Err(WriteFault::Workers(WorkersFault::NoMemory));
         };
         self.position = position;
         match text.put(sink) {
@@ -89,17 +87,14 @@ impl RunState {
         writing: &mut Writing<S>,
         sink: &mut S,
     ) -> Result<(), EngineFault>
-        requires owing { IsOwing call.now.until call.now.began.value (record self.old { window = writing.old.window.value }) (text_pending writing.old.pending_text) writing.old.pending_text.lines writing.old.written (S.contents call.now.known.value) (S.contents writing.old.before.value) }
-        requires owes { Owes writing.old.pending_text (S.contents writing.old.before.value) (S.contents sink.old) (S.failures writing.old.before.value) (S.failures sink.old) }
-        requires failures { S.failures writing.old.before.value ≡ S.failures call.now.known.value }
-        ensures writing { OnOk result (IsWriting call.now.until call.now.began.value (record self.new { window = writing.new.window.value }) writing.new.written (S.contents call.now.known.value) (S.contents sink.new)) }
-        ensures failures { OnOk result (S.failures sink.new ≡ S.failures call.now.known.value) }
+        requires pending { HasPending S.contents S.failures call.now (record self.old { window = writing.old.window.value }) writing.old sink.old }
+        ensures writing { OnOk result (HasWrittenAll S.contents S.failures call.now (record self.new { window = writing.new.window.value }) writing.new.written sink.new) }
         ensures rest { self.new ≡ record self.old { position = self.new.position } }
-        ensures same { writing.new ≡ record writing.old { pending_text = writing.new.pending_text; written = writing.new.written } }
+        ensures same { writing.new ≡ record writing.old { texts = record writing.old.texts { pending_text = writing.new.texts.pending_text }; written = writing.new.written } }
         ensures ended { IfErr result (λ fault. HasEnded call.now.workers.workers call.now.until call.now.began.value self.new (Err fault) (S.contents call.now.known.value) (S.contents sink.new) (S.failures call.now.known.value) (S.failures sink.new)) }
     {
-        let put = writing.pending_text.put(&writing.before, sink);
-        self.position += writing.pending_text.lines;
+        let put = writing.texts.pending_text.put(&writing.texts.before, sink);
+        self.position += writing.texts.pending_text.lines;
         match put {
             Ok(count) => {
                 writing.written += count;
@@ -118,32 +113,29 @@ impl RunState {
         &mut self,
         call: &Call<S>,
         plan: &WindowPlan,
-        ran: Result<bool, EngineFault>,
+        ran: Result<bool, WorkersFault>,
         writing: &mut Writing<S>,
         sink: &mut S,
     ) -> Result<(), EngineFault>
-        requires writing { IsWriting call.now.until call.now.began.value (record self.old { window = writing.old.window.value }) writing.old.written (S.contents call.now.known.value) (S.contents sink.old) }
-        requires failures { S.failures sink.old ≡ S.failures call.now.known.value }
+        requires writing { HasWrittenAll S.contents S.failures call.now (record self.old { window = writing.old.window.value }) writing.old.written sink.old }
         requires is_window { IsWindow writing.old.window.value }
-        requires right { AreRight self.old.sheaf writing.old.text.formatters.items }
+        requires right { AreRight self.old.sheaf writing.old.texts.text.formatters.items }
         requires bound { plan.now.bound ≤ call.now.until }
-        requires ran { IfOk ran (λ ran. HasRunOr ran plan.now.bound writing.old.window.value self.old.window) }
-        requires stays { StaysNet writing.old.window.value self.old.window }
-        requires fault { IfErr ran (IsWorkersFault call.now.workers.workers (HasTooMany (reached_in writing.old.window.value))) }
-        ensures sink { OnOk result (sink.new ≡ sink.old) }
-        ensures owing { OnOk result (IsOwing call.now.until call.now.began.value self.new (text_pending writing.new.pending_text) writing.new.pending_text.lines writing.new.written (S.contents call.now.known.value) (S.contents sink.new)) }
-        ensures ready { OnOk result (IsReady writing.new.pending_text.text) }
-        ensures waits { OnOk result (writing.new.pending_text.put ≡ None) }
+        requires ran { HasRunBy call.now.workers.workers plan.now.bound writing.old.window.value ran self.old.window }
+        ensures owing { OnOk result (AwaitsSink call.now.until call.now.began.value self.new writing.new.texts.pending_text writing.new.written (S.contents call.now.known.value) (S.contents sink.new) (S.failures call.now.known.value) (S.failures sink.new)) }
         ensures some { OnOk result ((time : ℕ) → IsNext plan.now.bound (edge_of writing.old.window.value) time → writing.old.window.value.position < self.new.window.position) }
         ensures ended { IfErr result (λ fault. HasEnded call.now.workers.workers call.now.until call.now.began.value self.new (Err fault) (S.contents call.now.known.value) (S.contents sink.new) (S.failures call.now.known.value) (S.failures sink.new)) }
     {
-        let turnout = Turnout::of(writing.text.formatters.as_slice());
-        let Ok(()) = writing.text.complete(&self.sheaf) else {
+        let turnout = Turnout::of(writing.texts.text.formatters.as_slice());
+        let Ok(()) = writing.texts.text.complete(&self.sheaf) else {
             return Err(EngineFault::NoMemory);
         };
-        swap(&mut writing.text, &mut writing.pending_text.text);
-        writing.pending_text.lines = self.sheaf.len() as u64;
-        writing.pending_text.put = None;
+        swap(
+            &mut writing.texts.text,
+            &mut writing.texts.pending_text.text,
+        );
+        writing.texts.pending_text.lines = self.sheaf.len() as u64;
+        writing.texts.pending_text.put = None;
         match finish(
             &call.workers,
             ran,
@@ -154,9 +146,9 @@ impl RunState {
         ) {
             Ok(()) => {}
             Err(fault) => {
-                self.position += writing.pending_text.lines;
-                return match writing.pending_text.text.put(sink) {
-                    Ok(_) => Err(fault),
+                self.position += writing.texts.pending_text.lines;
+                return match writing.texts.pending_text.text.put(sink) {
+                    Ok(_) => Err(engine_fault(fault)),
                     Err(count) => Err(EngineFault::Sink {
                         written: writing.written + count,
                     }),
@@ -176,16 +168,14 @@ impl RunState {
         writing: &mut Writing<S>,
         sink: &mut S,
     ) -> Result<(), EngineFault>
-        requires writing { IsWriting call.now.until call.now.began.value self.old writing.old.written (S.contents call.now.known.value) (S.contents sink.old) }
-        requires failures { S.failures sink.old ≡ S.failures call.now.known.value }
-        ensures rests { OnOk result (WindowsRest call.now.until call.now.began.value self.new writing.new.written (S.contents call.now.known.value) (S.contents sink.new)) }
-        ensures failures { OnOk result (S.failures sink.new ≡ S.failures call.now.known.value) }
+        requires writing { HasWrittenAll S.contents S.failures call.now self.old writing.old.written sink.old }
+        ensures rests { OnOk result (HasRested S.contents S.failures call.now self.new writing.new.written sink.new) }
         ensures rest { self.new ≡ record self.old { position = self.new.position } }
         ensures ended { IfErr result (λ fault. HasEnded call.now.workers.workers call.now.until call.now.began.value self.new (Err fault) (S.contents call.now.known.value) (S.contents sink.new) (S.failures call.now.known.value) (S.failures sink.new)) }
     {
         let _reached = self.window.position();
-        let made = writing.text.make_all(&self.sheaf);
-        match self.put_made(made, &writing.text, sink) {
+        let made = writing.texts.text.make_all(&self.sheaf);
+        match self.put_made(made, &writing.texts.text, sink) {
             Ok(count) => {
                 writing.written += count;
                 Ok(())
@@ -202,8 +192,7 @@ impl RunState {
         writing: &mut Writing<S>,
         sink: &mut S,
     ) -> Result<Stop, EngineFault>
-        requires writing { IsWriting call.now.until call.now.began.value self.old writing.old.written (S.contents call.now.known.value) (S.contents sink.old) }
-        requires failures { S.failures sink.old ≡ S.failures call.now.known.value }
+        requires writing { HasWrittenAll S.contents S.failures call.now self.old writing.old.written sink.old }
         requires stop { IsStop call.now.until (edge_of self.old.window) stop }
         ensures { HasEnded call.now.workers.workers call.now.until call.now.began.value self.new result (S.contents call.now.known.value) (S.contents sink.new) (S.failures call.now.known.value) (S.failures sink.new) }
     {
@@ -220,17 +209,13 @@ impl RunState {
         writing: &mut Writing<S>,
         sink: &mut S,
     ) -> Result<(), EngineFault>
-        requires writing { IsWriting call.now.until call.now.began.value self.old writing.old.written (S.contents call.now.known.value) (S.contents sink.old) }
-        requires failures { S.failures sink.old ≡ S.failures call.now.known.value }
-        ensures writing { OnOk result (IsWriting call.now.until call.now.began.value self.new writing.new.written (S.contents call.now.known.value) (S.contents sink.new)) }
-        ensures owing { OnOk result (self.old.granularity.single ≡ true → IsOwing call.now.until call.now.began.value self.new [] 0 writing.new.written (S.contents call.now.known.value) (S.contents sink.new)) }
+        requires single { self.old.granularity.single ≡ true }
+        requires writing { HasWrittenAll S.contents S.failures call.now self.old writing.old.written sink.old }
+        ensures owing { OnOk result (IsOwing call.now.until call.now.began.value self.new [] 0 writing.new.written (S.contents call.now.known.value) (S.contents sink.new)) }
         ensures failures { OnOk result (S.failures sink.new ≡ S.failures call.now.known.value) }
         ensures on { OnOk result (self.old.window.position ≤ self.new.window.position) }
         ensures ended { IfErr result (λ fault. HasEnded call.now.workers.workers call.now.until call.now.began.value self.new (Err fault) (S.contents call.now.known.value) (S.contents sink.new) (S.failures call.now.known.value) (S.failures sink.new)) }
     {
-        if !self.granularity.is_single() {
-            return Ok(());
-        }
         match self.come_to_rest(call, writing, sink) {
             Ok(()) => {}
             Err(fault) => return Err(fault),
@@ -252,9 +237,7 @@ impl RunState {
         sink: &mut S,
     ) -> Result<Stop, EngineFault>
         requires now { writing.old.window.value ≡ self.old.window }
-        requires owing { IsOwing call.now.until call.now.began.value self.old (text_pending writing.old.pending_text) writing.old.pending_text.lines writing.old.written (S.contents call.now.known.value) (S.contents writing.old.before.value) }
-        requires owes { Owes writing.old.pending_text (S.contents writing.old.before.value) (S.contents sink.old) (S.failures writing.old.before.value) (S.failures sink.old) }
-        requires failures { S.failures writing.old.before.value ≡ S.failures call.now.known.value }
+        requires pending { HasPending S.contents S.failures call.now self.old writing.old sink.old }
         requires stop { IsStop call.now.until (edge_of self.old.window) stop }
         ensures { HasEnded call.now.workers.workers call.now.until call.now.began.value self.new result (S.contents call.now.known.value) (S.contents sink.new) (S.failures call.now.known.value) (S.failures sink.new) }
     {
@@ -269,8 +252,8 @@ impl RunState {
         writing: &mut Writing<S>,
         sink: &mut S,
     ) -> Result<(), EngineFault>
-        requires owing { AwaitsSink call.now.until call.now.began.value self.old writing.old.pending_text writing.old.written (S.contents call.now.known.value) (S.contents sink.old) (S.failures call.now.known.value) (S.failures sink.old) }
-        ensures owing { OnOk result (AwaitsSink call.now.until call.now.began.value self.new writing.new.pending_text writing.new.written (S.contents call.now.known.value) (S.contents sink.new) (S.failures call.now.known.value) (S.failures sink.new)) }
+        requires owing { AwaitsSink call.now.until call.now.began.value self.old writing.old.texts.pending_text writing.old.written (S.contents call.now.known.value) (S.contents sink.old) (S.failures call.now.known.value) (S.failures sink.old) }
+        ensures owing { OnOk result (AwaitsSink call.now.until call.now.began.value self.new writing.new.texts.pending_text writing.new.written (S.contents call.now.known.value) (S.contents sink.new) (S.failures call.now.known.value) (S.failures sink.new)) }
         ensures on { OnOk result (self.old.window.position ≤ self.new.window.position) }
         ensures ended { IfErr result (λ fault. HasEnded call.now.workers.workers call.now.until call.now.began.value self.new (Err fault) (S.contents call.now.known.value) (S.contents sink.new) (S.failures call.now.known.value) (S.failures sink.new)) }
     {
@@ -278,7 +261,7 @@ impl RunState {
             return Ok(());
         }
         let (before, now) = (Snapshot::of(sink), Snapshot::of(&self.window));
-        writing.before = before;
+        writing.texts.before = before;
         writing.window = now;
         match self.settle(call, writing, sink) {
             Ok(()) => {}
@@ -288,7 +271,7 @@ impl RunState {
             Ok(()) => {}
             Err(fault) => return Err(fault),
         }
-        writing.pending_text.forget();
+        writing.texts.pending_text.forget();
         Ok(())
     }
 
@@ -300,23 +283,16 @@ impl RunState {
         team: &Team<H>,
         call: &Call<S>,
         plan: &WindowPlan,
-        writing: &mut Writing<S>,
+        texts: &mut TextState<S>,
         sink: &mut S,
-    ) -> Result<bool, EngineFault>
+    ) -> Result<bool, WorkersFault>
         requires workers { plan.now.workers ≤ call.now.workers.workers }
         requires edge { IsAtEdge self.old.window }
         requires few { groups_of self.old.window.entries ≤ 64 }
-        requires right { AreRight self.old.sheaf writing.old.text.formatters.items }
-        requires fits { self.old.sheaf.first + length (merged self.old.sheaf).lines < 2 ^ 63 }
-        requires owes { Owes writing.old.pending_text (S.contents writing.old.before.value) (S.contents sink.old) (S.failures writing.old.before.value) (S.failures sink.old) }
-        ensures ran { IfOk result (λ ran. HasRunOr ran plan.now.bound self.old.window self.new.window) }
-        ensures stays { StaysNet self.old.window self.new.window }
-        ensures fault { IfErr result (IsWorkersFault call.now.workers.workers (HasTooMany (reached_in self.old.window))) }
+        requires texts { CanMakeText S.contents S.failures self.old.sheaf texts.old sink.old }
+        ensures ran { HasRunBy call.now.workers.workers plan.now.bound self.old.window result self.new.window }
         ensures run_state { self.new ≡ record self.old { window = self.new.window } }
-        ensures right { AreRight self.old.sheaf writing.new.text.formatters.items }
-        ensures owes { Owes writing.new.pending_text (S.contents writing.new.before.value) (S.contents sink.new) (S.failures writing.new.before.value) (S.failures sink.new) }
-        ensures pending { writing.new.pending_text ≡ record writing.old.pending_text { put = writing.new.pending_text.put } }
-        ensures rest { writing.new ≡ record writing.old { text = writing.new.text; pending_text = writing.new.pending_text } }
+        ensures texts { HasMadeText S.contents S.failures self.old.sheaf texts.old texts.new sink.new }
     {
         match team.pool {
             Some(pool) if plan.workers > 1 => {
@@ -328,7 +304,7 @@ impl RunState {
                     until: plan.bound,
                 };
                 team.hands
-                    .run_shared(&job, &mut self.window, &mut self.sheaf, writing, sink)
+                    .run_shared(&job, &mut self.window, &mut self.sheaf, texts, sink)
             }
             _ => Ok(false),
         }
@@ -343,8 +319,8 @@ impl RunState {
         writing: &mut Writing<S>,
         sink: &mut S,
     ) -> Stage
-        requires owing { AwaitsSink call.now.until call.now.began.value self.old writing.old.pending_text writing.old.written (S.contents call.now.known.value) (S.contents sink.old) (S.failures call.now.known.value) (S.failures sink.old) }
-        ensures stands { StandsAt call.now.workers.workers call.now.until call.now.began.value self.new writing.new.pending_text writing.new.written (S.contents call.now.known.value) (S.contents sink.new) (S.failures call.now.known.value) (S.failures sink.new) result }
+        requires owing { AwaitsSink call.now.until call.now.began.value self.old writing.old.texts.pending_text writing.old.written (S.contents call.now.known.value) (S.contents sink.old) (S.failures call.now.known.value) (S.failures sink.old) }
+        ensures stands { StandsAt call.now.workers.workers call.now.until call.now.began.value self.new writing.new.texts.pending_text writing.new.written (S.contents call.now.known.value) (S.contents sink.new) (S.failures call.now.known.value) (S.failures sink.new) result }
         ensures shared { result ≡ Stage.ToShare → team.entry.now.pool ≡ None }
     {
         loop {
@@ -353,7 +329,7 @@ impl RunState {
                 Err(fault) => return Stage::Ended(Err(fault)),
             }
             let (before, now) = (Snapshot::of(sink), Snapshot::of(&self.window));
-            writing.before = before;
+            writing.texts.before = before;
             writing.window = now;
             let plan = match self.plan(call.until, writing.slice.max(1), &call.workers) {
                 Ok(plan) => plan,
@@ -363,8 +339,8 @@ impl RunState {
                 return Stage::ToShare;
             }
             let _reached = self.window.position();
-            writing.text.clear(&self.sheaf);
-            let ran = self.share(team, call, &plan, writing, sink);
+            writing.texts.text.clear(&self.sheaf);
+            let ran = self.share(team, call, &plan, &mut writing.texts, sink);
             match self.settle(call, writing, sink) {
                 Ok(()) => {}
                 Err(fault) => return Stage::Ended(Err(fault)),
@@ -385,7 +361,7 @@ impl RunState {
         writing: &mut Writing<S>,
         sink: &mut S,
     ) -> Result<Stop, EngineFault>
-        requires owing { AwaitsSink call.now.until call.now.began.value self.old writing.old.pending_text writing.old.written (S.contents call.now.known.value) (S.contents sink.old) (S.failures call.now.known.value) (S.failures sink.old) }
+        requires owing { AwaitsSink call.now.until call.now.began.value self.old writing.old.texts.pending_text writing.old.written (S.contents call.now.known.value) (S.contents sink.old) (S.failures call.now.known.value) (S.failures sink.old) }
         ensures { HasEnded call.now.workers.workers call.now.until call.now.began.value self.new result (S.contents call.now.known.value) (S.contents sink.new) (S.failures call.now.known.value) (S.failures sink.new) }
     {
         let team = Team {
@@ -407,12 +383,12 @@ impl RunState {
         sink: &mut S,
     ) -> Result<Stop, EngineFault>
         requires ready { H.ready by.now }
-        requires owing { AwaitsSink call.now.until call.now.began.value self.old writing.old.pending_text writing.old.written (S.contents call.now.known.value) (S.contents sink.old) (S.failures call.now.known.value) (S.failures sink.old) }
+        requires owing { AwaitsSink call.now.until call.now.began.value self.old writing.old.texts.pending_text writing.old.written (S.contents call.now.known.value) (S.contents sink.old) (S.failures call.now.known.value) (S.failures sink.old) }
         ensures { HasEnded call.now.workers.workers call.now.until call.now.began.value self.new result (S.contents call.now.known.value) (S.contents sink.new) (S.failures call.now.known.value) (S.failures sink.new) }
     {
         let Ok(pool) = call.workers.pool_for(&self.window) else {
             let (before, now) = (Snapshot::of(sink), Snapshot::of(&self.window));
-            writing.before = before;
+            writing.texts.before = before;
             writing.window = now;
             self.settle(call, writing, sink)?;
             return Err(EngineFault::NoMemory);
@@ -422,7 +398,7 @@ impl RunState {
             call.workers.gate,
             pool,
             &mut || -> Result<Stop, EngineFault>
-                requires owing { AwaitsSink call.now.until call.now.began.value self.now writing.now.pending_text writing.now.written (S.contents call.now.known.value) (S.contents sink.now) (S.failures call.now.known.value) (S.failures sink.now) }
+                requires owing { AwaitsSink call.now.until call.now.began.value self.now writing.now.texts.pending_text writing.now.written (S.contents call.now.known.value) (S.contents sink.now) (S.failures call.now.known.value) (S.failures sink.now) }
                 ensures { HasEnded call.entry.now.workers.workers call.entry.now.until call.entry.now.began.value self.exit.now result (S.contents call.entry.now.known.value) (S.contents sink.exit.now) (S.failures call.entry.now.known.value) (S.failures sink.exit.now) }
             { self.write_shared(by, call, pool, writing, sink) },
         )

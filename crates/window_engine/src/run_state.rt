@@ -1,23 +1,17 @@
 //! The net on its way, with what is used again from window to window.
-ghost use Rattle.std.specs.Prelude.{◌≡◌, ◌+◌, ◌<◌, ◌≤◌, ◌^◌, ℕ, length, Some, None, IfOk, IfErr, IfSome, OnOk};
+ghost use Rattle.std.specs.Prelude.{◌≡◌, ◌+◌, ◌<◌, ◌≤◌, Some, None, IfOk, IfErr, IfSome};
 ghost use Rattle.table_run.specs.State.{due};
-ghost use Rattle.net_machine.specs.Run.{Reached};
-ghost use Rattle.window_core.specs.Full.{HasTooMany};
-ghost use Rattle.window_core.specs.Sheaves.{merged};
-ghost use Rattle.window_core.specs.Windows.{AreBelow};
-ghost use Rattle.window_engine.specs.Edges.{IsAtEdge, StaysNet, edge_of, reached_in};
-ghost use Rattle.window_engine.specs.Engines.{Commits, GoesOn, IsNext, IsStop, next_time, sink_failures};
-ghost use Rattle.window_engine.specs.RunStates.{AtRest, HasGroups, CanTell, Wrote, Broke, fails_after, reported_as};
-ghost use Rattle.window_engine.specs.Outcomes.{IsOfRun};
-ghost use Rattle.window_text.specs.Parts.{IsWhole};
+ghost use Rattle.window_workers.specs.Edges.{IsAtEdge, edge_of};
+ghost use Rattle.window_engine.specs.Engines.{IsNext, IsStop, next_time};
+ghost use Rattle.window_engine.specs.RunStates.{CanTell, reported_as};
 
-use crate::fault::{EngineFault, Stop};
+use crate::fault::{EngineFault, Stop, engine_fault};
 use crate::granularity::{Granularity, Turnout};
-use crate::slice::{aim, slice_after};
-use crate::window_workers::WindowWorkers;
+use crate::slice::next_slice;
 use sim_time::Time;
 use std::alloc::Global;
 use window_core::{Partition, Sheaf, Window};
+use window_workers::{WindowWorkers, WorkersFault};
 
 /// Of fewer events it is not asked how they lie in their window.
 const MANY: usize = 4_096;
@@ -65,7 +59,7 @@ pub(crate) struct WindowPlan {
 #[derive(Clone, Copy, Debug, Drop)]
 pub(crate) enum WriteFault {
     /// The workers' fault. Of the window that they ran no event is committed.
-    Workers(EngineFault),
+    Workers(WorkersFault),
     /// The sink failed after so many bytes of a window's text.
     Sink(u128),
 }
@@ -76,7 +70,7 @@ pub(crate) fn reported(fault: WriteFault, written: u128) -> EngineFault
     ensures { result ≡ reported_as written fault }
 {
     match fault {
-        WriteFault::Workers(fault) => fault,
+        WriteFault::Workers(fault) => engine_fault(fault),
         WriteFault::Sink(count) => EngineFault::Sink {
             written: written + count,
         },
@@ -157,10 +151,9 @@ impl RunState {
     pub(crate) fn slice_after(&self, plan: &WindowPlan, workers: usize) -> Time
         ensures { 1 ≤ result }
     {
-        let events = self.sheaf.len();
-        let shared = self.sheaf.beside_most();
-        let aim = aim(workers, events, shared);
-        slice_after(plan.span, self.busy(plan.next, plan.span), events, aim)
+        let busy = self.busy(plan.next, plan.span);
+        let (events, shared) = (self.sheaf.len(), self.sheaf.beside_most());
+        next_slice(plan.span, busy, events, shared, workers)
     }
     /// After a window, which ended by the lookahead or sooner and of whose groups threads ran so many, chooses whether
     /// the next events are run by windows: not where the last windows held few events or threads came late to them, and

@@ -4,9 +4,10 @@
 ghost use Rattle.std.specs.Prelude.{◌≡◌, ◌<◌, ◌≤◌, [], IfOk, IfErr, OnOk};
 ghost use Rattle.window_core.specs.Full.{HasTooMany};
 ghost use Rattle.window_core.specs.Partition.{groups_of};
-ghost use Rattle.window_engine.specs.RunStates.{Broke, HasEnded, IsApart, WindowsRest, RunsIn, Wrote, fails_after};
-ghost use Rattle.window_engine.specs.Edges.{IsAtEdge, reached_in};
-ghost use Rattle.window_engine.specs.Outcomes.{IsWorkersFault};
+ghost use Rattle.window_engine.specs.Calls.{HasRested};
+ghost use Rattle.window_engine.specs.RunStates.{Broke, HasEnded, IsApart, RunsIn, Wrote, fails_after};
+ghost use Rattle.window_workers.specs.Edges.{IsAtEdge, reached_in};
+ghost use Rattle.window_workers.specs.WindowOutcomes.{IsWorkersFault};
 ghost use Rattle.window_engine.specs.Singly.{HasGone};
 
 use crate::call::Call;
@@ -21,6 +22,7 @@ use std::snapshot::Snapshot;
 use trace_text::Page;
 use window_core::Window;
 use window_text::{LINE_BYTES, Sink, put_all};
+use window_workers::WorkersFault;
 
 /// After so many events their text is written, once those of the same moment are run too.
 const AT_ONCE: usize = 1_024;
@@ -117,7 +119,12 @@ impl Watch for Paging<'_> {
 
 /// Runs events of a net that are before a moment, in nanoseconds, one after another, and has their text on an empty page:
 /// about so many as are written at once, or those that are left. It ends behind the last event of some moment.
-fn run_some(net: &mut Net, line: &mut Line, page: &mut Page, until: Time) -> Result<(), EngineFault>
+fn run_some(
+    net: &mut Net,
+    line: &mut Line,
+    page: &mut Page,
+    until: Time,
+) -> Result<(), WorkersFault>
     requires empty { page.old ≡ [] }
     requires until { until ≤ net.old.state.end }
     ensures gone { OnOk result (HasGone until net.old net.new page.new) }
@@ -134,10 +141,10 @@ fn run_some(net: &mut Net, line: &mut Line, page: &mut Page, until: Time) -> Res
         refused: false,
     };
     match run_watched(net, &mut paging, line) {
-        Ok(_) if paging.refused => Err(EngineFault::NoMemory),
+        Ok(_) if paging.refused => Err(WorkersFault::NoMemory),
         Ok(_) => Ok(()),
-        Err(StepFault::CountFull) => Err(EngineFault::CountFull),
-        Err(StepFault::NoMemory) => Err(EngineFault::NoMemory),
+        Err(StepFault::CountFull) => Err(WorkersFault::CountFull),
+        Err(StepFault::NoMemory) => Err(WorkersFault::NoMemory),
     }
 }
 
@@ -176,7 +183,7 @@ impl RunState {
         ensures committed { OnOk result (self.new.position ≡ single.new.net.position) }
         ensures rest { self.new ≡ record self.old { position = self.new.position } }
         ensures broke { IfErr result (Broke 1 until single.old.net self.new.position (S.contents sink.old) (S.contents sink.new)) }
-        ensures full { IfErr result (λ fault. fault ≡ WriteFault.Workers EngineFault.CountFull → HasTooMany single.old.net) }
+        ensures full { IfErr result (λ fault. fault ≡ WriteFault.Workers WorkersFault.CountFull → HasTooMany single.old.net) }
         ensures failures { S.failures sink.new ≡ fails_after result (S.failures sink.old) }
     {
         single.page.clear();
@@ -201,10 +208,8 @@ impl RunState {
         written: &mut u128,
         sink: &mut S,
     ) -> Result<(), EngineFault>
-        requires rests { WindowsRest call.now.until call.now.began.value self.old written.old (S.contents call.now.known.value) (S.contents sink.old) }
-        requires failures { S.failures sink.old ≡ S.failures call.now.known.value }
-        ensures rests { OnOk result (WindowsRest call.now.until call.now.began.value self.new written.new (S.contents call.now.known.value) (S.contents sink.new)) }
-        ensures failures { OnOk result (S.failures sink.new ≡ S.failures call.now.known.value) }
+        requires rests { HasRested S.contents S.failures call.now self.old written.old sink.old }
+        ensures rests { OnOk result (HasRested S.contents S.failures call.now self.new written.new sink.new) }
         ensures on { OnOk result (self.old.window.position ≤ self.new.window.position) }
         ensures ended { IfErr result (λ fault. HasEnded call.now.workers.workers call.now.until call.now.began.value self.new (Err fault) (S.contents call.now.known.value) (S.contents sink.new) (S.failures call.now.known.value) (S.failures sink.new)) }
     {

@@ -1,41 +1,17 @@
 use Rattle.std.proofs.Common.{arith}
 use Rattle.window_core.specs.Full.{HasTooMany, RunsTooLong}
-use Rattle.window_engine.proofs.Meant.{meant_more}
-use Rattle.window_engine.proofs.Edge.{turned_edge, turned_stays, stays_both, turned_below, went_on, left_none}
+use Rattle.window_workers.proofs.Meant.{meant_more}
+use Rattle.window_engine.proofs.Edge.{turned_stays, stays_both}
 use Rattle.std.proofs.lemmas.Result.{err_from_is_err_and}
-use Rattle.window_engine.specs.Edges.{reached_in}
-use Rattle.window_engine.proofs.Filled.{has_line}
+use Rattle.window_workers.specs.Edges.{reached_in}
+use Rattle.window_engine.proofs.Filled.{turned_by}
 use Rattle.window_engine.proofs.TooMany.{turn_full}
 use Rattle.window_engine.proofs.advance.finish.Goals as goal
 
-pub returns-clause-edge : goal.returns-clause-edge
-returns-clause-edge g c = turned_edge c.run_rest.new.window c.turn.new.window (g.L.LineTarget.reported c.turn.new.self) c.in_ok-run_rest.ensures.done.inside c.in_ok-turn.ensures.turned
-
-pub returns-clause-gone : goal.returns-clause-gone
-returns-clause-gone g c =
-    went_on c.args.before.now.value c.run_rest.new.window c.turn.new.window c.args.until (g.L.LineTarget.reported c.turn.new.self) c.requires.edge c.requires.is_window c.in_ok-run_rest.ensures.done
-    c.in_ok-turn.ensures.turned c.in_ok-turn.ensures.run c.in_ok-turn.ensures.below
-
-pub returns-clause-early : goal.returns-clause-early
-returns-clause-early g c =
-    turned_below c.args.before.now.value c.run_rest.new.window c.turn.new.window c.args.until (g.L.LineTarget.reported c.turn.new.self) c.requires.edge c.requires.is_window c.in_ok-run_rest.ensures.done
-    c.in_ok-turn.ensures.turned c.in_ok-turn.ensures.run c.in_ok-turn.ensures.below
-
-pub returns-clause-none_left : goal.returns-clause-none_left
-returns-clause-none_left g c =
-    left_none c.args.before.now.value c.run_rest.new.window c.turn.new.window c.args.until (g.L.LineTarget.reported c.turn.new.self) c.requires.edge c.requires.is_window c.in_ok-run_rest.ensures.done
-    c.in_ok-turn.ensures.turned c.in_ok-turn.ensures.run c.in_ok-turn.ensures.below
-
-pub returns-clause-some : goal.returns-clause-some
-returns-clause-some g c time next =
-    let v = c.args.before.now.value in
-    let w = c.run_rest.new.window in
-    let u = c.turn.new.window in
-    let lines = g.L.LineTarget.reported c.turn.new.self in
+pub returns-clause-turned : goal.returns-clause-turned
+returns-clause-turned g c =
     let turned = c.in_ok-turn.ensures in
-    let done = c.in_ok-run_rest.ensures.done in
-    let is = c.requires.is_window in
-    has_line v c.args.until time lines (reached_in u) c.requires.edge is (went_on v w u c.args.until lines c.requires.edge is done turned.turned turned.run turned.below) (left_none v w u c.args.until lines c.requires.edge is done turned.turned turned.run turned.below) next
+    turned_by c.args.before.now.value c.run_rest.new.window c.turn.new.window c.args.until (g.L.LineTarget.reported c.turn.new.self) c.requires.edge c.requires.is_window c.in_ok-run_rest.ensures.done turned.turned turned.run turned.below
 
 pub returns-clause-stays : goal.returns-clause-stays
 returns-clause-stays g c =

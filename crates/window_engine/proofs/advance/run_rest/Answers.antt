@@ -2,11 +2,11 @@ use Rattle.std.proofs.Common.{ap, ◌∙◌, sym, subst, arith}
 use Rattle.std.proofs.lemmas.Result.{IfErr-weaker}
 use Rattle.window_core.specs.Full.{HasTooMany}
 use Rattle.window_core.specs.Window.{WindowValue}
-use Rattle.window_engine.specs.Edges.{IsAtEdge, reached_in}
-use Rattle.window_engine.specs.Laid.{HasFullGroup, HasRunOr}
-use Rattle.window_engine.specs.Outcomes.{IsWorkersFault}
-use Rattle.window_engine.proofs.Meant.{meant_more}
-use Rattle.window_engine.proofs.TooMany.{group_full}
+use Rattle.window_workers.specs.Edges.{IsAtEdge, reached_in}
+use Rattle.window_workers.specs.Laid.{HasFullGroup, HasRunOr}
+use Rattle.window_workers.specs.WindowOutcomes.{IsWorkersFault}
+use Rattle.window_workers.proofs.Meant.{meant_more}
+use Rattle.window_workers.proofs.TooMany.{group_full}
 use Rattle.window_engine.proofs.advance.run_rest.Goals as goal
 
 pub returns-clause-fault : goal.returns-clause-fault

@@ -8,4 +8,4 @@ returns-in-Err-CountFull-clause-fault c =
     let new = c.run_watched.new in
     let paged = c.in-Err-CountFull.ensures.watched.holds.3 c.requires.empty refl in
     let end = subst (IsStepFault new.net) c.in-Err-CountFull.field-0-is c.in-Err-CountFull.ensures.end in
-    (tt, λ _. gone_full c.args.until new.watch.last c.args.net.now new.net new.watch.page.now paged.1 end.0 end.1)
+    gone_full c.args.until new.watch.last c.args.net.now new.net new.watch.page.now paged.1 end.0 end.1

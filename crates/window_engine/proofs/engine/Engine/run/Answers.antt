@@ -2,7 +2,7 @@ use Rattle.std.proofs.Common.{◌≡◌, sym, subst, IfErr}
 use Rattle.std.proofs.lemmas.Result.{IfErr-weaker}
 use Rattle.net_machine.specs.Run.{Reached}
 use Rattle.window_core.specs.Full.{HasTooMany}
-use Rattle.window_engine.specs.Edges.{edge_of, reached_in}
+use Rattle.window_workers.specs.Edges.{edge_of, reached_in}
 use Rattle.window_engine.specs.Engines.{Commits, EngineValue}
 use Rattle.window_engine.specs.Outcomes.{IsOfRun, IsRunFault}
 use Rattle.window_engine.specs.declared.fault.EngineFault.TheVariants.{CountFull}

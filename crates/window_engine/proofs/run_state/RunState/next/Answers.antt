@@ -1,5 +1,5 @@
 use Rattle.std.proofs.Common.{◌∙◌, sym, arith}
-use Rattle.window_engine.specs.Edges.{edge_of}
+use Rattle.window_workers.specs.Edges.{edge_of}
 use Rattle.window_engine.proofs.Resting.{next_is, none_pending, none_before}
 use Rattle.window_engine.proofs.run_state.RunState.next.Goals as goal
 

@@ -12,5 +12,5 @@ returns-in_default g c =
     let known = g.S.Sink.contents a.call.now.known.value in
     let contents = g.S.Sink.contents new.sink in
     let window : new.writing.window.value ≡ new.self.window = ap (λ x. x.window.value) c.settle.ensures.same ∙ c.of-now.ensures ∙ sym (ap (λ (x : RunState). x.window) c.settle.ensures.rest) in
-    let w = subst (λ (v : WindowValue). IsWriting a.call.now.until a.call.now.began.value (record new.self { window = v }) new.writing.written known contents) window c.in_ok-settle.ensures.writing in
-    out_of_memory a.call.now.until a.call.now.began.value new.self new.writing.written known contents w a.call.now.workers.workers (g.S.Sink.failures a.call.now.known.value) (g.S.Sink.failures new.sink) c.in_ok-settle.ensures.failures
+    let w = subst (λ (v : WindowValue). IsWriting a.call.now.until a.call.now.began.value (record new.self { window = v }) new.writing.written known contents) window c.in_ok-settle.ensures.writing.writing in
+    out_of_memory a.call.now.until a.call.now.began.value new.self new.writing.written known contents w a.call.now.workers.workers (g.S.Sink.failures a.call.now.known.value) (g.S.Sink.failures new.sink) c.in_ok-settle.ensures.writing.failures_are

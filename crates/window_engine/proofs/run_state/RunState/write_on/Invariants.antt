@@ -4,7 +4,7 @@ use Rattle.window_engine.specs.RunStates.{AwaitsSink}
 use Rattle.window_engine.proofs.run_state.RunState.write_on.Given as goal
 
 abbrev pub invariant-loop-fault : goal.invariant-loop-fault
-invariant-loop-fault g l = AwaitsSink l.call.until l.call.began.value l.self l.writing.pending_text l.writing.written (g.S.Sink.contents l.call.known.value) (g.S.Sink.contents l.sink) (g.S.Sink.failures l.call.known.value) (g.S.Sink.failures l.sink)
+invariant-loop-fault g l = AwaitsSink l.call.until l.call.began.value l.self l.writing.texts.pending_text l.writing.written (g.S.Sink.contents l.call.known.value) (g.S.Sink.contents l.sink) (g.S.Sink.failures l.call.known.value) (g.S.Sink.failures l.sink)
 
 -- each window has a line
 abbrev pub decreases-loop-fault : goal.decreases-loop-fault

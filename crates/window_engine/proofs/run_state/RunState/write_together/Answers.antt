@@ -14,5 +14,5 @@ write_on-requires g c =
     let first = at_first c.args.until now known c.requires.rest c.requires.groups in
     record {
       owing = rw (c.of-began.ensures, c.of-known.ensures, none.ensures.written)
-          (awaits_nothing c.args.until now (record now { sheaf = c.new-2.result }) none.writing.pending_text 0 known known failures failures (begun_owing c.args.until now now c.new-2.result 0 known known first c.new-2.ensures) none.ensures.empty none.ensures.lines none.ensures.waits refl);
+          (awaits_nothing c.args.until now (record now { sheaf = c.new-2.result }) none.writing.texts.pending_text 0 known known failures failures (begun_owing c.args.until now now c.new-2.result 0 known known first c.new-2.ensures) none.ensures.empty none.ensures.lines none.ensures.waits refl);
     }

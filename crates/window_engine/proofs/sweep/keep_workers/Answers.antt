@@ -1,6 +1,0 @@
-use denote.Param.Send.{sendable}
-use Rattle.window_engine.proofs.PoolSent.{job_send}
-use Rattle.window_engine.proofs.sweep.keep_workers.Goals as goal
-
-pub run_workers-requires-send-T : goal.run_workers-requires-send-T
-run_workers-requires-send-T g c κs within = search (sendable, job_send) depth 30

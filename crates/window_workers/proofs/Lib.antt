@@ -1,0 +1,9 @@
+pub mod Gathering
+pub mod Full
+pub mod Edge
+pub mod Laying
+pub mod NoLine
+pub mod Pending
+pub mod TooMany
+pub mod Meant
+pub mod PoolSent

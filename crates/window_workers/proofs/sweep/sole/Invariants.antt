@@ -1,0 +1,7 @@
+-- it is the same value all along
+use Rattle.std.proofs.Common.{◌≡◌}
+use Rattle.std.specs.Arc.{arc_value}
+use Rattle.window_workers.proofs.sweep.sole.Given as goal
+
+abbrev pub invariant-loop : goal.invariant-loop
+invariant-loop g l = arc_value l.shared ≡ arc_value l.fn.shared
