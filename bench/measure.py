@@ -5,7 +5,7 @@ bench/measure.py [--jobs N] [--program PATH] [--priority P] [--alone] [--budget]
 Run by `make bench`. With names of scenarios (bench/scenarios.py) only what their events cost is counted
 and printed, and with --budget the functions that their events' instructions go to. Instructions and bytes of heap are counted by valgrind, as are data references, misses of the nearest cache and mispredicted
 branches, of the machine that it simulates: none depends on the machine's speed. Seconds do, and say only what the machine at hand did. On a machine with other work a real-time priority
-keeps a core for the timed runs (as root). With --alone the sections of images, of events by themselves, of workers
+keeps a core for the timed runs (as root). With --alone the sections of figures beside runs, of images, of events by themselves, of workers
 and of ns-2 stay as they are; else they are made anew too.
 """
 import argparse
@@ -21,6 +21,7 @@ from concurrent.futures import ThreadPoolExecutor
 
 import beside_ns2
 import images
+import shares
 import steps
 import workers
 from results import CALLGRIND, ENVIRONMENT, PROGRAM, RESULTS, TOP, instructions, made, number, processor, saved, table
@@ -340,7 +341,7 @@ def words_of():
     words.add_argument('--program', help='else the built one, which is built where it is not there')
     words.add_argument('--priority', type=int, help='the real-time priority of the timed runs, 1 to 99')
     words.add_argument('--budget', action='store_true', help='print the functions that the events of these scenarios go to, and write nothing')
-    words.add_argument('--alone', action='store_true', help='leave the sections of images, events by themselves, workers and ns-2 as they are')
+    words.add_argument('--alone', action='store_true', help='leave the sections of figures beside runs, images, events by themselves, workers and ns-2 as they are')
     return words.parse_args()
 
 
@@ -377,6 +378,7 @@ def main():
     print(results)
     if given.alone:
         return
+    shares.main([f'--program={PROGRAM}'])
     images.main([f'--program={PROGRAM}'])
     steps.main([f'--jobs={given.jobs}'])
     workers.main([f'--program={PROGRAM}'])

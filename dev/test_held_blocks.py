@@ -51,6 +51,12 @@ def test_a_run_holds_nothing_as_it_ends(counted):
         assert requests > 0
 
 
+def test_figures_are_made_anew_only_where_some_were_counted(counted):
+    """Before 0 no event is run, and figures from there on are those that were made at first."""
+    first, later = (counted(('figures', '--from', moment), SCENARIO)[2] for moment in ('0', '1ns'))
+    assert first < later
+
+
 def test_a_block_that_is_not_given_back_is_counted(counted):
     for words, given in rows():
         for kept in (1, 2, 7):

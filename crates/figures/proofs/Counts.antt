@@ -1,8 +1,9 @@
 -- Counts of values in classes, one value more, and one class more.
-use Rattle.std.proofs.Common.{◌≡◌, ◌≢◌, ◌<◌, ◌≤◌, ◌+◌, ℕ, zero, suc, Bool, true, false, cond, ◌==◌, List, [], ◌∷◌, ◌++◌, get_or, refl, sym, ap, ◌∙◌, arith, ⊎_elim}
-use Rattle.std.specs.Prelude.{count_by, max, min, nat_le, nat_lt}
+use Rattle.std.proofs.Common.{◌≡◌, ◌≢◌, ◌<◌, ◌≤◌, ◌+◌, ℕ, zero, suc, Bool, true, false, cond, ◌==◌, List, [], ◌∷◌, ◌++◌, refl, sym, ap, ◌∙◌, arith, ⊎_elim, Option, Some, None}
+use Rattle.std.specs.Prelude.{count_by, max, min, nat_le, nat_lt, option_to_list}
 use Rattle.std.proofs.lemmas.Bool.{cases_eq, cases_Bool, eq-eqb, eqb-true, lt-leb, le-leb}
 use Rattle.std.proofs.Math.Nat.{zero-add}
+use Rattle.std.proofs.lemmas.List.{append-nil}
 use Rattle.std.proofs.lemmas.Bool.Decides.{nat_tests}
 use Rattle.std.proofs.lemmas.List.Sums.{sum_by-append, sum_by-cons}
 use Rattle.figures.specs.Classes.{class_of, in_class, least_from, greatest, upto, class_from, class_at}
@@ -19,6 +20,11 @@ pub least_more : (bound : ℕ) (xs : List ℕ) (x : ℕ) → least_from bound (x
 least_more bound [] x = omega arith
 least_more bound (y ∷ ys) x = let rest = ap (λ n. min y n) (least_more bound ys x) in omega (arith, rest)
 
+-- the same, if there is one more
+pub least_given : (bound : ℕ) (xs : List ℕ) (o : Option ℕ) → least_from bound (xs ++ option_to_list o) ≡ least_from (least_from bound xs) (option_to_list o)
+least_given bound xs None = ap (least_from bound) (append-nil xs)
+least_given bound xs (Some x) = let more = least_more bound xs x in omega (arith, more)
+
 -- the least of values is that of any bound above one of them
 pub least_of_bound : (bound x : ℕ) (xs : List ℕ) → x ≤ bound → min x (least_from bound xs) ≡ least_from x xs
 least_of_bound bound x [] within = omega arith
@@ -27,19 +33,37 @@ least_of_bound bound x (y ∷ ys) within = let rest = least_of_bound bound x ys 
 pub test_no : (a b : ℕ) → a ≢ b → (a == b) ≡ false
 test_no a b apart = ⊎_elim (λ (e : (a == b) ≡ true). absurd (apart (eqb-true a b e))) (λ (e : (a == b) ≡ false). e) (cases_Bool (a == b))
 
--- the counts of the classes, one value more
-pub class_more : (xs old new : List ℕ) (v class c : ℕ) → class ≡ class_of v → get_or new class 0 ≡ get_or old class 0 + 1 → (c ≢ class → get_or new c 0 ≡ get_or old c 0) → get_or old c 0 ≡ in_class xs c → get_or new c 0 ≡ in_class (xs ++ v ∷ []) c
-class_more xs old new v class c class_is here others at =
+-- the counts of the classes, one value more, by each count and what is added to it
+pub class_more : (xs : List ℕ) (old new added v class c : ℕ) → class ≡ class_of v → (c ≡ class → new ≡ old + 1) → (c ≢ class → new ≡ old) → old + added ≡ in_class xs c → new + added ≡ in_class (xs ++ v ∷ []) c
+class_more xs old new added v class c class_is here others at =
+    let more = count_more (λ x. class_of x == c) xs v in
     ⊎_elim
     (λ (same : c ≡ class).
-    ap (λ i. get_or new i 0) same ∙ here ∙ ap (λ i. get_or old i 0 + 1) (sym same) ∙ ap (λ n. n + 1) at
-    ∙ ap (λ b. in_class xs c + cond b 1 0) (sym (eq-eqb (class_of v) c (sym class_is ∙ sym same))) ∙ sym (count_more (λ x. class_of x == c) xs v))
+    let one : cond {A = ℕ} (class_of v == c) 1 0 ≡ 1 = ap (λ b. cond {A = ℕ} b 1 0) (eq-eqb (class_of v) c (sym class_is ∙ sym same)) in
+    let now_is = here same in
+    omega (arith, more, one, now_is, at))
     (λ (other : c ≢ class).
-    others other ∙ at ∙ add-zero' (in_class xs c) ∙ ap (λ b. in_class xs c + cond b 1 0) (sym (test_no (class_of v) c (λ e. other (sym e ∙ sym class_is)))) ∙ sym (count_more (λ x. class_of x == c) xs v))
+    let none : cond {A = ℕ} (class_of v == c) 1 0 ≡ 0 = ap (λ b. cond {A = ℕ} b 1 0) (test_no (class_of v) c (λ e. other (sym e ∙ sym class_is))) in
+    let now_is = others other in
+    omega (arith, more, none, now_is, at))
     (cases_eq c class)
-  where
-    add-zero' : (n : ℕ) → n ≡ n + 0
-    add-zero' n = omega arith
+
+-- one more value that is 0 and in no count
+pub zero_more : (xs : List ℕ) (count zeros c : ℕ) → count + cond (c == 0) zeros 0 ≡ in_class xs c → class_of 0 ≡ 0 → count + cond (c == 0) (zeros + 1) 0 ≡ in_class (xs ++ 0 ∷ []) c
+zero_more xs count zeros c at zero_is =
+    let more = count_more (λ x. class_of x == c) xs 0 in
+    ⊎_elim
+    (λ (same : c ≡ 0).
+    let one : cond {A = ℕ} (class_of 0 == c) 1 0 ≡ 1 = ap (λ b. cond {A = ℕ} b 1 0) (eq-eqb (class_of 0) c (zero_is ∙ sym same)) in
+    let was : cond {A = ℕ} (c == 0) zeros 0 ≡ zeros = ap (λ b. cond {A = ℕ} b zeros 0) (eq-eqb c 0 same) in
+    let now_is : cond {A = ℕ} (c == 0) (zeros + 1) 0 ≡ zeros + 1 = ap (λ b. cond {A = ℕ} b (zeros + 1) 0) (eq-eqb c 0 same) in
+    omega (arith, more, one, was, now_is, at))
+    (λ (other : c ≢ 0).
+    let none : cond {A = ℕ} (class_of 0 == c) 1 0 ≡ 0 = ap (λ b. cond {A = ℕ} b 1 0) (test_no (class_of 0) c (λ e. other (sym e ∙ zero_is))) in
+    let was : cond {A = ℕ} (c == 0) zeros 0 ≡ 0 = ap (λ b. cond {A = ℕ} b zeros 0) (test_no c 0 other) in
+    let now_is : cond {A = ℕ} (c == 0) (zeros + 1) 0 ≡ 0 = ap (λ b. cond {A = ℕ} b (zeros + 1) 0) (test_no c 0 other) in
+    omega (arith, more, none, was, now_is, at))
+    (cases_eq c 0)
 
 -- how many values are of a class before one
 abbrev pub before : List ℕ → ℕ → ℕ

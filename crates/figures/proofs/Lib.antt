@@ -11,6 +11,7 @@ pub mod Steps
 pub mod Begun
 pub mod After
 pub mod Along
+pub mod Anew
 pub mod OfLinks
 pub mod OneLink
 pub mod Counted

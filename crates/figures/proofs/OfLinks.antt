@@ -62,7 +62,7 @@ link_begun since before s earlier node index f is = record {
   lost = is.lost;
   full = is.full;
   codel = is.codel;
-  sent = is.sent;
+  sent = is.waits.count_is;
   bytes = is.bytes;
   waited =
       let gone : since - f.since ≡ 0 = (let at = is.since in omega (arith, at)) in

@@ -1,5 +1,5 @@
 -- An event that frees no link offers packets to one link of its node, or to none.
-use Rattle.std.proofs.Common.{◌≡◌, ◌≢◌, ℕ, ◌<◌, false, List, length, get_or, sym, ap, subst, ◌∙◌, Some, arith, true≢false, inl, inr, ⊎_elim}
+use Rattle.std.proofs.Common.{◌≡◌, ◌≢◌, ℕ, ◌<◌, ◌≤◌, false, List, length, get_or, sym, ap, subst, ◌∙◌, Some, arith, true≢false, inl, inr, ⊎_elim}
 use Rattle.std.proofs.lemmas.Bool.{cases_eq}
 use Rattle.port.specs.Port.{PortState}
 use Rattle.node_core.specs.declared.event.Event.{Event}
@@ -13,7 +13,7 @@ use Rattle.table_run.proofs.Moved.{node_there}
 use Rattle.net_machine.specs.Nodes.{parts_of, node_at}
 use Rattle.figures.specs.declared.links.NodeLinks.{NodeLinks}
 use Rattle.figures.specs.Figures.{AreOfLinks}
-use Rattle.figures.specs.Links.{port_at, is_free, AreOfNode, OffersToOne}
+use Rattle.figures.specs.Links.{port_at, is_free, acts_between, tx_in, AreOfNode, OffersToOne, SendsOne, SendOneEach}
 use Rattle.figures.specs.Moments.{Moment, Base}
 use Rattle.figures.proofs.Begun.{part_is}
 use Rattle.figures.proofs.Offerings.{OffersTo, Offering, start_offers, rto_offers, delack_offers, arrival_offers}
@@ -62,3 +62,15 @@ module _ (s : State) (line : TraceLine) (t : State) (next : step s ≡ Some (lin
       one_offered none i j (omega (arith, first, all.size)) (omega (arith, second, all.size))
       (λ same. one (now_is i ∙ same ∙ sym (all.each i f first).offered))
       (λ same. another (now_is j ∙ same ∙ sym (all.each j g second).offered))
+
+  -- at most one packet begins to be sent at each link, also by what was counted before
+  pub sends_each : (b : Base) (ms : List Moment) (nodes : List NodeState) → parts_of nodes ≡ t.parts → (fs old : List NodeLinks) → old ≡ fs → AreOfLinks b ms s fs → SendsOne s line t →
+      (other : NodeLinks) → line.key.node < length old → SendOneEach (get_or old line.key.node other).figures.items (node_at nodes line.key.node).part.links line
+  sends_each b ms nodes parts fs old old_is is sends other within i link inside =
+      let node = line.key.node in
+      let figures = (get_or old node other).figures.items in
+      let all : AreOfNode b ms s node figures =
+      subst (λ (xs : List NodeLinks). AreOfNode b ms s node (get_or xs node other).figures.items) (sym old_is) (is.each node other (let same = ap length old_is in omega (arith, within, same, is.count))) in
+      let now_is : port_at t node i ≡ (link_at (node_at nodes node).part.links i).port = ap (λ (p : PartState). (link_at p.links i).port) (sym (part_is nodes t node parts)) in
+      subst (λ (q : PortState). tx_in (acts_between (get_or figures i link).offered q line) ≤ 1) now_is
+      (subst (λ n. tx_in (acts_between n (port_at t node i) line) ≤ 1) (sym (all.each i link inside).offered) (sends i (omega (arith, inside, all.size))))

@@ -138,6 +138,11 @@ KeepsLinks before line after =
     (i : ℕ) → i < length (part_at before line.key.node).links → counts_link i (port_at before line.key.node i).offered (port_at after line.key.node i) line ≡ false →
     (port_at after line.key.node i ≡ port_at before line.key.node i) × (frees (port_at after line.key.node i).link line.event ≡ false)
 
+-- at each link of an event's node at most one packet begins to be sent
+abbrev pub SendsOne : State → TraceLine → State → Type 0
+SendsOne before line after =
+    (i : ℕ) → i < length (part_at before line.key.node).links → tx_in (acts_between (port_at before line.key.node i).offered (port_at after line.key.node i) line) ≤ 1
+
 -- when the last event was run; an earlier moment before the first
 abbrev pub last_from : ℕ → List Moment → ℕ
 last_from since [] = since
@@ -169,7 +174,6 @@ pub record IsLinkBegun (from : ℕ) (port : PortState) (f : LinkFigures) : Type 
   pub lost : f.lost ≡ 0
   pub full : f.full ≡ 0
   pub codel : f.codel ≡ 0
-  pub sent : f.sent ≡ 0
   pub bytes : f.bytes ≡ 0
   pub waited : f.waited ≡ 0
   pub busy_for : f.busy_for ≡ 0
@@ -188,7 +192,7 @@ pub record AreOfLink (b : Base) (ms : List Moment) (s : State) (node index : ℕ
   pub lost : f.lost ≡ dropped_of Lost node index ms
   pub full : f.full ≡ dropped_of Full node index ms
   pub codel : f.codel ≡ dropped_of (Take Codel) node index ms
-  pub sent : f.sent ≡ tx_of node index ms
+  pub sent : f.waits.zeros + f.waits.count ≡ tx_of node index ms
   pub bytes : f.bytes ≡ bytes_of_moments node index ms
   pub waited : f.waited + f.waiting * (last_from b.since ms - f.since) ≡ waited_of node index b.since ms
   pub busy_for : f.busy_for + (if f.busy then last_from b.since ms - f.since else 0) ≡ busy_of node index b.since ms
@@ -211,7 +215,6 @@ pub record IsPassed (f : LinkFigures) (port : PortState) (now : ℕ) (g : LinkFi
   pub lost : g.lost ≡ f.lost
   pub full : g.full ≡ f.full
   pub codel : g.codel ≡ f.codel
-  pub sent : g.sent ≡ f.sent
   pub bytes : g.bytes ≡ f.bytes
   pub waits : g.waits ≡ f.waits
   pub turns : g.turns ≡ f.turns
@@ -222,7 +225,6 @@ pub record IsCountedOf (f : LinkFigures) (acts : List Act) (g : LinkFigures) : T
   pub lost : g.lost ≡ f.lost + dropped_in Lost acts
   pub full : g.full ≡ f.full + dropped_in Full acts
   pub codel : g.codel ≡ f.codel + dropped_in (Take Codel) acts
-  pub sent : g.sent ≡ f.sent + tx_in acts
   pub bytes : g.bytes ≡ f.bytes + bytes_in acts
   pub turns : g.turns ≡ f.turns + 1
   pub offered : g.offered ≡ f.offered
@@ -245,7 +247,7 @@ pub record IsLinkCounted (f : LinkFigures) (port : PortState) (now : ℕ) (acts 
   pub lost : g.lost ≡ f.lost + dropped_in Lost acts
   pub full : g.full ≡ f.full + dropped_in Full acts
   pub codel : g.codel ≡ f.codel + dropped_in (Take Codel) acts
-  pub sent : g.sent ≡ f.sent + tx_in acts
+  pub sent : g.waits.zeros + g.waits.count ≡ f.waits.zeros + f.waits.count + tx_in acts
   pub bytes : g.bytes ≡ f.bytes + bytes_in acts
   pub waited : g.waited ≡ f.waited + f.waiting * (now - f.since)
   pub busy_for : g.busy_for ≡ f.busy_for + (if f.busy then now - f.since else 0)
@@ -282,6 +284,10 @@ OffersToOne figures links =
 abbrev pub AreOffersCounted : List LinkFigures → List LinkState → TraceLine → List LinkFigures → Type 0
 AreOffersCounted old links line new =
     (i : ℕ) (other : LinkFigures) → i < length old → IsLinkAfterIf (not ((link_at links i).port.offered == (slice_index_or old i other).offered)) (slice_index_or old i other) (link_at links i).port line (slice_index_or new i other)
+
+-- the same by what was counted of the links before
+abbrev pub SendOneEach : List LinkFigures → List LinkState → TraceLine → Type 0
+SendOneEach figures links line = (i : ℕ) (other : LinkFigures) → i < length figures → tx_in (acts_between (slice_index_or figures i other).offered (link_at links i).port line) ≤ 1
 
 -- to the link of a node of this index as many packets were offered as was counted before, or others
 abbrev pub IsUnoffered : List LinkFigures → List LinkState → ℕ → Type 0

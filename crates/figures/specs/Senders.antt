@@ -1,9 +1,10 @@
 -- What is counted of a sender, over its turns.
-use Rattle.std.specs.Prelude.{◌≡◌, ℕ, if◌then◌else◌, List, [], ◌++◌, length, count_by, find, Option, IfSome}
+use Rattle.std.specs.Prelude.{◌≡◌, ◌-◌, ◌^◌, ℕ, if◌then◌else◌, List, [], ◌++◌, length, count_by, find, Option, IfSome}
 use Rattle.std.specs.List.{sum_by, filter_map, slice_get}
 use Rattle.std.specs.Option.{option_map, option_and_then}
 use Rattle.node_core.specs.declared.role.Role.{Role}
 use Rattle.node_core.specs.Part.{sender_in}
+use Rattle.figures.specs.Classes.{least_from}
 use Rattle.figures.specs.Turns.{Turn, Keeps, planned_in, again_in, in_recovery, is_timeout, sample_in, is_complete}
 use Rattle.figures.specs.Tallied.{IsTallyOf}
 use Rattle.figures.specs.declared.sender.SenderFigures.{SenderFigures}
@@ -42,6 +43,7 @@ pub record AreOfTurns (before ts : List Turn) (f : SenderFigures) : Type 0 where
   pub timeouts : f.timeouts ≡ timeouts_of ts
   pub completed : f.completed ≡ completed_of (before ++ ts)
   pub trips : IsTallyOf (trips_of ts) f.trips
+  pub least : f.least ≡ least_from (2 ^ 64 - 1) (trips_of ts)
 
 -- nothing is counted yet of a node's sender, if it has one, behind turns by which all bytes were acknowledged then, or not yet
 pub record IsBegun (completed : Option ℕ) (role : Role) (f : SenderFigures) : Type 0 where

@@ -11,8 +11,8 @@ const EXITS: usize = 256;
 /// nothing but speed rests on it.
 #[derive(Drop)]
 pub struct LastLinks {
-    /// The link's index among the node's.
-    places: Vec<usize>,
+    /// The link's index among the node's, below 1,024.
+    places: Vec<u16>,
 }
 
 // Where that of an event's packet stands, if it has one.
@@ -46,7 +46,7 @@ impl LastLinks {
     pub(crate) fn seen(&self, event: &Event) -> usize {
         let place = exit_place(event);
         if place < self.places.len() {
-            self.places[place]
+            usize::from(self.places[place])
         } else {
             0
         }
@@ -56,7 +56,7 @@ impl LastLinks {
     pub(crate) fn note(&mut self, event: &Event, at: usize) {
         let place = exit_place(event);
         if place < self.places.len() {
-            self.places[place] = at;
+            self.places[place] = u16::try_from(at).unwrap_or(0);
         }
     }
 }

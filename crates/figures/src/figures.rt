@@ -100,24 +100,35 @@ fn begun(alloc: Global, node: &Node, completed: Option<Time>) -> SenderFigures
     }
 }
 
-// When all bytes of the flow of a node's sender were acknowledged, by what was counted of each.
-fn completed_at(earlier: &[SenderFigures], place: usize) -> Option<Time>
-    ensures { result ≡ completed_in earlier.now place }
+// When all bytes of the flow of each node's sender were acknowledged, by what was counted of it.
+fn all_completed(alloc: Global, senders: &[SenderFigures]) -> Result<Vec<Option<Time>>, AllocError>
+    ensures { IfOk result (λ all. (place : ℕ) → place < length senders.now → slice_index_or all.items place None ≡ completed_in senders.now place) }
+{
+    let mut all = Vec::new(alloc);
+    for counted in senders {
+        all.push(counted.completed)?;
+    }
+    Ok(all)
+}
+
+// The same of one node.
+fn completed_at(earlier: &[Option<Time>], place: usize) -> Option<Time>
+    ensures { result ≡ slice_index_or earlier.now place None }
 {
     match earlier.get(place) {
-        Some(counted) => counted.completed,
+        Some(completed) => *completed,
         None => None,
     }
 }
 
-// Nothing is counted yet of the nodes' senders, behind what was counted of them earlier.
+// Nothing is counted yet of the nodes' senders, whose flows were completed earlier, or not.
 fn all_begun(
     alloc: Global,
     nodes: &[Node],
-    earlier: &[SenderFigures],
+    earlier: &[Option<Time>],
 ) -> Result<Vec<SenderFigures>, AllocError>
     ensures size { IfOk result (λ all. length all.items ≡ length nodes.now) }
-    ensures figures { IfOk result (λ all. (place : ℕ) (other : SenderFigures) → place < length nodes.now → IsBegun (completed_in earlier.now place) (node_at nodes.now place).part.role (slice_index_or all.items place other)) }
+    ensures figures { IfOk result (λ all. (place : ℕ) (other : SenderFigures) → place < length nodes.now → IsBegun (slice_index_or earlier.now place None) (node_at nodes.now place).part.role (slice_index_or all.items place other)) }
 {
     let mut all = Vec::new(alloc);
     for place in 0..nodes.len() {
@@ -172,14 +183,14 @@ impl Figures {
     ghost use Rattle.scenario_image.specs.declared.parts.ScenarioParts.{ScenarioParts};
     ghost use Rattle.scenario_image.specs.Scenario.{IsScenario};
 
-    // Nothing is counted yet of a net, which is from a moment on, behind what was counted of its senders earlier.
+    // Nothing is counted yet of a net, which is from a moment on, whose flows were completed earlier, or not.
     fn begun(
         alloc: Global,
         net: &Net,
         since: Time,
-        earlier: &[SenderFigures],
+        earlier: &[Option<Time>],
     ) -> Result<Figures, AllocError>
-        ensures { IfOk result (λ f. (n : ℕ) (before : List Moment) → ((node : ℕ) → node < length net.now.state.parts → completed_in earlier.now node ≡ completed_of (turns_at node before)) → AreFigures (record { since = since; state = net.now.state; before = n; earlier = before }) [] net.now.state f) }
+        ensures { IfOk result (λ f. (n : ℕ) (before : List Moment) → ((node : ℕ) → node < length net.now.state.parts → slice_index_or earlier.now node None ≡ completed_of (turns_at node before)) → AreFigures (record { since = since; state = net.now.state; before = n; earlier = before }) [] net.now.state f) }
     {
         Ok(Figures {
             senders: all_begun(alloc, net.nodes(), earlier)?,
@@ -199,15 +210,32 @@ impl Figures {
         Ok(figures)
     }
 
-    /// Nothing is counted yet of a net from a moment on, up to where these figures are counted. When a flow
-    /// was completed is known still.
-    pub fn from_here(&self, alloc: Global, net: &Net, since: Time) -> Result<Figures, AllocError>
-        ensures run { IfOk result (λ f. (p : ScenarioParts) (b : Base) → since ≤ p.end → AreOfRun p b self.now net.now → AreOfRun p (base_at p since net.now) f net.now) }
-        ensures some { IfOk result (λ f. (p : ScenarioParts) (b : Base) → IsScenario p → since ≤ p.end → NoneBefore since net.now.state → AreOfRun p b self.now net.now → AreOfSomeRun f net.now) }
+    // Nothing is counted of no net, and no memory is taken.
+    fn nothing(alloc: Global) -> Figures {
+        Figures {
+            senders: Vec::new(alloc),
+            links: Vec::new(alloc),
+            received: Vec::new(alloc),
+            events: 0,
+            last: 0,
+        }
+    }
+
+    /// Counts a net anew from a moment on, up to where these figures are counted. When a flow was completed is
+    /// known still. What was counted is dropped before memory is taken for what follows; where nothing was counted
+    /// from the moment on, all stays as it is.
+    pub fn restart(&mut self, alloc: Global, net: &Net, since: Time) -> Result<(), AllocError>
+        ensures run { IfOk result (λ _. (p : ScenarioParts) (b : Base) → since ≤ p.end → AreOfRun p b self.old net.now → AreOfRun p (base_at p since net.now) self.new net.now) }
+        ensures some { IfOk result (λ _. (p : ScenarioParts) (b : Base) → IsScenario p → since ≤ p.end → NoneBefore since net.now.state → AreOfRun p b self.old net.now → AreOfSomeRun self.new net.now) }
     {
         let _position = net.position();
-        let figures = Figures::begun(alloc, net, since, &self.senders)?;
-        Ok(figures)
+        if self.events == 0 && self.last == since {
+            return Ok(());
+        }
+        let earlier = all_completed(alloc, &self.senders)?;
+        *self = Figures::nothing(alloc);
+        *self = Figures::begun(alloc, net, since, &earlier)?;
+        Ok(())
     }
 
     /// The net has run one more event, of which the line tells.

@@ -3,40 +3,39 @@ ghost use Rattle.std.specs.Prelude.{◌≡◌, ◌≢◌, ◌+◌, ◌-◌, ◌*
 
 use crate::reported::{frees, is_at, reported_by, sent_alone, wait_by};
 use crate::tally::Tally;
-use crate::waits::{next_entry, note_entry};
+use crate::waits::{next_entry, note_entry, waiting_at};
 use node_core::{Act, Line};
 use port::Port;
 use sim_time::Time;
 use std::alloc::Global;
 
-/// What is counted of a link.
+/// What is counted of a link. Its fields lie in memory as here: `waited`, which is written where packets wait, then what
+/// each event writes, then what is written where a packet is sent, and at the end what few events write.
 #[derive(Drop)]
 pub struct LinkFigures {
-    /// How many packets were offered to it.
-    pub offered: u128,
     /// How many packets waited, times for how many nanoseconds, up to when that was read last.
     pub waited: u128,
-    /// How many packets wait at it.
-    pub waiting: usize,
+    /// How many packets were offered to it.
+    pub offered: u128,
     /// When these were read last, in nanoseconds.
     pub since: Time,
-    /// For how many nanoseconds it was busy, up to then.
-    pub busy_for: u64,
     /// When the packet entered its queue, in nanoseconds, that it is given once it is free, if it is given one.
     pub next_entry: Time,
-    /// The longest queue so far, in packets.
-    pub longest: usize,
+    /// For how many nanoseconds it was busy, up to then.
+    pub busy_for: u64,
     /// How many events were run at its node.
     pub turns: u64,
+    /// The bytes of the packets that began to be sent.
+    pub bytes: u64,
+    /// How many packets wait at it.
+    pub waiting: u16,
+    /// The longest queue so far, in packets.
+    pub longest: u16,
     /// Whether it is busy.
     pub busy: bool,
     /// For how long each packet waited that began to be sent, in nanoseconds: 0 where it was sent
     /// as it was offered.
     pub waits: Tally,
-    /// How many packets began to be sent.
-    pub sent: u128,
-    /// The bytes of the packets that began to be sent.
-    pub bytes: u128,
     /// How many packets were offered to it before it was counted.
     pub first: u128,
     /// How many packets were dropped, as the list of lost packets names them.
@@ -48,11 +47,10 @@ pub struct LinkFigures {
     ghost lost_most: { lost ≤ turns * 2 ^ 64 },
     ghost full_most: { full ≤ turns * 2 ^ 64 },
     ghost codel_most: { codel ≤ turns * 2 ^ 64 },
-    ghost sent_most: { sent ≤ turns * 2 ^ 64 },
-    ghost bytes_most: { bytes ≤ turns * (2 ^ 64 * 9040) },
+    ghost bytes_most: { bytes ≤ turns * 9040 },
     ghost waited_most: { waited ≤ since * 2 ^ 64 },
     ghost busy_most: { busy_for ≤ since },
-    ghost waits_most: { waits.count ≤ turns },
+    ghost waits_most: { waits.zeros + waits.count ≤ turns },
 }
 
 // For how long a link was busy of so many nanoseconds: for all of them, or not at all.
@@ -65,7 +63,7 @@ fn busy_for(busy: bool, passed: Time) -> Time
 
 // The longest queue so far, where one more is seen. It is seldom another.
 #[inline(always)]
-fn note_longest(longest: &mut usize, waiting: usize)
+fn note_longest(longest: &mut u16, waiting: u16)
     ensures { longest.new ≡ max longest.old waiting }
 {
     if waiting > *longest {
@@ -74,11 +72,11 @@ fn note_longest(longest: &mut usize, waiting: usize)
 }
 
 // So many packets, times so many nanoseconds.
-fn area(waiting: usize, passed: Time) -> u128
+fn area(waiting: u16, passed: Time) -> u128
     ensures value { result ≡ waiting * passed }
     ensures most { result ≤ passed * 2 ^ 64 }
 {
-    waiting as u128 * u128::from(passed)
+    u128::from(waiting) * u128::from(passed)
 }
 
 // For how many nanoseconds a link was busy, with so many more in which it was or was not.
@@ -96,7 +94,7 @@ fn note_busy(busy_for: &mut u64, busy: bool, passed: Time)
 // How many packets waited, times for how many nanoseconds, with so many more for so many more. Most often
 // none waits.
 #[inline(always)]
-fn note_waiting(waited: &mut u128, waiting: usize, passed: Time)
+fn note_waiting(waited: &mut u128, waiting: u16, passed: Time)
     requires { waited.old + passed * 2 ^ 64 < 2 ^ 127 }
     ensures value { waited.new ≡ waited.old + waiting * passed }
     ensures most { waited.new ≤ waited.old + passed * 2 ^ 64 }
@@ -118,17 +116,16 @@ impl LinkFigures {
         ensures { IsLinkBegun since port.now result }
     {
         LinkFigures {
-            offered: port.offered(),
-            waiting: port.queue().len(),
-            since,
             waited: 0,
-            busy_for: 0,
+            offered: port.offered(),
+            since,
             next_entry: next_entry(port),
-            longest: port.queue().len(),
-            busy: port.next_free().is_some(),
-            sent: 0,
-            bytes: 0,
+            busy_for: 0,
             turns: 0,
+            bytes: 0,
+            waiting: waiting_at(port),
+            longest: waiting_at(port),
+            busy: port.next_free().is_some(),
             waits: Tally::new(alloc),
             first: port.offered(),
             lost: 0,
@@ -140,6 +137,7 @@ impl LinkFigures {
     // One more event was run at its node, with these acts at it; answers how many packets began to be sent.
     fn count(&mut self, acts: &[Act]) -> u64
         requires few { self.old.turns < 1000000000000000 }
+        requires one { tx_in acts.now ≤ 1 }
         ensures sent { result ≡ tx_in acts.now }
         ensures counted { IsCountedOf self.old acts.now self.new }
     {
@@ -148,14 +146,14 @@ impl LinkFigures {
         self.lost += u128::from(reported.lost);
         self.full += u128::from(reported.full);
         self.codel += u128::from(reported.codel);
-        self.sent += u128::from(reported.sent);
-        self.bytes += reported.bytes;
+        self.bytes += reported.bytes as u64;
         reported.sent
     }
 
     // One more event was run at its node, of which the line tells.
     fn count_at(&mut self, port: &Port, line: &Line) -> u64
         requires few { self.old.turns < 1000000000000000 }
+        requires one { tx_in (acts_between self.old.offered port.now (shown line.now)) ≤ 1 }
         ensures sent { result ≡ tx_in (acts_between self.old.offered port.now (shown line.now)) }
         ensures counted { IsCountedOf self.old (acts_between self.old.offered port.now (shown line.now)) self.new }
     {
@@ -178,7 +176,7 @@ impl LinkFigures {
         note_waiting(&mut self.waited, self.waiting, passed);
         note_busy(&mut self.busy_for, self.busy, passed);
         self.offered = port.offered();
-        self.waiting = port.queue().len();
+        self.waiting = waiting_at(port);
         self.busy = port.next_free().is_some();
         note_longest(&mut self.longest, self.waiting);
         note_entry(&mut self.next_entry, port);
@@ -202,14 +200,29 @@ impl LinkFigures {
         requires few { self.old.turns < 1000000000000000 }
         requires moment { IsMoment now }
         requires order { self.old.since ≤ now }
+        requires bytes { bytes ≤ 9040 }
         requires wait { wait < 2 ^ 50 }
         requires known { class_of wait < length self.old.waits.counts.items }
         ensures { (acts : List Act) → IsSentAlone acts bytes → IsLinkCounted self.old port.now now acts (Some wait) self.new }
     {
         self.turns += 1;
-        self.sent += 1;
-        self.bytes += u128::from(bytes);
+        self.bytes += bytes;
         self.waits.note_known(wait);
+        self.pass(port, now);
+    }
+
+    // The same, where the packet is sent as it was offered.
+    #[inline(always)]
+    fn count_at_once(&mut self, port: &Port, now: Time, bytes: u64)
+        requires few { self.old.turns < 1000000000000000 }
+        requires moment { IsMoment now }
+        requires order { self.old.since ≤ now }
+        requires bytes { bytes ≤ 9040 }
+        ensures { (acts : List Act) → IsSentAlone acts bytes → IsLinkCounted self.old port.now now acts (Some 0) self.new }
+    {
+        self.turns += 1;
+        self.bytes += bytes;
+        self.waits.note_zero();
         self.pass(port, now);
     }
 
@@ -220,6 +233,7 @@ impl LinkFigures {
         requires few { self.old.turns < 1000000000000000 }
         requires moment { IsMoment line.now.key.time }
         requires order { self.old.since ≤ line.now.key.time }
+        requires one { tx_in (acts_between self.old.offered port.now (shown line.now)) ≤ 1 }
         ensures { IsLinkAfter self.old port.now (shown line.now) self.new }
     {
         let sent = self.count_at(port, line);
@@ -235,6 +249,7 @@ impl LinkFigures {
         requires few { self.old.turns < 1000000000000000 }
         requires moment { IsMoment line.now.key.time }
         requires order { self.old.since ≤ line.now.key.time }
+        requires one { tx_in (acts_between self.old.offered port.now (shown line.now)) ≤ 1 }
         ensures { IsLinkAfter self.old port.now (shown line.now) self.new }
     {
         if frees(&line.event, port.link()) {
@@ -262,6 +277,7 @@ impl LinkFigures {
         requires order { self.old.since ≤ line.now.key.time }
         requires other { is_free line.now.event ≡ false }
         requires more { port.now.offered ≢ self.old.offered }
+        requires one { tx_in (acts_between self.old.offered port.now (shown line.now)) ≤ 1 }
         ensures { IsLinkAfter self.old port.now (shown line.now) self.new }
     {
         let acts = line.acts.as_slice();
@@ -270,10 +286,8 @@ impl LinkFigures {
             return;
         }
         if let Some(bytes) = sent_alone(acts) {
-            if self.waits.has_count(0) {
-                self.count_sent(port, line.key.time, bytes, 0);
-                return;
-            }
+            self.count_at_once(port, line.key.time, bytes);
+            return;
         }
         self.after(port, line);
     }

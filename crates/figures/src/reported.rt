@@ -1,5 +1,5 @@
 //! What an event's acts tell of a link.
-ghost use Rattle.std.specs.Prelude.{◌≡◌, ◌*◌, ◌≤◌, ℕ, [], if◌then◌else◌, IfSome, length};
+ghost use Rattle.std.specs.Prelude.{◌≡◌, ◌*◌, ◌≤◌, ℕ, [], if◌then◌else◌, IfSome, length, option_to_list};
 ghost use Rattle.aqm.specs.declared.drop_reason.DropReason.TheVariants.{Lost, Full, Take};
 ghost use Rattle.aqm.specs.declared.drop_reason.TakeDrop.TheVariants.{Codel};
 ghost use Rattle.node_core.specs.TraceLine.{shown};
@@ -31,7 +31,7 @@ pub fn reported_by(acts: &[Act]) -> Reported
     ensures codel { result.codel ≡ dropped_in (Take Codel) acts.now }
     ensures sent { result.sent ≡ tx_in acts.now }
     ensures bytes { result.bytes ≡ bytes_in acts.now }
-    ensures most { result.bytes ≤ length acts.now * 9040 }
+    ensures most { result.bytes ≤ result.sent * 9040 }
 {
     let mut reported = Reported {
         lost: 0,
@@ -76,7 +76,8 @@ pub fn is_at(offered: u128, port: &Port, line: &Line) -> bool
 /// The bytes of the packet that begins to be sent, where that is the only act.
 #[inline(always)]
 pub fn sent_alone(acts: &[Act]) -> Option<u64>
-    ensures { IfSome result (λ bytes. IsSentAlone acts.now bytes) }
+    ensures alone { IfSome result (λ bytes. IsSentAlone acts.now bytes) }
+    ensures most { IfSome result (λ bytes. bytes ≤ 9040) }
 {
     if acts.len() != 1 {
         return None;
@@ -90,8 +91,10 @@ pub fn sent_alone(acts: &[Act]) -> Option<u64>
 /// For how long the packet has waited that an event begins to send over a link of its node, if it
 /// does so, by how many are sent: where the link is freed, since it entered the queue, and else 0.
 pub fn wait_by(port: &Port, line: &Line, sent: u64, entered: Time) -> Option<Time>
+    requires one { sent ≤ 1 }
     ensures value { (offered : ℕ) → sent ≡ tx_in (acts_between offered port.now (shown line.now)) → result ≡ wait_is offered port.now (shown line.now) entered }
     ensures most { IfSome result (λ wait. wait ≤ line.now.key.time) }
+    ensures many { length (option_to_list result) ≡ sent }
 {
     if sent == 0 {
         None

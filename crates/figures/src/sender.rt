@@ -1,5 +1,6 @@
 //! What is counted of a sender.
-ghost use Rattle.std.specs.Prelude.{◌≡◌, ◌+◌, ◌*◌, ◌<◌, ◌≤◌, ◌^◌, ◌++◌, ◌∷◌, [], ℕ, List, Option, Some, None, IfSome, if◌then◌else◌};
+ghost use Rattle.std.specs.Prelude.{◌≡◌, ◌+◌, ◌*◌, ◌<◌, ◌≤◌, ◌^◌, ◌++◌, ◌∷◌, [], ℕ, List, Option, Some, None, IfSome, if◌then◌else◌, option_to_list};
+ghost use Rattle.figures.specs.Classes.{least_from};
 ghost use Rattle.std.specs.Option.{option_or};
 ghost use Rattle.figures.specs.Turns.{trip_of as trip_is, sample_by as sample_is, recovers as recovers_is, is_timeout as timeout_is, is_complete as complete_is};
 ghost use Rattle.reno_sender.specs.Fields.{IsSound};
@@ -27,13 +28,15 @@ pub struct SenderFigures {
     pub timeouts: u64,
     /// The samples of the round trip, in nanoseconds (RFC 6298 section 3).
     pub trips: Tally,
+    /// The least of them; 2^64 - 1 where there was none.
+    pub least: u64,
     /// How often it has acted.
     pub turns: u64,
     ghost sent_most: { sent ≤ turns * 2 ^ 64 },
     ghost recovery_most: { again_in_recovery ≤ turns * 2 ^ 64 },
     ghost otherwise_most: { again_otherwise ≤ turns * 2 ^ 64 },
     ghost timeouts_most: { timeouts ≤ turns },
-    ghost trips_most: { trips.count ≤ turns },
+    ghost trips_most: { trips.zeros + trips.count ≤ turns },
 }
 
 // The sample that an acknowledgement gives, where it gives one.
@@ -86,6 +89,18 @@ fn note_again(recovery: &mut u128, otherwise: &mut u128, again: u64, recovers: b
     }
 }
 
+// The least so far, with one more value, if there is one. It is seldom another.
+#[inline(always)]
+fn lower(least: &mut u64, value: Option<u64>)
+    ensures { least.new ≡ least_from least.old (option_to_list value) }
+{
+    if let Some(value) = value {
+        if value < *least {
+            *least = value;
+        }
+    }
+}
+
 // One where a sender acts as its timer ends, else none.
 fn timeouts_in(cause: Cause) -> u64
     ensures value { result ≡ (if timeout_is cause then 1 else 0) }
@@ -119,7 +134,8 @@ impl SenderFigures {
     ghost use Rattle.sim_time.specs.Moment.{IsMoment};
     ghost use Rattle.reno_sender.specs.declared.fields.SenderFields.{SenderFields};
     ghost use Rattle.figures.specs.Turns.{Turn, Keeps, HasActedFrom, planned_by};
-    ghost use Rattle.figures.specs.Senders.{AreOfTurns, completed_of};
+    ghost use Rattle.figures.specs.Classes.{least_of};
+    ghost use Rattle.figures.specs.Senders.{AreOfTurns, completed_of, trips_of};
 
     /// Nothing is counted yet of a sender that keeps these fields, behind turns by which all bytes of its
     /// flow were acknowledged at a moment, or not yet.
@@ -136,6 +152,7 @@ impl SenderFigures {
             again_otherwise: 0,
             timeouts: 0,
             trips: Tally::new(alloc),
+            least: u64::MAX,
             turns: 0,
         }
     }
@@ -171,6 +188,17 @@ impl SenderFigures {
         self.act(new, cause, now);
     }
 
+    /// The least sample of the round trip, where there is one.
+    pub fn least_trip(&self) -> Option<u64>
+        ensures { (before ts : List Turn) → AreOfTurns before ts self.now → result ≡ least_of (trips_of ts) }
+    {
+        if self.trips.many() == 0 {
+            None
+        } else {
+            Some(self.least)
+        }
+    }
+
     // The same for any cause.
     #[inline(always)]
     fn act(&mut self, new: &Sender, cause: Cause, now: Time)
@@ -186,6 +214,7 @@ impl SenderFigures {
         let trip = sample_by(self.kept.timing, cause, now);
         self.turns += 1;
         self.trips.note_some(trip);
+        lower(&mut self.least, trip);
         self.sent += u128::from(sent.segments);
         note_again(
             &mut self.again_in_recovery,

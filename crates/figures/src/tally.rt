@@ -1,24 +1,25 @@
 //! Values, counted by class.
-ghost use Rattle.std.specs.Prelude.{◌≡◌, ◌≢◌, ◌<◌, ◌≤◌, ◌+◌, ◌^◌, ℕ, true, false, length, max, min, slice_index, IfOk};
+ghost use Rattle.std.specs.Prelude.{◌≡◌, ◌≢◌, ◌<◌, ◌≤◌, ◌+◌, ◌^◌, ℕ, true, false, length, max, slice_index, IfOk};
 
 use crate::classes::{class_at, class_of, top_of};
 use std::alloc::{AllocError, Global};
 
-/// How many values were of each class, the least and the greatest.
+/// How many values were of each class, and the greatest.
 #[derive(Drop)]
 pub struct Tally {
+    /// How many values there were that were noted as 0, and are in no count of a class.
+    pub zeros: u64,
+    /// How many others there were.
+    pub count: u64,
+    /// The greatest of all; 0 where there was none.
+    pub greatest: u64,
     /// For each class up to the highest doubling so far how many values were of it.
     pub counts: Vec<u64>,
-    /// How many values there were.
-    pub count: u64,
-    /// The least of them; 2^64 - 1 where there was none.
-    pub least: u64,
-    /// The greatest of them; 0 where there was none.
-    pub greatest: u64,
     /// Whether memory was refused for the count of a class: some value is then in no count.
     pub refused: bool,
     ghost sized: { length counts.items ≤ 1472 },
     ghost parts: { (c : ℕ) → slice_index counts.items c ≤ count },
+    ghost few: { zeros + count < 2 ^ 63 },
 }
 
 // Counts of more classes, up to the end of the doubling of one that is past them: so far no value is of these.
@@ -51,16 +52,6 @@ fn count_first(counts: &mut Vec<u64>, refused: &mut bool, class: usize)
     }
 }
 
-// The least so far, with one more value. It is seldom another.
-#[inline(always)]
-fn lower(least: &mut u64, value: u64)
-    ensures { least.new ≡ min least.old value }
-{
-    if value < *least {
-        *least = value;
-    }
-}
-
 // The greatest so far, with one more value. It is seldom another.
 #[inline(always)]
 fn raise(greatest: &mut u64, value: u64)
@@ -74,19 +65,36 @@ fn raise(greatest: &mut u64, value: u64)
 impl Tally {
     ghost use Rattle.std.specs.Prelude.{◌++◌, ◌∷◌, [], List, IfSome, option_to_list};
     ghost use Rattle.figures.specs.Tallied.{IsTallyOf};
-    ghost use Rattle.figures.specs.Classes.{class_of as class_is, percentile, least_of, greatest_of};
+    ghost use Rattle.figures.specs.Classes.{class_of as class_is, percentile, greatest_of};
 
     /// No values yet.
     pub fn new(alloc: Global) -> Tally
         ensures { IsTallyOf [] result }
     {
         Tally {
-            counts: Vec::new(alloc),
+            zeros: 0,
             count: 0,
-            least: u64::MAX,
             greatest: 0,
+            counts: Vec::new(alloc),
             refused: false,
         }
+    }
+
+    /// How many values there were.
+    pub fn many(&self) -> u64
+        ensures { result ≡ self.now.zeros + self.now.count }
+    {
+        self.zeros + self.count
+    }
+
+    /// One more value, which is 0: the counts of the classes are not read.
+    #[inline(always)]
+    pub fn note_zero(&mut self)
+        requires few { self.old.zeros + self.old.count < 2 ^ 62 }
+        ensures tally { (xs : List ℕ) → IsTallyOf xs self.old → IsTallyOf (xs ++ 0 ∷ []) self.new }
+        ensures count { self.new.zeros + self.new.count ≡ self.old.zeros + self.old.count + 1 }
+    {
+        self.zeros += 1;
     }
 
     /// Whether there is a count of a value's class.
@@ -103,16 +111,15 @@ impl Tally {
     #[inline(always)]
     pub fn note_known(&mut self, value: u64)
         requires value { value < 2 ^ 50 }
-        requires few { self.old.count < 2 ^ 62 }
+        requires few { self.old.zeros + self.old.count < 2 ^ 62 }
         requires known { class_is value < length self.old.counts.items }
         ensures tally { (xs : List ℕ) → IsTallyOf xs self.old → IsTallyOf (xs ++ value ∷ []) self.new }
-        ensures count { self.new.count ≡ self.old.count + 1 }
+        ensures count { self.new.zeros + self.new.count ≡ self.old.zeros + self.old.count + 1 }
     {
         let class = class_of(value);
         let counts = &mut self.counts;
         counts[class] += 1;
         self.count += 1;
-        lower(&mut self.least, value);
         raise(&mut self.greatest, value);
     }
 
@@ -121,15 +128,14 @@ impl Tally {
     #[inline(never)]
     fn note_first(&mut self, value: u64)
         requires value { value < 2 ^ 50 }
-        requires few { self.old.count < 2 ^ 62 }
+        requires few { self.old.zeros + self.old.count < 2 ^ 62 }
         requires past { length self.old.counts.items ≤ class_is value }
         ensures tally { (xs : List ℕ) → IsTallyOf xs self.old → IsTallyOf (xs ++ value ∷ []) self.new }
-        ensures count { self.new.count ≡ self.old.count + 1 }
+        ensures count { self.new.zeros + self.new.count ≡ self.old.zeros + self.old.count + 1 }
     {
         let class = class_of(value);
         self.count += 1;
         count_first(&mut self.counts, &mut self.refused, class);
-        lower(&mut self.least, value);
         raise(&mut self.greatest, value);
     }
 
@@ -137,9 +143,9 @@ impl Tally {
     #[inline(always)]
     pub fn note(&mut self, value: u64)
         requires value { value < 2 ^ 50 }
-        requires few { self.old.count < 2 ^ 62 }
+        requires few { self.old.zeros + self.old.count < 2 ^ 62 }
         ensures tally { (xs : List ℕ) → IsTallyOf xs self.old → IsTallyOf (xs ++ value ∷ []) self.new }
-        ensures count { self.new.count ≡ self.old.count + 1 }
+        ensures count { self.new.zeros + self.new.count ≡ self.old.zeros + self.old.count + 1 }
     {
         if self.has_count(value) {
             self.note_known(value);
@@ -152,9 +158,10 @@ impl Tally {
     #[inline(always)]
     pub fn note_some(&mut self, value: Option<u64>)
         requires value { IfSome value (λ v. v < 2 ^ 50) }
-        requires few { self.old.count < 2 ^ 62 }
+        requires few { self.old.zeros + self.old.count < 2 ^ 62 }
         ensures tally { (xs : List ℕ) → IsTallyOf xs self.old → IsTallyOf (xs ++ option_to_list value) self.new }
-        ensures count { self.new.count ≤ self.old.count + 1 }
+        ensures count { self.new.zeros + self.new.count ≡ self.old.zeros + self.old.count + length (option_to_list value) }
+        ensures most { self.new.zeros + self.new.count ≤ self.old.zeros + self.old.count + 1 }
     {
         if let Some(value) = value {
             self.note(value);
@@ -172,22 +179,11 @@ impl Tally {
         }
     }
 
-    /// The least value, where there is one.
-    pub fn least(&self) -> Option<u64>
-        ensures { (xs : List ℕ) → IsTallyOf xs self.now → result ≡ least_of xs }
-    {
-        if self.count == 0 {
-            None
-        } else {
-            Some(self.least)
-        }
-    }
-
     /// The greatest value, where there is one.
     pub fn greatest(&self) -> Option<u64>
         ensures { (xs : List ℕ) → IsTallyOf xs self.now → result ≡ greatest_of xs }
     {
-        if self.count == 0 {
+        if self.many() == 0 {
             None
         } else {
             Some(self.greatest)
@@ -198,15 +194,15 @@ impl Tally {
     /// greatest value there was; none where there was none.
     pub fn percentile(&self, percent: u64) -> Option<u64>
         requires percent { percent ≤ 100 }
-        requires few { self.now.count < 2 ^ 57 }
+        requires few { self.now.zeros + self.now.count < 2 ^ 57 }
         requires whole { self.now.refused ≡ false }
         ensures { (xs : List ℕ) → IsTallyOf xs self.now → result ≡ percentile percent xs }
     {
-        if self.count == 0 {
+        if self.many() == 0 {
             return None;
         }
-        let rank = (percent * self.count).div_ceil(100);
-        let class = class_at(&self.counts, rank);
+        let rank = (percent * self.many()).div_ceil(100);
+        let class = class_at(self.zeros, &self.counts, rank);
         Some(top_of(class).min(self.greatest))
     }
 }
@@ -235,14 +231,13 @@ mod tests {
             let mut tally = Tally::new(rt.alloc());
             for value in values {
                 assert!(rt; *value < 1 << 50);
-                assert!(rt; tally.count < 1 << 40);
+                assert!(rt; tally.many() < 1 << 40);
                 tally.note(*value);
             }
             assert!(rt; !tally.refused);
             assert!(rt; percent <= 100);
-            assert!(rt; tally.count < 1 << 40);
+            assert!(rt; tally.many() < 1 << 40);
             assert_eq!(rt; tally.percentile(percent), reported);
-            assert_eq!(rt; tally.least(), values.iter().min().copied());
             assert_eq!(rt; tally.greatest(), values.iter().max().copied());
         }
         Ok(())

@@ -1,9 +1,9 @@
-//! When the packets entered their queue that a link sends next.
+//! How many packets wait at a link, and when those entered its queue that it sends next.
 ghost use Rattle.std.specs.Prelude.{◌≡◌, ◌-◌, ℕ, false, IfSome};
 ghost use Rattle.sim_time.specs.Moment.{IsMoment};
 ghost use Rattle.packet_chain.specs.Stamped.{Stamped};
 ghost use Rattle.aqm.specs.Queue.{may_drop, taken_from};
-ghost use Rattle.figures.specs.Links.{IsNextEntry};
+ghost use Rattle.figures.specs.Links.{waiting_at as waiting_is, IsNextEntry};
 
 use aqm::Queue;
 use port::Port;
@@ -11,6 +11,14 @@ use sim_time::Time;
 
 /// The last moment at which a simulation can end, in nanoseconds.
 const LAST_MOMENT: Time = 1_000_000_000_000_000;
+
+/// How many packets wait at a link, whose queue has room for 65,535 at most.
+#[inline(always)]
+pub fn waiting_at(port: &Port) -> u16
+    ensures { result ≡ waiting_is port.now }
+{
+    port.queue().len() as u16
+}
 
 // When the packet entered a queue that it gives at a moment, or a moment after which it has waited for as long; 0 where
 // it gives none.

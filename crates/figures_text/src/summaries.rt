@@ -58,7 +58,7 @@ fn of_sender(
     delivered: u64,
     counted: &SenderFigures,
 ) -> Result<FlowSummary, AllocError>
-    requires few { counted.now.trips.count < 2 ^ 57 }
+    requires few { counted.now.trips.zeros + counted.now.trips.count < 2 ^ 57 }
     ensures { (before ts : List Turn) → AreOfTurns before ts counted.now → IfOk result (λ said. said ≡ summary_of_turns start delivered before ts) }
 {
     let trips = &counted.trips;
@@ -71,8 +71,8 @@ fn of_sender(
         again_in_recovery: counted.again_in_recovery,
         again_otherwise: counted.again_otherwise,
         timeouts: counted.timeouts,
-        round_trips: trips.count,
-        least: trips.least(),
+        round_trips: trips.many(),
+        least: counted.least_trip(),
         median: trips.percentile(50),
         high: trips.percentile(95),
         highest: trips.percentile(99),
@@ -171,7 +171,7 @@ fn waited_to_end(counted: &LinkFigures, last: Time, end: Time) -> u128
     ensures { (b : Base) (ms : List Moment) (s : State) (node index : ℕ) → AreOfLink b ms s node index counted.now → last_from b.since ms ≡ last → result ≡ (summary_of_exit node index end b ms s).waited }
 {
     let left = end.saturating_sub(last);
-    counted.waited_by(last) + counted.waiting as u128 * u128::from(left)
+    counted.waited_by(last) + u128::from(counted.waiting) * u128::from(left)
 }
 
 /// What is said of a link of which this was counted, of a run whose last event was at a moment.
@@ -188,10 +188,10 @@ fn of_exit(counted: &LinkFigures, last: Time, end: Time) -> Result<LinkSummary, 
         lost: counted.lost,
         full: counted.full,
         codel: counted.codel,
-        sent: counted.sent,
-        bytes: counted.bytes,
+        sent: u128::from(counted.waits.many()),
+        bytes: u128::from(counted.bytes),
         busy: busy_to_end(counted, last, end),
-        longest: counted.longest as u64,
+        longest: u64::from(counted.longest),
         waited: waited_to_end(counted, last, end),
         median: delays.median,
         high: delays.high,

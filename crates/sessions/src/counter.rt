@@ -118,7 +118,7 @@ impl Counter {
         ensures begun { IfOk result (λ _. (p : ScenarioParts) (b : Base) → AreOfRun p b self.old.figures self.old.net → AreOfRun p (base_at p (min moment p.end) self.old.net) self.new.figures self.new.net) }
     {
         let since = moment.min(self.net.end());
-        self.figures = self.figures.from_here(self.alloc, &self.net, since)?;
+        self.figures.restart(self.alloc, &self.net, since)?;
         Ok(())
     }
 

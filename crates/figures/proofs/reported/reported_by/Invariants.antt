@@ -16,5 +16,5 @@ invariant-loop-act l = record {
   full_most : l.reported.full ≤ l.act-index;
   codel_most : l.reported.codel ≤ l.act-index;
   sent_most : l.reported.sent ≤ l.act-index;
-  bytes_most : l.reported.bytes ≤ l.act-index * 9040;
+  bytes_most : l.reported.bytes ≤ l.reported.sent * 9040;
 }

@@ -5,7 +5,7 @@ use Rattle.figures.specs.Figures.{IsOfNode}
 use Rattle.figures.specs.Moments.{cause_of}
 use Rattle.figures.proofs.Steps.{is_step, size_stays}
 use Rattle.figures.proofs.AllLinks.{links_counted, sizes_are}
-use Rattle.figures.proofs.One.{one_link}
+use Rattle.figures.proofs.One.{one_link, sends_each}
 use Rattle.figures.proofs.After.{quiet, quiet_sender, acted_from, one_acted, reported, within_parts, none_where_free}
 use Rattle.figures.proofs.figures.Figures.after.Goals as goal
 
@@ -77,3 +77,8 @@ pub returns-then-freed-clause-links : goal.returns-then-freed-clause-links
 returns-then-freed-clause-links c = λ b ms s is next tells keeps.
     links_counted b ms s (shown c.args.line.now) c.args.net.now.state next (omega (arith, is.last, c.requires.order)) c.nodes-nodes.result.now c.nodes-nodes.ensures.parts tells keeps c.args.self.now.links.items c.count_links.new.all.items c.args.self.now.links.items refl is.links
     c.count_links.ensures.size c.count_links.ensures.sizes c.count_links.ensures.here c.count_links.ensures.elsewhere
+
+pub count_links-requires-clause-sends : goal.count_links-requires-clause-sends
+count_links-requires-clause-sends c =
+    let R = c.requires.follows in
+    sends_each R.before (shown c.args.line.now) c.args.net.now.state R.next R.base R.so_far c.nodes-nodes.result.now c.nodes-nodes.ensures.parts c.args.self.now.links.items c.args.self.now.links.items refl R.figures.links R.sends

@@ -4,6 +4,7 @@ use Rattle.std.specs.Option.{option_or}
 use Rattle.reno_sender.specs.declared.fields.SenderFields.{SenderFields}
 use Rattle.figures.specs.declared.turn.KeptSender.{KeptSender}
 use Rattle.figures.specs.Turns.{Turn, planned_in, again_in, in_recovery, recovers, sample_by, sent_as, kept_of, is_complete, IsOfSegments}
+use Rattle.figures.specs.Classes.{least_from}
 use Rattle.figures.specs.Senders.{trips_of}
 use Rattle.figures.specs.Tallied.{IsTallyOf}
 use Rattle.figures.proofs.Sent.{planned_is, of_segments}
@@ -33,3 +34,4 @@ returns-clause-figures c = λ earlier ts f kept planned is.
     (ap (λ n. c.args.self.now.timeouts + n) c.timeouts_in.ensures.value)
     (c.note_complete.ensures ∙ ap (λ b. option_or c.args.self.now.completed (cond b (Some c.args.now) None)) (c.is_complete.ensures ∙ ap is_complete after))
     (subst (λ o. IsTallyOf (trips_of ts ++ option_to_list o) c.note_some.new.self) (c.sample_by-trip.ensures.value ∙ ap (λ (k : KeptSender). sample_by k.timing c.args.cause c.args.now) before) (c.note_some.ensures.tally (trips_of ts) is.trips))
+    (c.lower.ensures ∙ ap (λ o. least_from c.args.self.now.least (option_to_list o)) (c.sample_by-trip.ensures.value ∙ ap (λ (k : KeptSender). sample_by k.timing c.args.cause c.args.now) before))

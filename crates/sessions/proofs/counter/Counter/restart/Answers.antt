@@ -11,7 +11,7 @@ returns-clause-some c =
     let least : c.min-since.result ≡ min c.args.moment mid.state.end = search rules in
     let end : mid.state.end ≡ p.end = end_of_run p mid (record { lines = some.of.lines; comes = some.of.comes }) in
     let is : c.min-since.result ≡ min c.args.moment p.end = least ∙ ap (min c.args.moment) end in
-    c.in_ok-self.ensures.some p some.base some.is_scenario (at_most_end c.min-since.result c.args.moment p.end is) (none_before c.min-since.result c.args.moment p.end mid.state is c.requires.held) some.of
+    c.in_ok-restart.ensures.some p some.base some.is_scenario (at_most_end c.min-since.result c.args.moment p.end is) (none_before c.min-since.result c.args.moment p.end mid.state is c.requires.held) some.of
 
 pub returns-clause-begun : goal.returns-clause-begun
 returns-clause-begun c = λ p b of.
@@ -19,4 +19,4 @@ returns-clause-begun c = λ p b of.
     let least : c.min-since.result ≡ min c.args.moment mid.state.end = search rules in
     let end : mid.state.end ≡ p.end = end_of_run p mid (record { lines = of.lines; comes = of.comes }) in
     let is : c.min-since.result ≡ min c.args.moment p.end = least ∙ ap (min c.args.moment) end in
-    subst (λ since. AreOfRun p (base_at p since mid) c.in_ok-self.field-0 mid) is (c.in_ok-self.ensures.run p b (at_most_end c.min-since.result c.args.moment p.end is) of)
+    subst (λ since. AreOfRun p (base_at p since mid) c.restart.new.self mid) is (c.in_ok-restart.ensures.run p b (at_most_end c.min-since.result c.args.moment p.end is) of)
