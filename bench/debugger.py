@@ -28,6 +28,7 @@ PLACE, STRETCH = 900_000, 100_000   # the line to which `reverse` goes, and how 
 ANSWER, BACK, DUMP = 0.050, 0.5, 0.020   # seconds: an answer, `reverse`, a dump
 STALL = 1.15                    # times the time of a breakpoint on timeouts
 STEP = 1.3                      # times the instructions of `run`
+VALUE = 1.3                     # times the instructions of a breakpoint on timeouts
 SAVED = 64 * 2**20              # bytes of checkpoints
 Timed = namedtuple('Timed', 'mean longest')
 
@@ -229,20 +230,41 @@ def crowded(before):
     return kept, plain
 
 
+def one_flow():
+    """A flow of 26,000 segments, none of them lost."""
+    link = 8 * MBIT, MS, droptail(100)
+    return path_of('debugger counted', two_ends(26_000, link, link, 44))
+
+
+def cost(words, lines, path):
+    """The instructions of the program, into which lines are typed."""
+    done = subprocess.run([*CALLGRIND, PROGRAM, *words, path], input=lines, capture_output=True, env=ENVIRONMENT, check=True)
+    return instructions(done.stderr.decode())
+
+
+def has_valgrind():
+    return bool(shutil.which('valgrind', path=ENVIRONMENT['PATH']))
+
+
 def counted():
     """Instructions per event of `step` and of `run`, over 100,000 events of one flow; nothing without valgrind."""
-    if not shutil.which('valgrind', path=ENVIRONMENT['PATH']):
+    if not has_valgrind():
         return None
-    link = 8 * MBIT, MS, droptail(100)
-    path = path_of('debugger counted', two_ends(26_000, link, link, 44))
-
-    def cost(words, lines):
-        done = subprocess.run([*CALLGRIND, PROGRAM, *words, path], input=lines, capture_output=True, env=ENVIRONMENT, check=True)
-        return instructions(done.stderr.decode())
-    step = (cost(('debug',), b'step 100000\n') - cost(('debug',), b'step 0\n')) / 100_000
+    path = one_flow()
+    step = (cost(('debug',), b'step 100000\n', path) - cost(('debug',), b'step 0\n', path)) / 100_000
     done = subprocess.run([PROGRAM, 'run', path], capture_output=True, env=ENVIRONMENT, check=True)
     events = number(r'end (\d+)\n$', done.stdout[-40:].decode())
-    return step, cost(('run',), b'') / events
+    return step, cost(('run',), b'', path) / events
+
+
+def values():
+    """Of each breakpoint that matches nowhere the instructions of `run` to the end of one flow, and of `reverse` from there to the
+    beginning, with those of `break kind rto` first; nothing without valgrind."""
+    path = one_flow()
+    for condition in ('kind rto', 'cwnd<1', 'rto>999s', 'phase fr', 'time>=999999s', 'queue 0>60000', 'wait 0>999s', 'change ssthresh 0') if has_valgrind() else ():
+        line = f'break {condition}\n'.encode()
+        there, back = (cost(('debug',), lines, path) for lines in (line + b'run\n', line + b'run\nreverse\n'))
+        yield condition, there, back - there
 
 
 def shown(seconds):
@@ -283,6 +305,15 @@ def page(args, before):
         last = (shown(stall), f'{stall / rto:.2f}', f'{STALL}', within(stall / rto, STALL)) if stall else ('no such breakpoint', '', f'{STALL}', '')
         rows.append((f'{name}: {events:,} events', shown(rto), *last))
     yield from table(('Run', '`break kind rto`', '`break stall`', 'Times', 'At most', 'Within'), rows)
+    if found := list(values()):
+        yield '## A breakpoint on a value\n'
+        yield 'Millions of instructions of `run` to the end of a flow of 26,000 segments, and of `reverse` from there. No breakpoint matches.\n'
+        _, *least = found[0]
+        rows = []
+        for condition, *costs in found:
+            times = max(it / of for it, of in zip(costs, least))
+            rows.append((f'`break {condition}`', *(f'{it / 10**6:,.0f}' for it in costs), f'{times:.2f}', f'{VALUE}', within(times, VALUE)))
+        yield from table(('Breakpoint', '`run`', '`reverse`', 'Times `break kind rto`', 'At most', 'Within'), rows)
     yield '## With groups and workers\n'
     crews = grouped(args.rounds, before)
     at = next(iter(crews.values()))[0]

@@ -17,6 +17,8 @@ BEHIND = {b'node': (NODE,), b'flow': (FLOW,), b'kind': (KIND,), b'drop': (), b'l
 OF_SENDER = {b'cwnd': (SIGN, NUMBER), b'flight': (SIGN, NUMBER), b'ssthresh': (SIGN, NUMBER), b'una': (SIGN, NUMBER), b'nxt': (SIGN, NUMBER),
              b'rto': (SIGN, TIME), b'dups': (SIGN, NUMBER), b'phase': (PHASE,)}
 OF_RECEIVER = {b'next': (SIGN, NUMBER)}
+# What `change` can be of: what is a number.
+OF_CHANGE = {*OF_SENDER, *OF_RECEIVER} - {b'phase'}
 OF_LINK = {b'queue': (LINK, SIGN, NUMBER), b'wait': (LINK, SIGN, TIME), b'count': (LINK, SIGN, NUMBER)}
 OF_VALUES = {**BEHIND, **OF_SENDER, **OF_RECEIVER, **OF_LINK, b'time': (SIGN, TIME), b'change': (VALUE, FLOW)}
 # What stands behind the sorts that have a node, a link or a flow alone behind them, in whatever command.
@@ -45,9 +47,13 @@ def conditions_in(words, names, steps):
     """The conditions that the words behind `break` are, in the order in which they are told; of each its sort and its value."""
     sorts, found = behind(steps), {}
     for part in parted(words, steps):
-        if part[0] not in sorts or part[0] == b'change' and part[1:] and part[1] not in {**OF_SENDER, **OF_RECEIVER}:
+        if part[0] not in sorts:
             raise Refused('B1')
-        if len(part) < 1 + len(sorts[part[0]]) or part[0] in found:
+        if part[0] in found:
+            raise Refused('B2')
+        if part[0] == b'change' and part[1:] and part[1] not in OF_CHANGE:
+            raise Refused('B1')
+        if len(part) < 1 + len(sorts[part[0]]):
             raise Refused('B2')
         found[part[0]] = part[1:]
     if not found:

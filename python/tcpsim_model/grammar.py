@@ -10,7 +10,7 @@ MOST_WORD = 32          # bytes of a word whose nearest name is told
 NAMES = {b'step': 1, b'back': 1, b'break': 1, b'breaks': 2, b'run': 1, b'reverse': 6, b'until': 1, b'state': 1, b'lines': 3,
          b'delete': 2, b'clear': 1, b'help': 2, b'quit': 1, b'why': 5, b'goto': 9, b'where': 9, b'names': 10}
 # Names that go before a topic behind `help`; others go behind it.
-BEFORE_TOPICS = (*(name for name, step in NAMES.items() if step <= 8), b'names')
+BEFORE_TOPICS = tuple(name for name, step in NAMES.items() if step <= 8)
 # Of each name in the order of `help`: how it is used, what it does, what else there is to say, and an example.
 HELP = {
     b'step': ('step [K]', 'run the next K events (1)',

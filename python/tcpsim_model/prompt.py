@@ -32,7 +32,7 @@ from tcpsim_model.waits import why
 
 STEPS = 11
 # How many of them the program has.
-BUILT = 10
+BUILT = 11
 PROMPT = '(tcpsim) '
 MOST_SHOWN = 10         # lines that a move passed
 MOST_LINES = 1_000      # of `lines`

@@ -54,7 +54,7 @@ PAGES = {
         'wait L>100ms the same: how long the first of them has waited\n'
         'count L>4    the same: the count of CoDel; a drop-tail queue has none\n'
         'time>=5s     the moment\n'
-        'change V F   an event that changes a value of flow F: V is one of those of a sender, or next. It tells from what\n'
+        'change V F   an event that changes a value of flow F: cwnd, flight, ssthresh, una, nxt, rto, dups or next. It tells from what\n'
         'flow F beside these asks for the sender or the receiver of flow F, else it is any.\n'
         'break cwnd<3000 flow 0\n'},
 }

@@ -94,10 +94,10 @@ def test_help():
     rows = session('help').splitlines()
     assert [row.split()[0] for row in rows[13:17]] == ['why', 'names', 'help', 'quit']
     assert rows[-2] == '(nodes N, links L and flows F go by their names, or by numbers from 0: help numbers)'
-    assert session('help n') == session('help names') == (
+    assert session('help na') == session('help names') == (
         'names        list the names of nodes, links and flows with their numbers\n'
         'A name can stand wherever a number of a node, a link or a flow can: help numbers. An image has none.\nnames\n')
-    assert session('help nu') == session('help numbers') and session('help nu').endswith('\nnames\n')
+    assert session('help n') == session('help nu') == session('help numbers') and session('help n').endswith('\nnames\n')
     assert 'goes by its name in the text, or by its number' in session('help num')
     assert Session(TWO, 9)('help n').startswith('Nodes, links and flows go by numbers')
     for text in [pages.topics_in(10)[b'numbers'], *(more for _, _, more, _ in pages.help_in(10).values())]:

@@ -122,9 +122,9 @@ def test_what_a_value_changed_from():
     assert session('goto 26').endswith(at(lines, 26) + 'break 1: change cwnd 0 (cwnd from 8000)\n')
     assert session('reverse').endswith(at(lines, 18) + 'break 1: change cwnd 0 (cwnd from 7000)\n')
     assert session('step').endswith(at(lines, 19)) and session('delete 1') == 'deleted 1: change cwnd 0\n'
-    session('break change rto f', 'break change phase f')
-    assert session('run').endswith(at(lines, 26) + 'break 1: change rto 0 (rto from 1000000000ns)\n')
-    assert session('goto 36').endswith(at(lines, 36) + 'break 2: change phase 0 (phase from ss)\n')
+    session('break change rto f', 'break change dups f')
+    assert session('run').endswith(at(lines, 22) + 'break 2: change dups 0 (dups from 0)\n')
+    assert session('goto 26').endswith(at(lines, 26) + 'break 1: change rto 0 (rto from 1000000000ns)\n')
     # That of a flow that the line is not of does not change.
     assert stops(FAIR, 'change cwnd fb', 1) == [next(n for n, line in enumerate(trace_of(FAIR), 1) if ' 4 ' in line[:30] and 'ack 1 ' in line and
                                                     line.split()[2] == '4')]
@@ -155,10 +155,10 @@ def test_a_word_is_parted_at_signs():
 
 def test_what_is_refused():
     session = Session(TWO, 11)
-    refuses(session, 'B1', 'break cwn<3', 'break <3000', 'break cwnd<3 4', 'break =', 'break change queue f', 'break change x', 'break cwnd<=<3 4', 'break cwnd==3', 'break cwnd=<3', 'break phase=ss', 'step<3',
+    refuses(session, 'B1', 'break cwn<3', 'break <3000', 'break cwnd<3 4', 'break =', 'break change queue f', 'break change x', 'break change phase f', 'break cwnd<=<3 4', 'break cwnd==3', 'break cwnd=<3', 'break phase=ss', 'step<3',
             'break queue a>1 stall')
     refuses(session, 'B2', 'break cwnd', 'break cwnd<', 'break cwnd 3000', 'break queue a', 'break queue a>', 'break cwnd<1 cwnd>2', 'break phase', 'break change',
-            'break change cwnd', 'break queue a<1 queue b<1', 'break time<', 'break stall cwnd<3')
+            'break change cwnd', 'break queue a<1 queue b<1', 'break change cwnd f change x f', 'break time<', 'break stall cwnd<3')
     refuses(session, 'B3', 'break cwnd<x', 'break cwnd<01', 'break cwnd<-1', 'break cwnd<1.5', 'break cwnd<1000000000000001', 'break phase xx', 'break phase =',
             'break queue x>1', 'break queue s>1', 'break wait a>1.5', 'break rto<1.0ns', 'break time>1000001s', 'break change cwnd a', 'break cwnd 3000 4')
     assert 'tcpsim: s is a node: see help numbers\n' in session('break queue s>1') and 'tcpsim: a is a link: see' in session('break change cwnd a')
@@ -192,7 +192,7 @@ def test_help():
     assert session('help v') == session('help values') and session('help break').count('help values') == 1
     for line in session('help values').splitlines()[-1:]:
         assert session(line) == 'break 1: flow 0 cwnd<3000\n'
-    assert max(map(len, session('help values', 'help break', 'help goto').splitlines())) <= 116
+    assert max(map(len, session('help values', 'help break', 'help goto').splitlines())) <= 125
     assert session('break foo').endswith('queue L, wait L, count L, time, change V; or stall: see help break\n')
     assert Session(TWO, 10)('help values').startswith('refused B1')
 

@@ -1,6 +1,6 @@
 -- A move by windows that was left, before it is made and after it.
 use Rattle.std.proofs.Common.{◌≡◌, ◌∙◌, ℕ, List, [], Bool, true, false, MatchBool, Option, Some, None, Ok, sym, ap, subst}
-use Rattle.std.specs.Prelude.{MatchOption}
+use Rattle.std.specs.Prelude.{MatchOption, option_map}
 use Rattle.table_run.specs.State.{State}
 use Rattle.debugger.specs.Debugging.{Debugging}
 use Rattle.debug_session.specs.declared.command.Command.{Command}
@@ -10,6 +10,8 @@ use Rattle.debug_session.specs.declared.command.Typed.TheVariants.{Plain}
 use Rattle.debug_session.specs.declared.dialogue.Dialogue.{Dialogue}
 use Rattle.debug_session.specs.declared.naming.Naming.{Naming}
 use Rattle.debug_session.specs.declared.refusal.Refusal.TheVariants.{B2}
+use Rattle.debug_session.specs.declared.window_move.TypedWindowMove.{TypedWindowMove}
+use Rattle.debug_session.specs.declared.window_move.TypedWindowMove.TheVariants.{Plain as PlainMove, Moment as MomentMove}
 use Rattle.debug_session.specs.declared.window_move.WindowMove.{WindowMove}
 use Rattle.debug_session.specs.declared.window_move.WindowMove.TheVariants.{Run, Until}
 use Rattle.debug_session.specs.Answers.{SessionState, session_state, Obeys, Follows, Answers, refusal_line}
@@ -17,7 +19,7 @@ use Rattle.debug_session.specs.Grammar.{Reading, reading}
 use Rattle.debug_session.specs.Memos.{knowing}
 use Rattle.debug_session.specs.Prompt.{AtPrompt, Rests, ObeysAtPrompt, AnswersTyped, TypedAnswers, at_prompt, memo_after, is_long, is_quit}
 use Rattle.debug_session.specs.TypedAnswers.{ObeysTyped}
-use Rattle.debug_session.specs.WindowMoves.{MoveGoesTo, IsAsked, IsTyped, IsLeft, IsTypedLeft, command_of, report_of}
+use Rattle.debug_session.specs.WindowMoves.{MoveGoesTo, TypedMoveGoesTo, typed_of, IsAsked, IsTyped, IsLeft, IsTypedLeft, command_of, report_of}
 use Rattle.debug_session.proofs.Moved.{Gone}
 use Rattle.debug_session.proofs.TypedMoving.{GonePast}
 
@@ -26,9 +28,12 @@ pub asked_as : (r : Option WindowMove) (asked other : Command) (old new : Debugg
 asked_as None asked other old new P Q is says obeys = says obeys
 asked_as (Some left) asked other old new P Q is says move = (is ∙ move.0, move.1)
 
-pub typed_plain : (r : Option WindowMove) (asked : Typed) (command : Command) (old new : Debugging) (P Q : Type 0) → asked ≡ Plain command → (P → Q) → MatchOption r P (IsAsked command old new) → MatchOption r Q (IsTyped asked old new)
+typed_plain : (r : Option WindowMove) (asked : Typed) (command : Command) (old new : Debugging) (P Q : Type 0) → asked ≡ Plain command → (P → Q) → MatchOption r P (IsAsked command old new) → MatchOption (option_map (λ m. PlainMove m) r) Q (IsTyped asked old new)
 typed_plain None asked command old new P Q is says obeys = says obeys
 typed_plain (Some left) asked command old new P Q is says move = (is ∙ ap (λ k. Plain k) move.0, move.1)
+
+pub typed_plain_left : (r : Option WindowMove) (l : Option TypedWindowMove) (asked : Typed) (command : Command) (old new : Debugging) (P Q : Type 0) → l ≡ option_map (λ m. PlainMove m) r → asked ≡ Plain command → (P → Q) → MatchOption r P (IsAsked command old new) → MatchOption l Q (IsTyped asked old new)
+typed_plain_left r l asked command old new P Q left is says move = subst (λ (o : Option TypedWindowMove). MatchOption o Q (IsTyped asked old new)) (sym left) (typed_plain r asked command old new P Q is says move)
 
 -- a line asks for what is obeyed, or for a move
 pub line_obeyed : (limits : Limits) (line : List ℕ) (command : Command) (old new : Debugging) (r : Option WindowMove) (out : List ℕ) → Some (Ok command) ≡ reading limits line
@@ -42,7 +47,7 @@ line_obeyed limits line command old new (Some left) out read move = record {
 }
 
 -- so at a prompt
-pub typed_obeyed : (naming : Naming) (asked : Typed) (old new : Dialogue) (r : Option WindowMove) (out : List ℕ) → new.memo ≡ memo_after asked (at_prompt old)
+pub typed_obeyed : (naming : Naming) (asked : Typed) (old new : Dialogue) (r : Option TypedWindowMove) (out : List ℕ) → new.memo ≡ memo_after asked (at_prompt old)
     → MatchOption r (ObeysTyped naming old.debugger.start (knowing new.memo.known asked) (session_state old.debugger) (session_state new.debugger) out) (IsTyped (knowing new.memo.known asked) old.debugger new.debugger)
     → MatchOption r (ObeysAtPrompt naming old.debugger.start asked (at_prompt old) (at_prompt new) out) (IsTypedLeft naming old new (ObeysAtPrompt naming old.debugger.start asked (at_prompt old)))
 typed_obeyed naming asked old new None out memo obeys = record { obeyed = obeys; memo = memo }
@@ -53,7 +58,7 @@ typed_obeyed naming asked old new (Some left) out memo move = record {
 }
 
 -- what is done or left comes to what follows of it
-pub typed_as : (naming : Naming) (old new : Dialogue) (P Q : AtPrompt → List ℕ → Type 0) (r : Option WindowMove) (out : List ℕ) → ((at : AtPrompt) (said : List ℕ) → P at said → Q at said)
+pub typed_as : (naming : Naming) (old new : Dialogue) (P Q : AtPrompt → List ℕ → Type 0) (r : Option TypedWindowMove) (out : List ℕ) → ((at : AtPrompt) (said : List ℕ) → P at said → Q at said)
     → MatchOption r (P (at_prompt new) out) (IsTypedLeft naming old new P) → MatchOption r (Q (at_prompt new) out) (IsTypedLeft naming old new Q)
 typed_as naming old new P Q None out says is = says (at_prompt new) out is
 typed_as naming old new P Q (Some left) out says is = record { same = is.same; answers = λ at said obeys. says (record { session_state = at; memo = new.memo }) said (is.answers at said obeys) }
@@ -77,16 +82,17 @@ move_obeyed : (left : WindowMove) (old new : Debugging) (out : List ℕ) → Gon
 move_obeyed Run old new out gone = gone.went
 move_obeyed (Until time) old new out gone = gone.went
 
-typed_move_obeyed : (naming : Naming) (left : WindowMove) (old new : Debugging) (out : List ℕ) → GonePast (report_of left old.shown.position) (MoveGoesTo left old) old new out → ObeysTyped naming old.start (Plain (command_of left)) (session_state old) (session_state new) out
-typed_move_obeyed naming Run old new out gone = gone.went
-typed_move_obeyed naming (Until time) old new out gone = gone.went
+typed_move_obeyed : (naming : Naming) (left : TypedWindowMove) (old new : Debugging) (out : List ℕ) → GonePast (report_of left old.shown.position) (TypedMoveGoesTo left old) old new out → ObeysTyped naming old.start (typed_of left) (session_state old) (session_state new) out
+typed_move_obeyed naming (PlainMove Run) old new out gone = gone.went
+typed_move_obeyed naming (PlainMove (Until time)) old new out gone = gone.went
+typed_move_obeyed naming (MomentMove time) old new out gone = gone.went
 
 -- and the line was answered
 pub left_answered : (old here new : Debugging) (IsAnswer : SessionState → List ℕ → Type 0) (left : WindowMove) (out : List ℕ) → IsLeft old here IsAnswer left → Gone (MoveGoesTo left here) here new out → IsAnswer (session_state new) out
 left_answered old here new IsAnswer left out is gone =
     is.answers (session_state new) out (move_obeyed left old new out (subst (λ (d : Debugging). Gone (MoveGoesTo left d) d new out) is.same gone))
 
-pub typed_left_answered : (naming : Naming) (old here : Dialogue) (new : Debugging) (IsAnswer : AtPrompt → List ℕ → Type 0) (left : WindowMove) (out : List ℕ) → IsTypedLeft naming old here IsAnswer left
-    → GonePast (report_of left here.debugger.shown.position) (MoveGoesTo left here.debugger) here.debugger new out → IsAnswer (record { session_state = session_state new; memo = here.memo }) out
+pub typed_left_answered : (naming : Naming) (old here : Dialogue) (new : Debugging) (IsAnswer : AtPrompt → List ℕ → Type 0) (left : TypedWindowMove) (out : List ℕ) → IsTypedLeft naming old here IsAnswer left
+    → GonePast (report_of left here.debugger.shown.position) (TypedMoveGoesTo left here.debugger) here.debugger new out → IsAnswer (record { session_state = session_state new; memo = here.memo }) out
 typed_left_answered naming old here new IsAnswer left out is gone =
-    is.answers (session_state new) out (typed_move_obeyed naming left old.debugger new out (subst (λ (d : Debugging). GonePast (report_of left d.shown.position) (MoveGoesTo left d) d new out) is.same gone))
+    is.answers (session_state new) out (typed_move_obeyed naming left old.debugger new out (subst (λ (d : Debugging). GonePast (report_of left d.shown.position) (TypedMoveGoesTo left d) d new out) is.same gone))

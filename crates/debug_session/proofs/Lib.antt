@@ -1,4 +1,6 @@
 pub mod Words
+pub mod Parting
+pub mod Written
 pub mod Placed
 pub mod Times
 pub mod Followed

@@ -4,7 +4,7 @@ use Rattle.std.specs.List.{flat_map}
 use Rattle.debug_session.specs.declared.name.CommandName.{CommandName}
 use Rattle.debug_session.specs.declared.name.CommandName.TheVariants.{Step, Back, Break, Breaks, Run, Reverse, Until, Goto, Where, State, Delete, Clear, Lines, Why, Names, Help, Quit}
 use Rattle.debug_session.specs.declared.topic.Topic.{Topic}
-use Rattle.debug_session.specs.declared.topic.Topic.TheVariants.{Command, Numbers, Trace, Kinds, Stall}
+use Rattle.debug_session.specs.declared.topic.Topic.TheVariants.{Command, Numbers, Trace, Kinds, Stall, Values}
 
 -- how a command is used
 abbrev pub usage : CommandName → List ℕ
@@ -13,17 +13,17 @@ usage Back = codes "back [K]     take the last K events back (1)\n"
 usage Run = codes "run          run until a breakpoint matches, or to the end\n"
 usage Reverse = codes "reverse      go back until a breakpoint matches, or to the beginning\n"
 usage Until = codes "until T      run all events before the moment T, as 1.5s, 20ms or 10000ns\n"
-usage Goto = codes "goto N       go to position N, forwards or back, or to the end\n"
+usage Goto = codes "goto N       go to position N, or to a moment as 1.5s, forwards or back\n"
 usage Where = codes "where        show the position, the next event, and how far the run is known to go\n"
 usage State = codes "state [PART] show all of the state, or of it: node N, link L or flow F\n"
-usage Break = codes "break COND.. stop where all match: node N, flow F, kind K, drop, link L, byte B; or stall [F]\n"
+usage Break = codes "break COND.. stop where all match: node N, flow F, kind K, drop, link L, byte B, a value; or stall [F]\n"
 usage Breaks = codes "breaks       list the breakpoints\n"
 usage Delete = codes "delete I     take breakpoint I away\n"
 usage Clear = codes "clear        take all breakpoints away\n"
 usage Lines = codes "lines [K]    show the last K lines of the trace (10)\n"
 usage Why = codes "why F        tell what flow F waits for\n"
 usage Names = codes "names        list the names of nodes, links and flows with their numbers\n"
-usage Help = codes "help [NAME]  show this, or more of NAME: a command, numbers, trace, kinds or stall\n"
+usage Help = codes "help [NAME]  show this, or more of NAME: a command, numbers, trace, kinds, stall or values\n"
 usage Quit = codes "quit         end the session\n"
 
 -- what else there is to say of it
@@ -33,7 +33,9 @@ more Back = codes "It shows the last ten lines that it takes back, the latest fi
 more Run = codes "It stops after the next event whose line a breakpoint matches, and shows that breakpoint.\n"
 more Reverse = codes "It stops after the last event before this position whose line a breakpoint matches, else at position 0.\n"
 more Until = codes "T is a number of nanoseconds, or has a unit: ns, us, ms or s. It only goes forwards, and else says so.\n"
-more Goto = codes "N is how many events were run there, as the first number of a line of the trace.\n"
+more Goto =
+    codes "N is how many events were run there, as the first number of a line of the trace; past the end it is the end.\n"
+    ++ codes "A moment has a unit, as of until: all events before it are run, and no other.\n"
 more Where = codes "The next event is shown by the line that it gives. A run is known to go to where the session was.\n"
 more State =
     codes "node N and link L show one line each, flow F all that there is of a flow: both of its ends, the links\n"
@@ -45,6 +47,7 @@ more Break =
     ++ codes "drop         a packet is dropped\n"
     ++ codes "link L       link L begins to send a packet, or drops one\n"
     ++ codes "byte B       a segment that begins with byte B arrives, or an acknowledgement of B; with drop, it is dropped\n"
+    ++ codes "cwnd<3000    and other values of a sender, a receiver, a link, or of the time: help values\n"
     ++ codes "stall [F]    a flow, or flow F, is stalled from there on: help stall; it stands alone\n"
 more Breaks = codes "They are counted from 1; where one is taken away, those behind it move up by one.\n"
 more Delete = codes "I is its number, as breaks lists it.\n"
@@ -130,3 +133,16 @@ help_on Stall =
     ++ codes "for each stall. lines 1 shows the event, which has the number of that flow, or drops a packet of it. why F\n"
     ++ codes "tells which alarm is due, and when; break drop and reverse find what was dropped before.\n"
     ++ codes "break stall\n"
+help_on Values =
+    codes "A condition on a value is of the lines after which it holds. Its sign is <, <=, >, >= or =, with or without spaces.\n"
+    ++ codes "cwnd<3000    at a sender, of its state: cwnd, flight (bytes in flight), ssthresh, una, nxt or dups (duplicates)\n"
+    ++ codes "rto>1s       at a sender: how long its retransmission timer runs\n"
+    ++ codes "phase fr     at a sender: ss (slow start), ca (congestion avoidance) or fr (fast recovery)\n"
+    ++ codes "next>=4000   at a receiver: the byte that it waits for\n"
+    ++ codes "queue L>50   an event that changes link L: how many packets wait there\n"
+    ++ codes "wait L>100ms the same: how long the first of them has waited\n"
+    ++ codes "count L>4    the same: the count of CoDel; a drop-tail queue has none\n"
+    ++ codes "time>=5s     the moment\n"
+    ++ codes "change V F   an event that changes a value of flow F: cwnd, flight, ssthresh, una, nxt, rto, dups or next. It tells from what\n"
+    ++ codes "flow F beside these asks for the sender or the receiver of flow F, else it is any.\n"
+    ++ codes "break cwnd<3000 flow 0\n"

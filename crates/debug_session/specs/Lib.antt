@@ -1,6 +1,9 @@
 pub mod Input
 pub mod Grammar
 pub mod Namings
+pub mod Times
+pub mod Signs
+pub mod ValueNames
 pub mod NamesReported
 pub mod Conditions
 pub mod Answers
@@ -9,9 +12,9 @@ pub mod Taking
 pub mod Reported
 pub mod Names
 pub mod Topics
-pub mod Times
 pub mod Memos
 pub mod TypedGrammar
+pub mod ValueTexts
 pub mod Numbered
 pub mod Help
 pub mod TypedMoves

@@ -1,5 +1,5 @@
 -- How the nodes, links and flows of a scenario are called, and which of them a word means.
-use Rattle.std.specs.Prelude.{ℕ, nat_lt, if◌then◌else◌, List, [], ◌∷◌, map, Option, None, Some, is_some, ok_or, Result, Ok, Err}
+use Rattle.std.specs.Prelude.{ℕ, nat_lt, if◌then◌else◌, List, [], ◌∷◌, map, Option, None, Some, is_some, ok_or, Result, Err}
 use Rattle.scenario_asm.specs.declared.named_parts.NamedParts.{NamedParts}
 use Rattle.scenario_asm.specs.Numbers.{is_numeral, number}
 use Rattle.scenario_asm.specs.Text.{number_among}

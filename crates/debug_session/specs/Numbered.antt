@@ -5,6 +5,7 @@ use Rattle.debugger.specs.declared.breaks.EventKind.TheVariants.{Start, Rto, Del
 use Rattle.debugger.specs.declared.breaks.Break.{Break}
 use Rattle.debugger.specs.declared.breaks.StallOf.{StallOf}
 use Rattle.debugger.specs.declared.breaks.StallOf.TheVariants.{Any, Flow}
+use Rattle.debug_session.specs.ValueTexts.{values_text, was_text}
 
 abbrev pub kind_text : Option EventKind → List ℕ
 kind_text None = []
@@ -39,17 +40,21 @@ stall_text (Some (Flow n)) = codes " stall " ++ decimal n
 
 -- a breakpoint, as it is typed behind `break`: what it asks for in this order, a space before each
 abbrev pub break_text : Break → List ℕ
-break_text b = event_text b ++ (packet_text b ++ stall_text b.stall)
+break_text b = event_text b ++ (packet_text b ++ (values_text b.values ++ stall_text b.stall))
 
--- a word, a breakpoint's number, and the breakpoint
-abbrev pub numbered_line : List ℕ → ℕ → Break → List ℕ
-numbered_line word i b = word ++ decimal i ++ codes ":" ++ break_text b ++ codes "\n"
+-- a word, a breakpoint's number, and the breakpoint, with what the value was before that it asks to change
+abbrev pub numbered_line : List ℕ → ℕ → Break → Option ℕ → List ℕ
+numbered_line word i b was = word ++ decimal i ++ (codes ":" ++ (break_text b ++ (was_text was b.values.change ++ codes "\n")))
 
 abbrev pub set_line : ℕ → Break → List ℕ
-set_line i b = numbered_line (codes "break ") i b
+set_line i b = numbered_line (codes "break ") i b None
 
 abbrev pub deleted_line : ℕ → Break → List ℕ
-deleted_line i b = numbered_line (codes "deleted ") i b
+deleted_line i b = numbered_line (codes "deleted ") i b None
+
+-- a breakpoint that stops
+abbrev pub stops_line : ℕ → Break → Option ℕ → List ℕ
+stops_line i b was = numbered_line (codes "break ") i b was
 
 -- a line for each, from a number on
 abbrev pub lines_from : ℕ → List Break → List ℕ

@@ -8,7 +8,7 @@ use Rattle.debugger.specs.Breaks.{IsTakenOut}
 use Rattle.debugger.specs.Moves.{StepGoesTo, RunGoesTo, ReverseGoesTo, UntilGoesTo}
 use Rattle.debug_session.specs.declared.command.Command.TheVariants.{Step, Back, Until, Run, State, SetBreak, Clear}
 use Rattle.debug_session.specs.declared.command.Typed.{Typed}
-use Rattle.debug_session.specs.declared.command.Typed.TheVariants.{Plain, Reverse, Goto, Part, Why, Breaks, Delete, Lines, Where, Names, Help, HelpOn}
+use Rattle.debug_session.specs.declared.command.Typed.TheVariants.{Plain, Reverse, Goto, Moment, Part, Why, Breaks, Delete, Lines, Where, Names, Help, HelpOn}
 use Rattle.debug_session.specs.declared.naming.Naming.{Naming}
 use Rattle.debug_session.specs.declared.refusal.Refusal.TheVariants.{B4, B5, M}
 use Rattle.debug_session.specs.Answers.{SessionState, Stays, Does, CanBeRefused, refusal_line}
@@ -43,7 +43,7 @@ pub record TakesAway (i : ℕ) (old new : SessionState) (out : List ℕ) : Type 
 abbrev pub Deletes : ℕ → SessionState → SessionState → List ℕ → Type 0
 Deletes i old new out = TakesAway i old new out ⊎ (¬ HasNumber old.breaks i × Stays old new out (refusal_line B5))
 
--- a command is done, where the nodes, links and flows are called so: moves go where they go in a session whose lines are all there, `goto` where `step` goes from the beginning, and `state` and `clear` are answered as there
+-- a command is done, where the nodes, links and flows are called so: moves go where they go in a session whose lines are all there, `goto` where `step` goes from the beginning, or `until`, and `state` and `clear` are answered as there
 abbrev pub DoesTyped : Naming → NetState → Typed → SessionState → SessionState → List ℕ → Type 0
 DoesTyped naming start (Plain (Step count)) old new out = Moves start (StepGoesTo start old.shown.position count) old new out
 DoesTyped naming start (Plain (Back count)) old new out = Moves start (λ p. p ≡ old.shown.position - count) old new out
@@ -54,6 +54,7 @@ DoesTyped naming start (Plain (SetBreak b)) old new out = SetsNumbered b old new
 DoesTyped naming start (Plain Clear) old new out = Does start Clear old new out
 DoesTyped naming start Reverse old new out = MovesPast start back_to_break (ReverseGoesTo start old.breaks old.shown.position) old new out
 DoesTyped naming start (Goto target) old new out = Moves start (StepGoesTo start 0 target) old new out
+DoesTyped naming start (Moment time) old new out = Moves start (UntilGoesTo start time 0) old new out
 DoesTyped naming start (Part part) old new out = Stays old new out (part_bytes part old.shown)
 DoesTyped naming start (Why flow) old new out = Stays old new out (waits_bytes flow old.shown.state)
 DoesTyped naming start Breaks old new out = Stays old new out (listing old.breaks)
@@ -69,6 +70,7 @@ abbrev pub TypedCanBeRefused : Typed → SessionState → Type 0
 TypedCanBeRefused (Plain asked) old = CanBeRefused asked old
 TypedCanBeRefused Reverse old = Unit {0}
 TypedCanBeRefused (Goto target) old = Unit {0}
+TypedCanBeRefused (Moment time) old = Unit {0}
 TypedCanBeRefused (Part part) old = Unit {0}
 TypedCanBeRefused (Why flow) old = Unit {0}
 TypedCanBeRefused (Delete i) old = ⊥
@@ -94,6 +96,7 @@ last_after (Plain (SetBreak b)) last = last
 last_after (Plain Clear) last = last
 last_after Reverse last = Some Reverse
 last_after (Goto target) last = Some (Goto target)
+last_after (Moment time) last = Some (Moment time)
 last_after (Part part) last = last
 last_after (Why flow) last = last
 last_after Breaks last = last

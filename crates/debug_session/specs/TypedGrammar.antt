@@ -6,7 +6,7 @@ use Rattle.trace_text.specs.declared.dump.DumpPart.{DumpPart}
 use Rattle.trace_text.specs.declared.dump.DumpPart.TheVariants as part
 use Rattle.debug_session.specs.declared.command.Command.TheVariants.{Step, Back, Until, Run, State, Clear}
 use Rattle.debug_session.specs.declared.command.Typed.{Typed}
-use Rattle.debug_session.specs.declared.command.Typed.TheVariants.{Plain, Reverse, Goto, Part, Why, Breaks, Delete, Lines, Where, Names, Help, HelpOn}
+use Rattle.debug_session.specs.declared.command.Typed.TheVariants.{Plain, Reverse, Goto, Moment, Part, Why, Breaks, Delete, Lines, Where, Names, Help, HelpOn}
 use Rattle.debug_session.specs.declared.name.CommandName.{CommandName}
 use Rattle.debug_session.specs.declared.name.CommandName.TheVariants as name
 use Rattle.debug_session.specs.declared.naming.Naming.{Naming}
@@ -20,6 +20,7 @@ use Rattle.debug_session.specs.Input.{words_in}
 use Rattle.debug_session.specs.Memos.{nothing_known}
 use Rattle.debug_session.specs.Names.{name_of}
 use Rattle.debug_session.specs.Namings.{one_part}
+use Rattle.debug_session.specs.Signs.{parts_in}
 use Rattle.debug_session.specs.Times.{moment_in}
 use Rattle.debug_session.specs.Topics.{topic_of}
 
@@ -88,13 +89,24 @@ lists (Ok count) = Ok (Lines count)
 lists (Err refusal) = Err refusal
 
 -- of `goto`: the position
-abbrev pub goes_to : Result ℕ Refusal → TypedReading
-goes_to (Ok target) = Ok (Goto target)
-goes_to (Err refusal) = Err refusal
+abbrev pub goes_to : Option ℕ → TypedReading
+goes_to (Some target) = Ok (Goto target)
+goes_to None = Err B3
 
--- the position that is the only word behind `goto`: at most 10^15
+-- of `goto`: the moment
+abbrev pub goes_to_moment : Option ℕ → TypedReading
+goes_to_moment (Some time) = Ok (Moment time)
+goes_to_moment None = Err B3
+
+-- a numeral is a position, at most 10^15, and any other word a moment with a unit
+abbrev pub target_asked : Word → TypedReading
+target_asked word = if is_numeral word then goes_to (number_below 1000000000000001 word) else goes_to_moment (moment_in word)
+
+-- the only word behind `goto`
 abbrev pub goto_asked : List Word → TypedReading
-goto_asked words = goes_to (one_number 1000000000000001 words)
+goto_asked [] = Err B2
+goto_asked (word ∷ []) = target_asked word
+goto_asked (first ∷ second ∷ more) = Err B2
 
 -- no word
 abbrev pub typed_alone : Typed → List Word → TypedReading
@@ -115,7 +127,7 @@ abbrev pub command_typed : Naming → Option CommandName → List Word → Typed
 command_typed naming None words = Err B1
 command_typed naming (Some name.Step) words = plain (with_number Step (number_or 1 1000000000000001 words))
 command_typed naming (Some name.Back) words = plain (with_number Back (number_or 1 1000000000000001 words))
-command_typed naming (Some name.Break) words = plain (break_asked naming words)
+command_typed naming (Some name.Break) words = plain (break_asked naming (parts_in words))
 command_typed naming (Some name.Breaks) words = typed_alone Breaks words
 command_typed naming (Some name.Run) words = plain (no_word_left Run words)
 command_typed naming (Some name.Reverse) words = typed_alone Reverse words

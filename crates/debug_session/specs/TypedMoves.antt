@@ -12,7 +12,7 @@ use Rattle.debugger.specs.Passed.{lines_between, texts_between}
 use Rattle.debug_session.specs.declared.memo.Extent.{Extent}
 use Rattle.debug_session.specs.declared.report.Report.{Report}
 use Rattle.debug_session.specs.Answers.{SessionState}
-use Rattle.debug_session.specs.Numbered.{set_line}
+use Rattle.debug_session.specs.Numbered.{stops_line}
 
 -- the position behind which the lines of a move backwards begin: where a breakpoint is told, its line is among them
 abbrev pub lowest : ℕ → ℕ → ℕ
@@ -59,10 +59,10 @@ place_line p time at_end = codes "at " ++ (decimal p ++ time_words p time at_end
 abbrev pub where_line : NetState → Reached → List ℕ
 where_line start at = place_line at.position (last_time 0 (lines_between start 0 at.position)) (is_none (due at.state))
 
--- a breakpoint that stops there, with its number
+-- a breakpoint that stops there, with its number, and what the value was before that it asks to change
 abbrev pub hit_line : Option Hit → List ℕ
 hit_line None = []
-hit_line (Some hit) = set_line hit.number hit.breakpoint
+hit_line (Some hit) = stops_line hit.number hit.breakpoint hit.was
 
 -- the first breakpoint that matches the last line, with the states before and after it
 pub record TellsHit (start : NetState) (breaks : List Break) (p : ℕ) (reported : List ℕ) : Type 0 where

@@ -37,6 +37,8 @@ pub enum Typed {
     Reverse,
     /// To this position.
     Goto(u64),
+    /// To where all events before a moment are run, in nanoseconds.
+    Moment(Time),
     /// Nothing but to see a part of the state.
     Part(DumpPart),
     /// Nothing but to see what a flow waits for.

@@ -1,5 +1,5 @@
 //! Lines of a text, and words of a line.
-ghost use Rattle.std.specs.Prelude.{◌≡◌, ◌==◌, ◌∷◌, [], MatchOption, IsTrue};
+ghost use Rattle.std.specs.Prelude.{◌≡◌, ◌==◌, ◌<◌, ◌∷◌, [], length, MatchOption, IfSome, IsTrue};
 ghost use Rattle.std.specs.List.{before_first, after_first, position};
 ghost use Rattle.debug_session.specs.Input.{words_in};
 
@@ -23,7 +23,8 @@ pub(crate) fn cut(bytes: &[u8], byte: u8) -> (&[u8], &[u8])
 
 /// The first word of a line, and what stands behind it.
 pub(crate) fn next_word(line: &[u8]) -> Option<(&[u8], &[u8])>
-    ensures { MatchOption result (words_in line.now ≡ []) (λ found. words_in line.now ≡ found.0.now ∷ words_in found.1.now) }
+    ensures full { IfSome result (λ found. 0 < length found.0.now) }
+    ensures first { MatchOption result (words_in line.now ≡ []) (λ found. words_in line.now ≡ found.0.now ∷ words_in found.1.now) }
 {
     let mut rest = line;
     while !rest.is_empty() {

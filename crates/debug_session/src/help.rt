@@ -39,13 +39,14 @@ fn usage(name: CommandName) -> &'static [u8]
             b"reverse      go back until a breakpoint matches, or to the beginning\n",
         CommandName::Until =>
             b"until T      run all events before the moment T, as 1.5s, 20ms or 10000ns\n",
-        CommandName::Goto => b"goto N       go to position N, forwards or back, or to the end\n",
+        CommandName::Goto =>
+            b"goto N       go to position N, or to a moment as 1.5s, forwards or back\n",
         CommandName::Where =>
             b"where        show the position, the next event, and how far the run is known to go\n",
         CommandName::State =>
             b"state [PART] show all of the state, or of it: node N, link L or flow F\n",
         CommandName::Break =>
-            b"break COND.. stop where all match: node N, flow F, kind K, drop, link L, byte B; or stall [F]\n",
+            b"break COND.. stop where all match: node N, flow F, kind K, drop, link L, byte B, a value; or stall [F]\n",
         CommandName::Breaks => b"breaks       list the breakpoints\n",
         CommandName::Delete => b"delete I     take breakpoint I away\n",
         CommandName::Clear => b"clear        take all breakpoints away\n",
@@ -54,7 +55,7 @@ fn usage(name: CommandName) -> &'static [u8]
         CommandName::Names =>
             b"names        list the names of nodes, links and flows with their numbers\n",
         CommandName::Help =>
-            b"help [NAME]  show this, or more of NAME: a command, numbers, trace, kinds or stall\n",
+            b"help [NAME]  show this, or more of NAME: a command, numbers, trace, kinds, stall or values\n",
         CommandName::Quit => b"quit         end the session\n",
     }
 }
@@ -75,7 +76,9 @@ fn more(name: CommandName) -> &'static [u8]
         CommandName::Until =>
             b"T is a number of nanoseconds, or has a unit: ns, us, ms or s. It only goes forwards, and else says so.\n",
         CommandName::Goto =>
-            b"N is how many events were run there, as the first number of a line of the trace.\n",
+            b"N is how many events were run there, as the first number of a line of the trace; past the end it is the end.
+A moment has a unit, as of until: all events before it are run, and no other.
+",
         CommandName::Where =>
             b"The next event is shown by the line that it gives. A run is known to go to where the session was.\n",
         CommandName::State =>
@@ -89,6 +92,7 @@ kind K       start, rto, delack, free, data or ack: help kinds
 drop         a packet is dropped
 link L       link L begins to send a packet, or drops one
 byte B       a segment that begins with byte B arrives, or an acknowledgement of B; with drop, it is dropped
+cwnd<3000    and other values of a sender, a receiver, a link, or of the time: help values
 stall [F]    a flow, or flow F, is stalled from there on: help stall; it stands alone
 ",
         CommandName::Breaks =>

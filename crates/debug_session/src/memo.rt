@@ -67,6 +67,7 @@ pub(crate) fn knowing(known: Extent, asked: Typed) -> Typed
         Typed::Plain(_)
         | Typed::Reverse
         | Typed::Goto(_)
+        | Typed::Moment(_)
         | Typed::Part(_)
         | Typed::Why(_)
         | Typed::Breaks

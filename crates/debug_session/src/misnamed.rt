@@ -1,10 +1,12 @@
 //! Names that stand where those of other parts are asked for.
 ghost use Rattle.std.specs.Prelude.{◌≡◌};
 
+use crate::conditions::{none_gathered, part_awaited, with_word};
 use crate::cut::next_word;
 use crate::grammar::is;
 use crate::name::{CommandName, name_of};
 use crate::naming::{Naming, PartSort};
+use crate::signs::next_part;
 
 /// A word that is the name of a part of another sort than is asked for.
 #[derive(Clone, Copy)]
@@ -15,24 +17,16 @@ pub struct Misnamed<'a> {
     pub sort: PartSort,
 }
 
-/// The sort of parts that is asked for behind a word.
+/// The sort of parts that is asked for behind a word of `state`.
 fn sort_behind(word: &[u8]) -> Option<PartSort> {
     if is(word, b"node") {
         Some(PartSort::Node)
     } else if is(word, b"link") {
         Some(PartSort::Link)
-    } else if is(word, b"flow") || is(word, b"stall") {
+    } else if is(word, b"flow") {
         Some(PartSort::Flow)
     } else {
         None
-    }
-}
-
-/// The sort of parts that is asked for behind the name of a command.
-fn sort_behind_name(name: Option<CommandName>) -> Option<PartSort> {
-    match name {
-        Some(CommandName::Why) => Some(PartSort::Flow),
-        _ => None,
     }
 }
 
@@ -45,20 +39,54 @@ fn misnamed_as<'a>(naming: &Naming, asked: PartSort, word: &'a [u8]) -> Option<M
     Some(Misnamed { word, sort })
 }
 
-/// The first word of a line that names a part of another sort than is asked for there.
-pub fn misnamed_in<'a>(naming: &Naming, line: &'a [u8]) -> Option<Misnamed<'a>> {
-    let (command, behind) = next_word(line)?;
-    let mut asked = sort_behind_name(name_of(command));
-    let mut rest = behind;
-    while let Some((word, after)) = next_word(rest) {
-        asked = match asked {
-            None => sort_behind(word),
-            Some(sort) => match misnamed_as(naming, sort, word) {
-                Some(found) => return Some(found),
-                None => None,
-            },
-        };
+/// The first word of a line, where it names a part of another sort than this one.
+fn misnamed_first<'a>(naming: &Naming, asked: PartSort, line: &'a [u8]) -> Option<Misnamed<'a>> {
+    let (word, _) = next_word(line)?;
+    misnamed_as(naming, asked, word)
+}
+
+/// That behind the sort of a part of a state.
+fn misnamed_part<'a>(naming: &Naming, line: &'a [u8]) -> Option<Misnamed<'a>> {
+    let (sort, rest) = next_word(line)?;
+    misnamed_first(naming, sort_behind(sort)?, rest)
+}
+
+/// The first word of the conditions of a breakpoint that names a part of another sort than is asked
+/// for there.
+fn misnamed_condition<'a>(naming: &Naming, line: &'a [u8]) -> Option<Misnamed<'a>> {
+    let mut gathered = none_gathered();
+    let mut left = b"".as_slice();
+    let mut rest = line;
+    while let Some((part, behind, after)) = next_part(left, rest) {
+        if let Some(asked) = part_awaited(gathered.awaits) {
+            if let Some(found) = misnamed_as(naming, asked, part) {
+                return Some(found);
+            }
+        }
+        gathered = with_word(naming, gathered, part).ok()?;
+        left = behind;
         rest = after;
     }
     None
+}
+
+/// That of a breakpoint.
+fn misnamed_break<'a>(naming: &Naming, line: &'a [u8]) -> Option<Misnamed<'a>> {
+    let (first, rest) = next_word(line)?;
+    if is(first, b"stall") {
+        misnamed_first(naming, PartSort::Flow, rest)
+    } else {
+        misnamed_condition(naming, line)
+    }
+}
+
+/// The first word of a line that names a part of another sort than is asked for there.
+pub fn misnamed_in<'a>(naming: &Naming, line: &'a [u8]) -> Option<Misnamed<'a>> {
+    let (command, behind) = next_word(line)?;
+    match name_of(command) {
+        Some(CommandName::Why) => misnamed_first(naming, PartSort::Flow, behind),
+        Some(CommandName::State) => misnamed_part(naming, behind),
+        Some(CommandName::Break) => misnamed_break(naming, behind),
+        _ => None,
+    }
 }

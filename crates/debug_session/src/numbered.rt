@@ -1,22 +1,12 @@
 //! Breakpoints by their numbers.
 ghost use Rattle.std.specs.Prelude.{◌≡◌, ◌≤◌, ◌+◌, ◌++◌, Contains, MatchOption, OnOk, codes, decimal, drop, length};
+ghost use Rattle.debug_session.specs.ValueTexts.{was_text};
 ghost use Rattle.debug_session.specs.Numbered.{number_text, kind_text, drop_text, event_text, packet_text, stall_text, break_text, numbered_line, set_line, lines_from, IsNumber};
 
 use crate::said::{ROOM, put_count, put_text};
+use crate::value_texts::{put_values, put_was, put_word};
 use debugger::{Break, EventKind, StallOf, is_among};
 use std::alloc::AllocError;
-
-// Writes a word so that it ends at `end`, and answers where it starts.
-fn put_word(line: &mut [u8], end: usize, word: &[u8]) -> usize
-    requires within { end ≤ length line.old }
-    requires room { length word.now ≤ end }
-    ensures written { drop result line.new ≡ word.now ++ drop end line.old }
-    ensures start { result + length word.now ≡ end }
-{
-    let start = end - word.len();
-    line[start..end].copy_from_slice(word);
-    start
-}
 
 // Writes a word and a number behind it so that they end at `end`, and answers where they start.
 fn put_named(line: &mut [u8], end: usize, word: &[u8], n: usize) -> usize
@@ -141,37 +131,45 @@ fn put_stall(line: &mut [u8], end: usize, asked: Option<StallOf>) -> usize
 // Writes a breakpoint so that it ends at `end`, and answers where it starts.
 fn put_break(line: &mut [u8], end: usize, b: Break) -> usize
     requires within { end ≤ length line.old }
-    requires room { 157 ≤ end }
+    requires room { 680 ≤ end }
     ensures written { drop result line.new ≡ break_text b ++ drop end line.old }
-    ensures short { end ≤ result + 157 }
+    ensures short { end ≤ result + 680 }
     ensures upto { result ≤ end }
 {
-    let at = put_stall(line, end, b.stall);
-    let at = put_packet(line, at, b);
-    put_event(line, at, b)
+    let stall = put_stall(line, end, b.stall);
+    let values = put_values(line, stall, b.values);
+    let packet = put_packet(line, values, b);
+    put_event(line, packet, b)
 }
 
 // Writes a breakpoint and the end of its line, behind `:`, and answers where that starts.
-fn put_reported(line: &mut [u8], b: Break) -> usize
-    requires { length line.old ≡ 192 }
-    ensures written { drop result line.new ≡ codes ":" ++ break_text b ++ codes "\n" }
-    ensures short { 33 ≤ result }
-    ensures within { result ≤ 192 }
+fn put_reported(line: &mut [u8], b: Break, was: Option<u64>) -> usize
+    requires { length line.old ≡ 768 }
+    ensures written { drop result line.new ≡ codes ":" ++ (break_text b ++ (was_text was b.values.change ++ codes "\n")) }
+    ensures short { 47 ≤ result }
+    ensures within { result ≤ 768 }
 {
     let at = put_text(line, ROOM, b"\n");
-    let at = put_break(line, at, b);
-    put_text(line, at, b":")
+    let before = put_was(line, at, was, b.values.change);
+    let asked = put_break(line, before, b);
+    put_text(line, asked, b":")
 }
 
-/// Writes the line of a breakpoint at the end of the room, behind a word, and answers where it
-/// starts.
-pub(crate) fn put_numbered(line: &mut [u8], word: &[u8], number: u64, b: Break) -> usize
-    requires room { length line.old ≡ 192 }
+/// Writes the line of a breakpoint at the end of the room, behind a word and with what the value was
+/// before that it asks to change, and answers where it starts.
+pub(crate) fn put_numbered(
+    line: &mut [u8],
+    word: &[u8],
+    number: u64,
+    b: Break,
+    was: Option<u64>,
+) -> usize
+    requires room { length line.old ≡ 768 }
     requires few { length word.now ≤ 8 }
-    ensures written { drop result line.new ≡ numbered_line word.now number b }
-    ensures within { result ≤ 192 }
+    ensures written { drop result line.new ≡ numbered_line word.now number b was }
+    ensures within { result ≤ 768 }
 {
-    let at = put_reported(line, b);
+    let at = put_reported(line, b, was);
     put_named(line, at, word, number as usize)
 }
 
@@ -180,7 +178,7 @@ fn append_numbered(out: &mut Vec<u8>, number: u64, b: Break) -> Result<(), Alloc
     ensures { OnOk result (out.new.items ≡ out.old.items ++ set_line number b) }
 {
     let mut line = [0; ROOM];
-    let start = put_numbered(&mut line, b"break ", number, b);
+    let start = put_numbered(&mut line, b"break ", number, b, None);
     out.extend_from_slice(&line[start..])
 }
 

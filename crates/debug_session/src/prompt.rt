@@ -16,7 +16,7 @@ use crate::refusal::Refusal;
 use crate::report::Report;
 use crate::said::Said;
 use crate::typed_reply::{obey_typed, onwards, show_past};
-use crate::window_move::{WindowMove, go};
+use crate::window_move::{TypedWindowMove, WindowMove, go_typed};
 use window_engine::{Gate, Hands};
 
 /// The most bytes of a line.
@@ -67,6 +67,7 @@ fn last_after(asked: Typed, last: Option<Typed>) -> Option<Typed>
         Typed::Plain(Command::Clear) => last,
         Typed::Reverse => Some(asked),
         Typed::Goto(_) => Some(asked),
+        Typed::Moment(_) => Some(asked),
         Typed::Part(_) => last,
         Typed::Why(_) => last,
         Typed::Breaks => last,
@@ -97,7 +98,7 @@ fn obey_at_prompt(
     naming: &Naming,
     asked: Typed,
     said: &mut Said,
-) -> Option<WindowMove>
+) -> Option<TypedWindowMove>
     ensures obeys { MatchOption result (prompt.ObeysAtPrompt naming.now dialogue.old.debugger.start asked (prompt.at_prompt dialogue.old) (prompt.at_prompt dialogue.new) said.new) (IsTypedLeft naming.now dialogue.old dialogue.new (prompt.ObeysAtPrompt naming.now dialogue.old.debugger.start asked (prompt.at_prompt dialogue.old))) }
     ensures start { dialogue.new.debugger.start ≡ dialogue.old.debugger.start }
 {
@@ -108,7 +109,7 @@ fn obey_at_prompt(
 
 /// Does the last move again, where there was one; a move by windows is left.
 #[tactic(none)]
-fn move_again(dialogue: &mut Dialogue, naming: &Naming, said: &mut Said) -> Option<WindowMove>
+fn move_again(dialogue: &mut Dialogue, naming: &Naming, said: &mut Said) -> Option<TypedWindowMove>
     ensures moves { MatchOption result (prompt.MovesAgain naming.now dialogue.old.debugger.start dialogue.old.memo.last (prompt.at_prompt dialogue.old) (prompt.at_prompt dialogue.new) said.new) (IsTypedLeft naming.now dialogue.old dialogue.new (prompt.MovesAgain naming.now dialogue.old.debugger.start dialogue.old.memo.last (prompt.at_prompt dialogue.old))) }
     ensures start { dialogue.new.debugger.start ≡ dialogue.old.debugger.start }
 {
@@ -128,7 +129,7 @@ fn follow_typed(
     naming: &Naming,
     line: &[u8],
     said: &mut Said,
-) -> Option<WindowMove>
+) -> Option<TypedWindowMove>
     ensures answers { MatchOption result (prompt.AnswersTyped naming.now dialogue.old.debugger.start line.now (prompt.at_prompt dialogue.old) (prompt.at_prompt dialogue.new) said.new) (IsTypedLeft naming.now dialogue.old dialogue.new (prompt.AnswersTyped naming.now dialogue.old.debugger.start line.now (prompt.at_prompt dialogue.old))) }
     ensures start { dialogue.new.debugger.start ≡ dialogue.old.debugger.start }
 {
@@ -149,7 +150,7 @@ fn begin_typed(
     naming: &Naming,
     line: &[u8],
     said: &mut Said,
-) -> Option<WindowMove>
+) -> Option<TypedWindowMove>
     ensures answers { prompt.is_quit line.now ≡ false → MatchOption result (prompt.TypedAnswers naming.now dialogue.old.debugger.start line.now (prompt.at_prompt dialogue.old) (prompt.at_prompt dialogue.new) said.new) (IsTypedLeft naming.now dialogue.old dialogue.new (prompt.TypedAnswers naming.now dialogue.old.debugger.start line.now (prompt.at_prompt dialogue.old))) }
     ensures start { dialogue.new.debugger.start ≡ dialogue.old.debugger.start }
 {
@@ -162,12 +163,12 @@ fn begin_typed(
 }
 
 /// How a move by windows from a position is told.
-fn report_of(left: WindowMove, from: u64) -> Report
+fn report_of(left: TypedWindowMove, from: u64) -> Report
     ensures { result ≡ report_of left from }
 {
     match left {
-        WindowMove::Run => onwards(from),
-        WindowMove::Until(time) => Report {
+        TypedWindowMove::Plain(WindowMove::Run) | TypedWindowMove::Moment(_) => onwards(from),
+        TypedWindowMove::Plain(WindowMove::Until(time)) => Report {
             bound: from,
             until: Some(time),
         },
@@ -193,7 +194,7 @@ pub fn answer_typed<H: Hands>(
         None => {}
         Some(left) => {
             let from = dialogue.debugger.position();
-            let moved = go(hands, gate, &mut dialogue.debugger, left);
+            let moved = go_typed(hands, gate, &mut dialogue.debugger, left);
             let report = report_of(left, from);
             show_past(&mut dialogue.debugger, from, report, moved, said);
         }

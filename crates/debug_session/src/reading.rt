@@ -1,7 +1,7 @@
 //! From a line that is typed to a command.
 ghost use Rattle.std.specs.Prelude.{◌≡◌, ◌<◌, ◌≤◌, ◌^◌, ◌-◌, IfOk};
 ghost use Rattle.debug_session.specs.Input.{words_in};
-ghost use Rattle.debug_session.specs.TypedGrammar.{number_or, one_moment, goto_asked, break_number, one_break_number, plain, tells_part, part_asked, state_asked, why_asked, typed_alone, help_asked, command_typed, typed_reading};
+ghost use Rattle.debug_session.specs.TypedGrammar.{number_or, one_moment, goes_to, goes_to_moment, target_asked, goto_asked, break_number, one_break_number, plain, tells_part, part_asked, state_asked, why_asked, typed_alone, help_asked, command_typed, typed_reading};
 
 use crate::command::{Command, Typed};
 use crate::conditions::break_asked;
@@ -135,11 +135,45 @@ fn why_asked(naming: &Naming, line: &[u8]) -> Result<Typed, Refusal>
     Ok(Typed::Why(flow))
 }
 
-/// The position that is gone to.
+/// The position that a word is.
+fn goes_to(target: Option<u64>) -> Result<Typed, Refusal>
+    ensures { result ≡ goes_to target }
+{
+    match target {
+        Some(target) => Ok(Typed::Goto(target)),
+        None => Err(Refusal::B3),
+    }
+}
+
+/// The moment that a word is.
+fn goes_to_moment(time: Option<u64>) -> Result<Typed, Refusal>
+    ensures { result ≡ goes_to_moment time }
+{
+    match time {
+        Some(time) => Ok(Typed::Moment(time)),
+        None => Err(Refusal::B3),
+    }
+}
+
+/// The position or the moment that a word is.
+fn target_asked(word: &[u8]) -> Result<Typed, Refusal>
+    ensures { result ≡ target_asked word.now }
+{
+    if is_numeral(word) {
+        goes_to(number_below(word, AMOUNTS))
+    } else {
+        goes_to_moment(moment_in(word))
+    }
+}
+
+/// The position or the moment that is gone to.
 fn goto_asked(line: &[u8]) -> Result<Typed, Refusal>
     ensures { result ≡ goto_asked (words_in line.now) }
 {
-    Ok(Typed::Goto(one_number(line, AMOUNTS)?))
+    match one_word(line) {
+        None => Err(Refusal::B2),
+        Some(word) => target_asked(word),
+    }
 }
 
 /// How many events are asked for.

@@ -26,7 +26,7 @@ use std::marker::Model;
 use trace_text::DumpPart;
 
 /// The room for a short answer, in bytes.
-pub(crate) const ROOM: usize = 192;
+pub(crate) const ROOM: usize = 768;
 
 /// The answer to a command, seen as its bytes. Short answers take no memory.
 #[derive(Drop)]
@@ -48,7 +48,7 @@ impl Model for Said {
 
     ghost view = { λ s. if s.is_short then drop s.start s.short else s.dump.items };
 
-    ghost invariant = { λ s. (s.start ≤ 192) × (length s.short ≡ 192) };
+    ghost invariant = { λ s. (s.start ≤ 768) × (length s.short ≡ 768) };
 }
 
 // Writes a text so that it ends at `end`, and answers where it starts.
@@ -107,7 +107,7 @@ impl Said {
 
     /// Answers a short text.
     fn say<const N: usize>(&mut self, text: &[u8; N])
-        requires { N ≤ 192 }
+        requires { N ≤ 768 }
         ensures { self.new ≡ text.now }
     {
         let mut line = [0; ROOM];
@@ -155,7 +155,7 @@ impl Said {
         ensures { self.new ≡ set_line number b }
     {
         let mut line = [0; ROOM];
-        self.start = put_numbered(&mut line, b"break ", number, b);
+        self.start = put_numbered(&mut line, b"break ", number, b, None);
         self.short = line;
         self.is_short = true;
     }
@@ -165,7 +165,7 @@ impl Said {
         ensures { self.new ≡ deleted_line number b }
     {
         let mut line = [0; ROOM];
-        self.start = put_numbered(&mut line, b"deleted ", number, b);
+        self.start = put_numbered(&mut line, b"deleted ", number, b, None);
         self.short = line;
         self.is_short = true;
     }

@@ -20,6 +20,8 @@ pub enum Topic {
     Kinds,
     /// When a flow is stalled, and how to find out why.
     Stall,
+    /// The values that breakpoints can have conditions on.
+    Values,
 }
 
 /// The first topic beside the commands that a word begins.
@@ -34,18 +36,23 @@ fn other_topic(word: &[u8]) -> Option<Topic>
         Some(Topic::Kinds)
     } else if begins(word, b"stall") {
         Some(Topic::Stall)
+    } else if begins(word, b"values") {
+        Some(Topic::Values)
     } else {
         None
     }
 }
 
-/// The topic that a word begins: a command comes first.
+/// The topic that a word begins: a command comes first, but for `names`.
 pub(crate) fn topic_of(word: &[u8]) -> Option<Topic>
     ensures { result ≡ topic_of word.now }
 {
     match name_of(word) {
-        Some(name) => Some(Topic::Command(name)),
         None => other_topic(word),
+        Some(CommandName::Names) => {
+            other_topic(word).or(Some(Topic::Command(CommandName::Names)))
+        }
+        Some(name) => Some(Topic::Command(name)),
     }
 }
 
@@ -99,6 +106,21 @@ break stall stops after an event that leaves a flow so, break stall F after one 
 for each stall. lines 1 shows the event, which has the number of that flow, or drops a packet of it. why F
 tells which alarm is due, and when; break drop and reverse find what was dropped before.
 break stall
+",
+        ),
+        Topic::Values => out.extend_from_slice(
+            b"A condition on a value is of the lines after which it holds. Its sign is <, <=, >, >= or =, with or without spaces.
+cwnd<3000    at a sender, of its state: cwnd, flight (bytes in flight), ssthresh, una, nxt or dups (duplicates)
+rto>1s       at a sender: how long its retransmission timer runs
+phase fr     at a sender: ss (slow start), ca (congestion avoidance) or fr (fast recovery)
+next>=4000   at a receiver: the byte that it waits for
+queue L>50   an event that changes link L: how many packets wait there
+wait L>100ms the same: how long the first of them has waited
+count L>4    the same: the count of CoDel; a drop-tail queue has none
+time>=5s     the moment
+change V F   an event that changes a value of flow F: cwnd, flight, ssthresh, una, nxt, rto, dups or next. It tells from what
+flow F beside these asks for the sender or the receiver of flow F, else it is any.
+break cwnd<3000 flow 0
 ",
         ),
     }

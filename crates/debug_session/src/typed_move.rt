@@ -214,7 +214,7 @@ fn append_hit(out: &mut Vec<u8>, hit: Option<Hit>) -> Result<(), MoveFault>
     match hit {
         Some(hit) => {
             let mut line = [0; ROOM];
-            let start = put_numbered(&mut line, b"break ", hit.number, hit.breakpoint);
+            let start = put_numbered(&mut line, b"break ", hit.number, hit.breakpoint, hit.was);
             out.extend_from_slice(&line[start..])?;
             Ok(())
         }

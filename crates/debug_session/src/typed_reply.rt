@@ -1,5 +1,5 @@
 //! A session's answer to a command that is typed.
-ghost use Rattle.std.specs.Prelude.{◌≡◌, ◌<◌, ◌≤◌, ◌⊎◌, ℕ, Contains, IfOk, MatchBool, MatchOption, OnErr, length};
+ghost use Rattle.std.specs.Prelude.{◌≡◌, ◌<◌, ◌≤◌, ◌⊎◌, ℕ, Contains, IfOk, MatchBool, MatchOption, OnErr, length, option_map};
 ghost use Rattle.trace_text.specs.DumpParts.{part_bytes};
 ghost use Rattle.flow_waits.specs.Waits.{waits_bytes};
 ghost use Rattle.debugger.specs.Debugging.{HasMoved};
@@ -22,7 +22,7 @@ use crate::reply::obey;
 use crate::report::Report;
 use crate::said::Said;
 use crate::topic::Topic;
-use crate::window_move::WindowMove;
+use crate::window_move::{TypedWindowMove, WindowMove};
 use debugger::{Break, BreakFault, Debugger, MoveFault};
 use trace_text::DumpPart;
 
@@ -304,6 +304,13 @@ fn obey_plain(
     }
 }
 
+/// A move by windows that is left, as one that is typed.
+fn plain_left(left: Option<WindowMove>) -> Option<TypedWindowMove>
+    ensures { result ≡ option_map (λ m. TypedWindowMove.Plain m) left }
+{
+    Some(TypedWindowMove::Plain(left?))
+}
+
 /// Does what is typed, but for a move by windows, which is left.
 #[tactic(none)]
 pub(crate) fn obey_typed(
@@ -311,12 +318,13 @@ pub(crate) fn obey_typed(
     naming: &Naming,
     asked: Typed,
     said: &mut Said,
-) -> Option<WindowMove>
+) -> Option<TypedWindowMove>
     ensures obeyed { MatchOption result (ObeysTyped naming.now debugger.old.start asked (session_state debugger.old) (session_state debugger.new) said.new) (IsTyped asked debugger.old debugger.new) }
     ensures start { debugger.new.start ≡ debugger.old.start }
 {
     match asked {
-        Typed::Plain(command) => obey_plain(debugger, naming, command, said),
+        Typed::Plain(command) => plain_left(obey_plain(debugger, naming, command, said)),
+        Typed::Moment(time) => Some(TypedWindowMove::Moment(time)),
         Typed::Reverse => {
             reverse(debugger, said);
             None

@@ -23,7 +23,7 @@ fn has_numbers(line: &[u8]) -> bool {
 
 /// The conditions that a breakpoint can have.
 const CONDITIONS: &str =
-    "tcpsim: conditions are node N, flow F, kind K, drop, link L, byte B; or stall: see help break";
+    "tcpsim: conditions are node N, flow F, kind K, drop, link L, byte B, cwnd, flight, ssthresh, una, nxt, rto, dups, phase, next, queue L, wait L, count L, time, change V; or stall: see help break";
 
 /// The units of times.
 const UNITS: &str = "tcpsim: a time has a unit, ns, us, ms or s, as 1.5s: see help until";
@@ -59,7 +59,10 @@ fn tell_instead<N: Notes>(alloc: Global, line: &[u8], notes: &mut N) {
 
 /// Whether a line can have a time.
 fn has_time(line: &[u8]) -> bool {
-    matches!(command_begun(line), Some(CommandName::Until))
+    matches!(
+        command_begun(line),
+        Some(CommandName::Until) | Some(CommandName::Goto)
+    )
 }
 
 /// A sort of parts, as one of them is told of.

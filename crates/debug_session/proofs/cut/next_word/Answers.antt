@@ -3,8 +3,8 @@ use Rattle.std.proofs.lemmas.Bool.Decides.{nat_tests}
 use Rattle.debug_session.proofs.Words.{first_word}
 use Rattle.debug_session.proofs.cut.next_word.Goals as goal
 
-pub returns-then-not-is_empty : goal.returns-then-not-is_empty
-returns-then-not-is_empty c =
+pub returns-then-not-is_empty-clause-first : goal.returns-then-not-is_empty-clause-first
+returns-then-not-is_empty-clause-first c =
     let rest = c.loop-rest.rest.now in
     let some : 0 < length rest = grind (arith, nat_tests) in
     let full : (length c.cut.result.0.now == 0) ≡ false = grind (arith, nat_tests) in

@@ -4,7 +4,7 @@ use Rattle.debug_session.specs.declared.command.Typed.TheVariants.{Plain}
 use Rattle.debug_session.specs.Answers.{session_state}
 use Rattle.debug_session.specs.TypedAnswers.{ObeysTyped}
 use Rattle.debug_session.proofs.Deleting.{part_reported, why_reported, help_reported, help_on_reported, names_reported}
-use Rattle.debug_session.proofs.Left.{typed_plain}
+use Rattle.debug_session.proofs.Left.{typed_plain_left}
 use Rattle.debug_session.proofs.typed_reply.obey_typed.Goals as goal
 
 pub returns-in-Plain-clause-obeyed : goal.returns-in-Plain-clause-obeyed
@@ -13,7 +13,7 @@ returns-in-Plain-clause-obeyed c =
     let old = session_state c.args.debugger.now in
     let new = session_state c.obey_plain.new.debugger in
     let out = c.obey_plain.new.said in
-    typed_plain c.obey_plain.result c.args.asked c.in-Plain.command c.args.debugger.now c.obey_plain.new.debugger (ObeysTyped c.args.naming.now start (Plain c.in-Plain.command) old new out) (ObeysTyped c.args.naming.now start c.args.asked old new out) c.in-Plain.is
+    typed_plain_left c.obey_plain.result c.plain_left.result c.args.asked c.in-Plain.command c.args.debugger.now c.obey_plain.new.debugger (ObeysTyped c.args.naming.now start (Plain c.in-Plain.command) old new out) (ObeysTyped c.args.naming.now start c.args.asked old new out) c.plain_left.ensures c.in-Plain.is
     (λ obeys. subst (λ (k : Typed). ObeysTyped c.args.naming.now start k old new out) (sym c.in-Plain.is) obeys) c.obey_plain.ensures.obeyed
 
 pub returns-in-Plain-clause-start : goal.returns-in-Plain-clause-start
@@ -98,3 +98,9 @@ returns-in-Names-clause-obeyed c =
 
 pub returns-in-Names-clause-start : goal.returns-in-Names-clause-start
 returns-in-Names-clause-start c = refl
+
+pub returns-in-Moment-clause-obeyed : goal.returns-in-Moment-clause-obeyed
+returns-in-Moment-clause-obeyed c = (c.in-Moment.is, refl)
+
+pub returns-in-Moment-clause-start : goal.returns-in-Moment-clause-start
+returns-in-Moment-clause-start c = refl

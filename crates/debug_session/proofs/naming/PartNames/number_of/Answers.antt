@@ -1,4 +1,4 @@
-use Rattle.std.proofs.Common.{rules, arith, ℕ, ◌∙◌, ◌≡◌, ◌<◌, ◌≤◌, Vec, Global, Bool, true, false, length, get_or, sym, ap}
+use Rattle.std.proofs.Common.{rules, arith, ℕ, ◌∙◌, ◌≡◌, Vec, Global, Bool, true, false, get_or, sym, ap}
 use Rattle.std.specs.List.{position_from}
 use Rattle.std.specs.Str.{bytes_eq}
 use Rattle.scenario_asm.specs.Text.{number_among}
