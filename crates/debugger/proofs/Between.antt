@@ -16,10 +16,10 @@ use Rattle.debugger.specs.Moves.{Passes}
 use Rattle.debugger.specs.Passed.{lines_of_steps, lines_between, texts_from, texts_between, ordered_texts, beside, AreReportedFrom, AreLinesReported}
 
 -- the lines to a state of the run, and how many they are
-lines_to : (start : State) (at : Reached) (here : Passes start at) → lines_of_steps (run start at.position) ≡ here.lines
+pub lines_to : (start : State) (at : Reached) (here : Passes start at) → lines_of_steps (run start at.position) ≡ here.lines
 lines_to start at here = ap lines_of_steps here.comes
 
-as_many : (start : State) (at : Reached) (here : Passes start at) → length here.lines ≡ at.position
+pub as_many : (start : State) (at : Reached) (here : Passes start at) → length here.lines ≡ at.position
 as_many start at here = run_length at.position start at.state here.lines here.comes
 
 -- the lines after one more step

@@ -9,6 +9,7 @@ pub mod Moments
 pub mod Alone
 pub mod TakenOut
 pub mod Between
+pub mod DropsFound
 pub mod LastEvents
 mod Backward
 mod Judged

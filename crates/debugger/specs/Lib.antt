@@ -4,6 +4,7 @@ pub mod Breaks
 pub mod Faults
 pub mod Moves
 pub mod Passed
+pub mod Drops
 pub mod Backwards
 pub mod Stops
 pub mod LastEvents

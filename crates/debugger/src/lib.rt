@@ -6,6 +6,7 @@ mod backwards;
 pub mod breaks;
 pub mod checkpoints;
 mod course;
+pub mod drops;
 mod fault;
 pub mod moves;
 mod passed;
@@ -18,6 +19,7 @@ pub mod walk;
 mod window_settings;
 
 pub use breaks::{Break, BreakFault, Breaks, Condition, EventKind, Hit, StallOf, is_among};
+pub use drops::{DropsOf, PastDrop};
 pub use fault::MoveFault;
 pub use moves::Debugger;
 pub use passed::{LastEvent, LineOrder, Stretch};

@@ -8,6 +8,7 @@ ghost use Rattle.debugger.specs.Breaks.{IsTakenOut};
 ghost use Rattle.debugger.specs.Debugging.{debugging_opened, HasMoved};
 ghost use Rattle.debugger.specs.LastEvents.{IsLastEvent};
 ghost use Rattle.debugger.specs.Passed.{stretch_texts};
+ghost use Rattle.debugger.specs.Drops.{missing_in, past_drops};
 ghost use Rattle.trace_text.specs.Dump.{dump_bytes};
 ghost use Rattle.trace_text.specs.DumpParts.{part_bytes};
 ghost use Rattle.flow_waits.specs.Waits.{waits_bytes};
@@ -16,6 +17,7 @@ use crate::aim::Aim;
 use crate::backwards::net_before;
 use crate::breaks::{Break, BreakFault, Breaks};
 use crate::checkpoints::Checkpoints;
+use crate::drops::{DropsOf, PastDrop, append_drops, missing_in};
 use crate::fault::MoveFault;
 use crate::passed::{LastEvent, Stretch, append_stretch, event_at, nearer};
 use crate::reached::{net_after, net_at};
@@ -311,6 +313,33 @@ impl Debugger {
     {
         let near = nearer(&self.net, &self.left, stretch.from);
         append_stretch(near, stretch, &mut self.checkpoints, &mut self.line, out)
+    }
+
+    /// What a flow waits for in the state that is shown, of what it has sent: the segment whose first byte is missing at
+    /// the receiver; or, where all has come there, acknowledgements of more than the sender knows of.
+    pub fn missing(&self, flow: u16) -> Option<DropsOf>
+        ensures { result ≡ missing_in flow self.now.shown.state }
+    {
+        missing_in(flow, &self.net)
+    }
+
+    /// Appends the drops of a flow's packets that the run up to the state that is shown has, in the order of its lines. Its
+    /// events are run again from the first one on.
+    pub fn append_drops(&mut self, of: DropsOf, out: &mut Vec<PastDrop>) -> Result<(), MoveFault>
+        ensures ok { OnOk result (out.new.items ≡ out.old.items ++ past_drops self.old.start of self.old.shown.position) }
+        ensures err { OnErr result (out.new.items ≡ out.old.items) }
+        ensures same { self.new ≡ self.old }
+    {
+        let position = self.net.position();
+        let near = nearer(&self.net, &self.left, 0);
+        append_drops(
+            near,
+            position,
+            of,
+            &mut self.checkpoints,
+            &mut self.line,
+            out,
+        )
     }
 
     /// What the last event was, which is run again.

@@ -226,7 +226,7 @@ fn next_for(flow: u16, node: &Node) -> Option<u64>
 }
 
 /// The next byte that the receiver of a flow waits for.
-fn next_in(flow: u16, nodes: &[Node]) -> Option<u64>
+pub(crate) fn next_in(flow: u16, nodes: &[Node]) -> Option<u64>
     ensures { result ≡ next_in flow (parts_of nodes.now) }
 {
     for node in nodes {
@@ -269,7 +269,7 @@ fn fields_for(flow: u16, node: &Node) -> Option<SenderFields>
 }
 
 /// What the sender of a flow keeps.
-fn fields_in(flow: u16, nodes: &[Node]) -> Option<SenderFields>
+pub(crate) fn fields_in(flow: u16, nodes: &[Node]) -> Option<SenderFields>
     ensures { result ≡ sender_of flow (parts_of nodes.now) }
 {
     for node in nodes {
