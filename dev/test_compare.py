@@ -14,7 +14,8 @@ from clone import TOP, ran
 from tcpsim_model import conditions, grammar, marked, naming, waits
 from tcpsim_model.scenario import Refused
 
-ENOUGH = 400        # sessions in which a fault has to show
+ENOUGH = 400        # sessions of each draw; a fault has to show in one
+DRAWS = '', ' a', ' b', ' c'
 # A program beside the model's: the folder of its package, and a statement that makes it wrong.
 STAND_IN = '''#!{python}
 import sys
@@ -190,7 +191,7 @@ FAULTS = {
     'the other sort is not told': (10, naming.Names, 'sort_of', lambda self, word: next((it for it in [right['sort_of'](self, word)] if it != 'link'), None)),
     'links are listed first': (10, naming, 'SORTS', ('link', 'node', 'flow')),
     'an image has names': (10, naming, 'NO_NAMES', 'node 0 n0\n'),
-    'n is no name behind help': (10, prompt, 'BEFORE_TOPICS', grammar.BEFORE_TOPICS[:-1]),
+    'n is names behind help': (10, prompt, 'BEFORE_TOPICS', (*grammar.BEFORE_TOPICS, b'names')),
     '< is <=': (11, marked, 'COMPARES', {**marked.COMPARES, '<': marked.COMPARES['<=']}),
     '= is >=': (11, marked, 'COMPARES', {**marked.COMPARES, '=': marked.COMPARES['>=']}),
     'a change is seen one line late': (11, marked.Valued, 'changed_from', seen_one_line_late),
@@ -209,9 +210,9 @@ FAULTS = {
 }
 
 
-def cases(count, steps):
+def cases(count, steps, draw=''):
     args = argparse.Namespace(count=count, options=False, steps=steps)
-    return compare.prompts(random.Random(f'self-test {steps}'), args)
+    return compare.prompts(random.Random(f'self-test{draw} {steps}'), args)
 
 
 def answers(case):
@@ -220,7 +221,7 @@ def answers(case):
 
 @pytest.mark.parametrize('step, place, attribute, wrong', FAULTS.values(), ids=FAULTS)
 def test_each_fault_is_found(step, place, attribute, wrong):
-    for case in cases(ENOUGH, max(step, prompt.STEPS)):
+    for case in (case for draw in DRAWS for case in cases(ENOUGH, max(step, prompt.STEPS), draw)):
         expected = answers(case)
         with pytest.MonkeyPatch.context() as patch:
             patch.setattr(place, attribute, wrong)

@@ -116,7 +116,7 @@ def test_history_and_completion(at_debugger):
     # Each name of the help is offered, and the key leads on where there is nothing to take.
     names = browser.json('simulator.prompt.completion.names')
     assert {'step', 'back', 'run', 'reverse', 'until', 'goto', 'where', 'state', 'break', 'breaks', 'delete', 'clear', 'lines', 'why', 'names', 'help', 'quit'} == {*names}
-    assert browser.json('simulator.prompt.completion.topics') == ['numbers', 'trace', 'kinds', 'stall']
+    assert browser.json('simulator.prompt.completion.topics') == ['numbers', 'trace', 'kinds', 'stall', 'values']
     assert browser.json('simulator.prompt.completion.kinds') == ['start', 'rto', 'delack', 'free', 'data', 'ack']
     write(browser, '#debugger input', 'step 3')
     browser.press('Tab')

@@ -8,7 +8,7 @@ from tcpsim_model.scenario import Refused
 from tcpsim_model.texts import topics_in
 from tcpsim_model.command_line import read as scenario_in
 
-SHOWN = 11      # of the grammar's steps, those that the page has
+SHOWN = 12      # of the grammar's steps, those that the page has
 
 
 def session():

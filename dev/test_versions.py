@@ -17,9 +17,10 @@ from build import declared, toolchain
 from clone import BUILT as PROGRAM, TOP, read, read_text
 from tcpsim import FORMATS, VERSIONS, __version__
 from tcpsim.sweeps.columns import FROM
-from tcpsim_model import conditions, figures, grammar, image, prompt, texts
+from tcpsim_model import conditions, figures, grammar, image, missing, prompt, texts
 from tcpsim_model.text import assemble
 
+MISSING = 12        # the number of the prompt from which on `why` tells what is missing
 BY_TIME = 4         # the number of the figures' format from which on they are there by time and with names
 SAMPLES = 'three_losses', 'newreno_in_a_network', 'codel_drops_before_it_sends', 'two_flows_over_a_router', 'delayed_acknowledgement'
 # Of each format, what its samples come to under each number that it had. A row stays; a change adds one.
@@ -34,7 +35,8 @@ SUMS = {
     'prompt': {8: '591e69b6d09eb58b3a7706631c570633ae5cbb70f80251582ec97e076f89f2be',
                9: '2b3ffb7d232e7f32ed4c4fdef66fa8fb9482c1ae70ba3c084103ccf6512d9213',
                10: 'cff69870124a5b401b163837671e65512d3d52bcf73fde372ebe619b716632c3',
-               11: 'fe1e51fe010477e647b1fc14b05a0ced0f6a31bdefda7804b66192481e6be577'},
+               11: 'fe1e51fe010477e647b1fc14b05a0ced0f6a31bdefda7804b66192481e6be577',
+               12: '23c350c43fc0e83f030db4aa4c8329e64c2746bce63438ea117cb4a7e69c58ba'},
 }
 
 
@@ -49,7 +51,8 @@ def images(version):
 def prompt_words(number):
     """All that the prompt's grammar has: its names with the steps that they came with, conditions, topics."""
     names = sorted((name, step) for name, step in grammar.NAMES.items() if step <= number)
-    return [repr(names).encode(), *conditions.behind(number), *sorted(texts.topics_in(number))]
+    fates = [repr(missing.FATES).encode()] if number >= MISSING else []
+    return [repr(names).encode(), *conditions.behind(number), *sorted(texts.topics_in(number)), *fates]
 
 
 def named_by_time(scenario):

@@ -225,7 +225,8 @@ NO_NAME = [*refused('B1'), 'tcpsim: no command bak; the nearest is back']
 
 # The notes of a time that is none, and of a condition that is none.
 NO_TIME = [*refused('B3'), 'tcpsim: a time has a unit, ns, us, ms or s, as 1.5s: see help until']
-NO_SORT = [*refused('B1'), 'tcpsim: conditions are node N, flow F, kind K, drop, link L, byte B; or stall: see help break']
+NO_SORT = [*refused('B1'), 'tcpsim: conditions are node N, flow F, kind K, drop, link L, byte B, cwnd, flight, ssthresh, una, nxt, rto, dups, phase, next, '
+           'queue L, wait L, count L, time, change V; or stall: see help break']
 
 # The lines that are typed, how many of them are read and one more where the input ends, what is answered, and what is
 # told of lines that are refused.

@@ -28,18 +28,21 @@ flow 0 sends no more: 4000 bytes in flight, a segment of 1000, cwnd 4000
 waits: data 1000 at place 1 of link 0
 under way: data 0 to node 1 at 2040000 ns
 alarms: rto at 1000000000 ns
+missing at the receiver: byte 0
 '''),
         ('run', '''\
 at 7 of the run, time 4120000 ns
 break 1: stall 0
 flow 0 is stalled: 0 duplicate acknowledgements, and its retransmission timer is due at 1004120000 ns
 alarms: rto at 1004120000 ns
+missing at the receiver: byte 2000, data 2000 lost by name at link 0 in line 1
 '''),
         ('run', '''\
 at 10 of the run, time 1006160000 ns
 break 1: stall 0
 flow 0 is stalled: 0 duplicate acknowledgements, and its delayed acknowledgement is due at 1206160000 ns
 alarms: delack at 1206160000 ns, rto at 3004120000 ns
+missing at the receiver: byte 3000, data 3000 lost by name at link 0 in line 1
 '''),
         ('run', '''\
 at 19 of the run, time 1211320000 ns, the end
@@ -53,6 +56,7 @@ at 1 of the run, time 0 ns
 flow 0 sends no more: 1000 bytes in flight, a segment of 1000, rwnd 1999
 under way: data 0 to node 1 at 2040000 ns
 alarms: rto at 1000000000 ns
+missing at the receiver: byte 0
 '''),
     ]),
     # Of three segments that both windows hold two wait.
@@ -63,6 +67,7 @@ flow 0 has sent all 3000 bytes: 0 are acknowledged
 waits: data 1000 at place 1 of link 0, data 2000 at place 2 of link 0
 under way: data 0 to node 1 at 2040000 ns
 alarms: rto at 1000000000 ns
+missing at the receiver: byte 0
 '''),
     ]),
     # Both alarms are due at one moment, and that at the node of the lower number, the receiver, comes first.
@@ -79,6 +84,7 @@ at 3 of the run, time 800000000 ns
 break 1: stall 0
 flow 0 is stalled: 0 duplicate acknowledgements, and its delayed acknowledgement is due at 1000000000 ns
 alarms: delack at 1000000000 ns, rto at 1000000000 ns
+missing at the sender: an acknowledgement above 0
 '''),
     ]),
     # The initial window is two segments of 3,000 bytes, of which the first is lost. Two duplicates let one more segment go
@@ -90,6 +96,7 @@ at 13 of the run, time 15240000 ns
 flow 0 may send at its next acknowledgement: 12000 bytes in flight, a segment of 3000, cwnd 15000
 under way: data 0 to node 1 at 19280000 ns
 alarms: rto at 1000000000 ns
+missing at the receiver: byte 0, data 0 lost by name at link 0 in line 1
 '''),
     ]),
 ]

@@ -16,7 +16,7 @@ class Marked(Debugger):
 
     def __init__(self, scenario):
         super().__init__(scenario)
-        self.marks = []
+        self.marks, self.drops = [], []
 
     def stalled(self):
         return {flow for flow in range(len(self.scenario.flows)) if self.net.is_stalled(flow)}
@@ -26,10 +26,11 @@ class Marked(Debugger):
         line = super().event()
         if line is not None:
             self.marks.append((self.net.touched, self.stalled() - before))
+            self.drops.append(self.net.dropped)
         return line
 
     def back(self, count):
-        self.marks = self.marks[:0]
+        self.marks, self.drops = [], []
         super().back(count)
 
     def goto(self, position):

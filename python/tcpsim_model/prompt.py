@@ -17,12 +17,14 @@ none reads lines as a session whose commands are all there (`debugger.obey`).
    the place of what is refused.
 10. Nodes, links and flows by the names of a text.
 11. Breakpoints on values; to a moment, either way.
+12. Of a flow that waits what is missing, and the drops of it.
 """
 from tcpsim_model.conditions import NAMED, conditions_in, named_in, words_behind_break, words_of
 from tcpsim_model.debugger import MOST, breakpoint_of, number_to, obey, set_breakpoint, words_in, words_wanted
 from tcpsim_model.grammar import (BEFORE_TOPICS, ELSEWHERE, MEANINGS, MOST_LINE, MOST_WORD, NAMES, NUMBERED, UNIT, UNITS_TOLD, at_most, count_in, edits,
                                   printable, time_in, usage)
 from tcpsim_model.marked import Marked, Valued
+from tcpsim_model.missing import missing
 from tcpsim_model.naming import names_in
 from tcpsim_model.scenario import Refused
 from tcpsim_model.simulate import line_text
@@ -30,9 +32,9 @@ from tcpsim_model.text import FLOW, NUMBER
 from tcpsim_model.texts import help_in, last_of_help, sorts_told, topics_in
 from tcpsim_model.waits import why
 
-STEPS = 11
+STEPS = 12
 # How many of them the program has.
-BUILT = 11
+BUILT = 12
 PROMPT = '(tcpsim) '
 MOST_SHOWN = 10         # lines that a move passed
 MOST_LINES = 1_000      # of `lines`
@@ -246,7 +248,9 @@ class Prompt:
     def on_why(self, words):
         if len(words) != 1:
             raise Refused('B2')
-        return why(self.debugger.net, self.names.number_of(FLOW, words[0]))
+        flow = self.names.number_of(FLOW, words[0])
+        told = missing(self.debugger.net, flow, self.debugger.drops) if self.steps >= 12 else ''
+        return why(self.debugger.net, flow) + told
 
     def on_names(self, words):
         at_most(words, 0)

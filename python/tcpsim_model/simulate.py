@@ -57,6 +57,7 @@ class Network:
         self.routes = {(router, to): self.ports[link] for router, to, link in scenario.routes}
         self.inside = [0] * len(scenario.flows)     # of each flow: its packets that wait or are under way
         self.touched = set()                        # the links over which the last event sent, or where it dropped
+        self.dropped = []                           # what the last event dropped: reason, link and packet of each
         for number, flow in enumerate(self.flows):
             self.ends[flow.sender] = Sender(flow.mss, flow.segments, flow.rwnd, flow.newreno, flow.iw10)
             self.ends[flow.receiver] = Receiver(flow.mss, flow.delack)
@@ -109,6 +110,7 @@ class Network:
     def drop(self, reason, port, packet, acts):
         self.inside[packet.flow] -= 1
         self.touched.add(port.number)
+        self.dropped.append((reason, port.number, packet))
         acts.append(f' drop={reason}:{packet.flow}:{packet.number}')
 
     def take(self, port, now, acts):
@@ -182,7 +184,7 @@ class Network:
             return None
         heappop(self.pending)
         now, node, source, number, packet = event
-        self.touched = set()
+        self.touched, self.dropped = set(), []
         if source == 0:
             del self.alarms[node][number]
             acts = self.alarm(node, now, number)

@@ -24,6 +24,10 @@ ROWS = {
         b'help': ('help [NAME]', 'show this, or more of NAME: a command, numbers, trace, kinds, stall or values', HELP[b'help'][2], 'help until'),
     },
 }
+ROWS[12] = {
+    b'why': ('why F', 'tell what flow F waits for', ROWS[10][b'why'][2]
+        + 'Of what is missing at its receiver, or else at its sender, it tells each drop by its line: see lines and goto.\n', 'why 0'),
+}
 ROWS[11][b'break'] = ('break COND..', 'stop where all match: node N, flow F, kind K, drop, link L, byte B, a value; or stall [F]',
     ROWS[10][b'break'][2].replace('stall [F]    ', 'cwnd<3000    and other values of a sender, a receiver, a link, or of the time: help values\nstall [F]    '),
     'break flow 0 kind rto')

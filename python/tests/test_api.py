@@ -16,7 +16,7 @@ import pytest
 from clone import BIN, TOP
 
 import tcpsim
-from tcpsim.api.answers import WaitingPacket
+from tcpsim.api.answers import Missing, PastDrop, WaitingPacket
 from tcpsim.api.events import Names, events_of
 from tcpsim.program import BUILT
 
@@ -337,6 +337,8 @@ def test_a_hunt(engine):
         assert why.stalled and why.stands == ('is stalled: 2 duplicate acknowledgements, and its retransmission timer is due at '
                                               '1006200000 ns')
         assert [(alarm.kind, alarm.time_ns) for alarm in why.alarms] == [('rto', 1006200000)]
+        assert why.missing == Missing('receiver', 4000, (PastDrop('data', 4000, 'lost', 'a', 6),))
+        assert why.text.endswith('\nmissing at the receiver: byte 4000, data 4000 lost by name at link a in line 6')
         lost = at.reverse(drop=True)
         assert (lost.position, [drop.number for drop in lost.event.drops], lost.passed) == (10, [6000, 7000], -15)
         assert at.reverse().position == 6

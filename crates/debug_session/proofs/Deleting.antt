@@ -5,7 +5,7 @@ use Rattle.std.specs.List.{Contains}
 use Rattle.table_run.specs.State.{State as NetState}
 use Rattle.trace_text.specs.declared.dump.DumpPart.{DumpPart}
 use Rattle.trace_text.specs.DumpParts.{part_bytes}
-use Rattle.flow_waits.specs.Waits.{waits_bytes}
+use Rattle.debug_session.specs.Missing.{why_text}
 use Rattle.debugger.specs.declared.breaks.Break.{Break}
 use Rattle.debugger.specs.Breaks.{IsTakenOut}
 use Rattle.debugger.specs.Debugging.{Debugging}
@@ -76,8 +76,8 @@ pub part_reported : (naming : Naming) (d : Debugging) (part : DumpPart) (out : L
 part_reported naming d part out reported = ⊎_elim (λ (t : out ≡ part_bytes part d.shown). inl (record { same = refl; reported = t })) (λ (t : out ≡ refusal_line M). inr (tt, record { same = refl; reported = t })) reported
 
 -- what is told of a flow
-pub why_reported : (naming : Naming) (d : Debugging) (flow : ℕ) (out : List ℕ) → (out ≡ waits_bytes flow d.shown.state) ⊎ (out ≡ refusal_line M) → ObeysTyped naming d.start (Why flow) (session_state d) (session_state d) out
-why_reported naming d flow out reported = ⊎_elim (λ (t : out ≡ waits_bytes flow d.shown.state). inl (record { same = refl; reported = t })) (λ (t : out ≡ refusal_line M). inr (tt, record { same = refl; reported = t })) reported
+pub why_reported : (naming : Naming) (d : Debugging) (flow : ℕ) (out : List ℕ) → (out ≡ why_text flow d.start d.shown) ⊎ (out ≡ refusal_line M) → ObeysTyped naming d.start (Why flow) (session_state d) (session_state d) out
+why_reported naming d flow out reported = ⊎_elim (λ (t : out ≡ why_text flow d.start d.shown). inl (record { same = refl; reported = t })) (λ (t : out ≡ refusal_line M). inr (tt, record { same = refl; reported = t })) reported
 
 -- what is told of the breakpoints
 pub breaks_reported : (naming : Naming) (d : Debugging) (breaks : List Break) (out : List ℕ) → breaks ≡ d.breaks → out ≡ listing breaks → ObeysTyped naming d.start Breaks (session_state d) (session_state d) out

@@ -56,6 +56,7 @@ more Lines = codes "K is 1000 at most. What stands in a line: help trace\n"
 more Why =
     codes "F is the name of a flow, or its number: the first flow line of the text is flow 0, the next one flow 1.\n"
     ++ codes "It tells how the flow stands, where its packets are, and when its alarms are due.\n"
+    ++ codes "Of what is missing at its receiver, or else at its sender, it tells each drop by its line: see lines and goto.\n"
 more Names = codes "A name can stand wherever a number of a node, a link or a flow can: help numbers. An image has none.\n"
 more Help = codes "NAME can be cut short, as a command can. In the shell, tcpsim explain B3 tells more of refused B3.\n"
 more Quit = codes "The end of input (Ctrl-D) does so too.\n"

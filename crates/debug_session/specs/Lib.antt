@@ -5,6 +5,7 @@ pub mod Times
 pub mod Signs
 pub mod ValueNames
 pub mod NamesReported
+pub mod Missing
 pub mod Conditions
 pub mod Answers
 pub mod Sessions

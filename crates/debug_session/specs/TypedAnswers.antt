@@ -2,7 +2,7 @@
 use Rattle.std.specs.Prelude.{◌≡◌, ◌<◌, ◌+◌, ◌-◌, ◌⊎◌, ℕ, List, [], ◌∷◌, ◌++◌, length, Contains, Option, Some}
 use Rattle.table_run.specs.State.{State as NetState}
 use Rattle.trace_text.specs.DumpParts.{part_bytes}
-use Rattle.flow_waits.specs.Waits.{waits_bytes}
+use Rattle.debug_session.specs.Missing.{why_text}
 use Rattle.debugger.specs.declared.breaks.Break.{Break}
 use Rattle.debugger.specs.Breaks.{IsTakenOut}
 use Rattle.debugger.specs.Moves.{StepGoesTo, RunGoesTo, ReverseGoesTo, UntilGoesTo}
@@ -56,7 +56,7 @@ DoesTyped naming start Reverse old new out = MovesPast start back_to_break (Reve
 DoesTyped naming start (Goto target) old new out = Moves start (StepGoesTo start 0 target) old new out
 DoesTyped naming start (Moment time) old new out = Moves start (UntilGoesTo start time 0) old new out
 DoesTyped naming start (Part part) old new out = Stays old new out (part_bytes part old.shown)
-DoesTyped naming start (Why flow) old new out = Stays old new out (waits_bytes flow old.shown.state)
+DoesTyped naming start (Why flow) old new out = Stays old new out (why_text flow start old.shown)
 DoesTyped naming start Breaks old new out = Stays old new out (listing old.breaks)
 DoesTyped naming start (Delete i) old new out = Deletes i old new out
 DoesTyped naming start (Lines count) old new out = Stays old new out (last_lines start old.shown.position count)

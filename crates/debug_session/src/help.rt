@@ -103,6 +103,7 @@ stall [F]    a flow, or flow F, is stalled from there on: help stall; it stands 
         CommandName::Why =>
             b"F is the name of a flow, or its number: the first flow line of the text is flow 0, the next one flow 1.
 It tells how the flow stands, where its packets are, and when its alarms are due.
+Of what is missing at its receiver, or else at its sender, it tells each drop by its line: see lines and goto.
 ",
         CommandName::Names =>
             b"A name can stand wherever a number of a node, a link or a flow can: help numbers. An image has none.\n",

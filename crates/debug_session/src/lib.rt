@@ -11,6 +11,7 @@ pub mod input;
 pub mod measure;
 pub mod memo;
 pub mod misnamed;
+mod missing;
 mod moment;
 pub mod name;
 mod names_reported;

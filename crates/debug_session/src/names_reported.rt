@@ -11,7 +11,7 @@ use std::alloc::AllocError;
 const DIGITS: usize = 20;
 
 // Appends a number.
-fn append_number(out: &mut Vec<u8>, n: u64) -> Result<(), AllocError>
+pub(crate) fn append_number(out: &mut Vec<u8>, n: u64) -> Result<(), AllocError>
     ensures { OnOk result (out.new.items ≡ out.old.items ++ decimal n) }
 {
     let mut digits = [0; DIGITS];

@@ -2,7 +2,7 @@
 ghost use Rattle.std.specs.Prelude.{◌≡◌, ◌<◌, ◌≤◌, ◌+◌, ◌++◌, [], OnOk, OnErr, length, drop, decimal};
 ghost use Rattle.trace_text.specs.Dump.{dump_bytes};
 ghost use Rattle.trace_text.specs.DumpParts.{part_bytes};
-ghost use Rattle.flow_waits.specs.Waits.{waits_bytes};
+ghost use Rattle.debug_session.specs.Missing.{why_text};
 ghost use Rattle.debugger.specs.Moves.{HasPosition};
 ghost use Rattle.debug_session.specs.Answers.{session_state, refusal_line, break_line, clear_line};
 ghost use Rattle.debug_session.specs.Help.{help_text, help_on};
@@ -12,6 +12,7 @@ ghost use Rattle.debug_session.specs.TypedMoves.{TellsPast, where_text, last_lin
 
 use crate::help::append_help;
 use crate::memo::Extent;
+use crate::missing::append_why;
 use crate::names_reported::append_names;
 use crate::naming::Naming;
 use crate::numbered::{append_listing, put_numbered};
@@ -272,13 +273,14 @@ impl Said {
         debugger.part_text(part, &mut self.dump)
     }
 
-    /// Answers what a flow waits for in the state that is shown. Where memory is refused, the answer
-    /// is empty.
-    pub(crate) fn say_why(&mut self, debugger: &Debugger, flow: u16) -> Result<(), AllocError>
-        ensures { OnOk result (self.new ≡ waits_bytes flow debugger.now.shown.state) }
+    /// Answers what a flow waits for in the state that is shown, and what became of the packets that are missing. On a
+    /// fault the answer is a part of that.
+    pub(crate) fn say_why(&mut self, debugger: &mut Debugger, flow: u16) -> Result<(), MoveFault>
+        ensures ok { OnOk result (self.new ≡ why_text flow debugger.old.start debugger.old.shown) }
+        ensures same { debugger.new ≡ debugger.old }
     {
         self.dump.clear();
         self.is_short = false;
-        debugger.waits_text(flow, &mut self.dump)
+        append_why(&mut self.dump, debugger, flow)
     }
 }

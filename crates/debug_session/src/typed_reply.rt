@@ -1,7 +1,7 @@
 //! A session's answer to a command that is typed.
 ghost use Rattle.std.specs.Prelude.{◌≡◌, ◌<◌, ◌≤◌, ◌⊎◌, ℕ, Contains, IfOk, MatchBool, MatchOption, OnErr, length, option_map};
 ghost use Rattle.trace_text.specs.DumpParts.{part_bytes};
-ghost use Rattle.flow_waits.specs.Waits.{waits_bytes};
+ghost use Rattle.debug_session.specs.Missing.{why_text};
 ghost use Rattle.debugger.specs.Debugging.{HasMoved};
 ghost use Rattle.debugger.specs.Moves.{HasPosition, StepGoesTo};
 ghost use Rattle.debug_session.specs.Answers.{session_state, refusal_line};
@@ -107,9 +107,10 @@ fn tell_part(debugger: &Debugger, part: DumpPart, said: &mut Said)
     }
 }
 
-/// Tells what a flow waits for.
-fn tell_why(debugger: &Debugger, flow: u16, said: &mut Said)
-    ensures { (said.new ≡ waits_bytes flow debugger.now.shown.state) ⊎ (said.new ≡ refusal_line Refusal.M) }
+/// Tells what a flow waits for, and what became of the packets that are missing.
+fn tell_why(debugger: &mut Debugger, flow: u16, said: &mut Said)
+    ensures reported { (said.new ≡ why_text flow debugger.old.start debugger.old.shown) ⊎ (said.new ≡ refusal_line Refusal.M) }
+    ensures same { debugger.new ≡ debugger.old }
 {
     match said.say_why(debugger, flow) {
         Ok(()) => {}

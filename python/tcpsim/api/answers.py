@@ -66,15 +66,37 @@ class Alarm:
     time_ns: int
 
 
+@dataclass(frozen=True)
+class PastDrop:
+    """A packet that was dropped: why (lost, full or codel), at which link, and the number of the event."""
+
+    kind: str
+    number: int
+    reason: str
+    link: str
+    n: int
+
+
+@dataclass(frozen=True)
+class Missing:
+    """What is missing of what a flow has sent: the byte that its receiver waits for, or the acknowledgement above a byte for which
+    its sender waits; and each drop of it."""
+
+    at: str                     # receiver or sender
+    byte: int
+    drops: tuple[PastDrop, ...]
+
+
 @dataclass(frozen=True, repr=False)
 class Why:
-    """What a flow waits for: how it `stands`, in words, and where its packets are."""
+    """What a flow waits for: how it `stands`, in words, where its packets are, and what is `missing`."""
 
     flow: str
     stands: str
     waits: tuple[WaitingPacket, ...]
     under_way: tuple[PacketUnderWay, ...]
     alarms: tuple[Alarm, ...]
+    missing: Missing | None     # None where nothing is
     text: str                   # in words, with the scenario's names
 
     @property
@@ -86,10 +108,23 @@ class Why:
         return self.text
 
 
+REASONS = {'lost by name': 'lost', 'dropped (full)': 'full', 'dropped (codel)': 'codel'}
+
+
+def missing_of(line: str, names: Names) -> Missing:
+    """What the last line of an answer to `why` tells."""
+    head, *drops = line.split(', ')
+    at, byte = re.fullmatch(r'missing at the (receiver|sender): .* (\d+)', head).groups()
+    found = (re.fullmatch(r'(\w+) (\d+) (.*) at link (\d+) in line (\d+)', drop).groups() for drop in drops)
+    return Missing(at, int(byte), tuple(PastDrop(kind, int(number), REASONS[reason], names.links[link], int(n))
+                                        for kind, number, reason, link, n in found))
+
+
 def why_of(text: str, names: Names) -> Why:
     """What `why` answered."""
     parts = {'waits': (), 'under way': (), 'alarms': ()}
     first, *others = text.splitlines()
+    missing = next((missing_of(line, names) for line in others if line.startswith('missing ')), None)
     for line in others:
         head, _, rest = line.partition(': ')
         parts[head] = tuple(rest.split(', '))
@@ -99,13 +134,13 @@ def why_of(text: str, names: Names) -> Why:
     _, number, stands = first.split(' ', 2)
     flow = names.flows[number]
     text = '\n'.join([f'flow {flow} {stands}', *others])
-    text = re.sub(r'of link (\d+)', lambda found: f'of link {names.links[found[1]]}', text)
+    text = re.sub(r'(of|at) link (\d+)', lambda found: f'{found[1]} link {names.links[found[2]]}', text)
     text = re.sub(r'to node (\d+)', lambda found: f'to node {names.nodes[found[1]]}', text)
     return Why(flow, stands, tuple(WaitingPacket(kind, int(no), int(place), names.links[link]) for kind, no, place, link in
                                    (found.groups() for found in waits)),
                tuple(PacketUnderWay(kind, int(no), names.nodes[node], int(time)) for kind, no, node, time in
                      (found.groups() for found in ways)),
-               tuple(Alarm(found[1], int(found[2])) for found in alarms), text)
+               tuple(Alarm(found[1], int(found[2])) for found in alarms), missing, text)
 
 
 # ---- the state

@@ -1,4 +1,5 @@
-use Rattle.std.proofs.Common.{refl, sym, subst}
+use Rattle.std.proofs.Common.{refl, sym, subst, ap}
+use Rattle.debugger.specs.Debugging.{Debugging}
 use Rattle.debug_session.specs.declared.command.Typed.{Typed}
 use Rattle.debug_session.specs.declared.command.Typed.TheVariants.{Plain}
 use Rattle.debug_session.specs.Answers.{session_state}
@@ -36,11 +37,12 @@ returns-in-Part-clause-start c = refl
 
 pub returns-in-Why-clause-obeyed : goal.returns-in-Why-clause-obeyed
 returns-in-Why-clause-obeyed c =
-    subst (λ (k : Typed). ObeysTyped c.args.naming.now c.args.debugger.now.start k (session_state c.args.debugger.now) (session_state c.args.debugger.now) c.tell_why.new.said) (sym c.in-Why.is)
-    (why_reported c.args.naming.now c.args.debugger.now c.in-Why.flow c.tell_why.new.said c.tell_why.ensures)
+    subst (λ (d : Debugging). ObeysTyped c.args.naming.now c.args.debugger.now.start c.args.asked (session_state c.args.debugger.now) (session_state d) c.tell_why.new.said) (sym c.tell_why.ensures.same)
+    (subst (λ (k : Typed). ObeysTyped c.args.naming.now c.args.debugger.now.start k (session_state c.args.debugger.now) (session_state c.args.debugger.now) c.tell_why.new.said) (sym c.in-Why.is)
+    (why_reported c.args.naming.now c.args.debugger.now c.in-Why.flow c.tell_why.new.said c.tell_why.ensures.reported))
 
 pub returns-in-Why-clause-start : goal.returns-in-Why-clause-start
-returns-in-Why-clause-start c = refl
+returns-in-Why-clause-start c = ap (λ (d : Debugging). d.start) c.tell_why.ensures.same
 
 pub returns-in-Breaks-clause-obeyed : goal.returns-in-Breaks-clause-obeyed
 returns-in-Breaks-clause-obeyed c =

@@ -1,0 +1,49 @@
+-- What `why` tells: what a flow waits for, and what became of the packets that are missing.
+use Rattle.std.specs.Prelude.{ℕ, List, [], ◌++◌, codes, decimal, Option, None, Some}
+use Rattle.std.specs.List.{flat_map}
+use Rattle.aqm.specs.declared.drop_reason.TakeDrop.TheVariants.{Codel}
+use Rattle.aqm.specs.declared.drop_reason.DropReason.{DropReason}
+use Rattle.aqm.specs.declared.drop_reason.DropReason.TheVariants.{Lost, Full, Take}
+use Rattle.table_run.specs.State.{State}
+use Rattle.net_machine.specs.Run.{Reached}
+use Rattle.flow_waits.specs.Waits.{waits_bytes}
+use Rattle.debugger.specs.declared.drops.DropsOf.{DropsOf}
+use Rattle.debugger.specs.declared.drops.DropsOf.TheVariants.{Segment, AcksAbove}
+use Rattle.debugger.specs.declared.drops.PastDrop.{PastDrop}
+use Rattle.debugger.specs.Drops.{missing_in, past_drops}
+
+-- which packets are missing, and where
+abbrev pub head_words : DropsOf → List ℕ
+head_words (Segment flow byte) = codes "missing at the receiver: byte "
+head_words (AcksAbove flow byte) = codes "missing at the sender: an acknowledgement above "
+
+abbrev pub byte_missing : DropsOf → ℕ
+byte_missing (Segment flow byte) = byte
+byte_missing (AcksAbove flow byte) = byte
+
+abbrev pub missing_head : DropsOf → List ℕ
+missing_head of = head_words of ++ decimal (byte_missing of)
+
+abbrev pub kind_of_drops : DropsOf → List ℕ
+kind_of_drops (Segment flow byte) = codes ", data "
+kind_of_drops (AcksAbove flow byte) = codes ", ack "
+
+abbrev pub reason_text : DropReason → List ℕ
+reason_text Lost = codes " lost by name at link "
+reason_text Full = codes " dropped (full) at link "
+reason_text (Take Codel) = codes " dropped (codel) at link "
+
+-- a packet that was dropped, why, where, and the line that tells of it
+abbrev pub drop_text : DropsOf → PastDrop → List ℕ
+drop_text of dropped = kind_of_drops of ++ decimal dropped.number ++ reason_text dropped.reason ++ decimal dropped.link ++ codes " in line " ++ decimal dropped.line
+
+abbrev pub missing_line : DropsOf → List PastDrop → List ℕ
+missing_line of drops = missing_head of ++ flat_map (drop_text of) drops ++ codes "\n"
+
+-- of the drops up to a position of the run; nothing where nothing is missing
+abbrev pub missing_told : State → ℕ → Option DropsOf → List ℕ
+missing_told start position None = []
+missing_told start position (Some of) = missing_line of (past_drops start of position)
+
+abbrev pub why_text : ℕ → State → Reached → List ℕ
+why_text flow start shown = waits_bytes flow shown.state ++ missing_told start shown.position (missing_in flow shown.state)
