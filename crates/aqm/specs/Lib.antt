@@ -6,6 +6,7 @@ pub mod Drops
 pub mod OneDrop
 pub mod Taken
 pub mod Queue
+pub mod DropReasons
 pub mod Laws
 pub use Rattle.packet_chain.specs.Stamped
 pub use Rattle.sim_time.specs.ControlLaw

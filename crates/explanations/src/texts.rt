@@ -457,10 +457,10 @@ Right is:
 
     $ { cat one.txt; printf -- '---\\nstep 1\\n'; } | tcpsim debug
 ",
-    "B4: a 65th breakpoint
+    "B4: a 65th breakpoint, or a 65th display
 
 The debugger keeps up to 64 breakpoints at once; `clear` takes all away. One that is set already stays
-as it is. The session goes on.
+as it is. At a prompt it keeps up to 64 displays too; `undisplay` takes one away. The session goes on.
 
 Refused, with the answer `refused B4`:
 
@@ -472,10 +472,10 @@ Right is:
     $ tcpsim-net tree --flows 40 > many.txt
     $ { cat many.txt; echo ---; seq -f 'break node %g' 0 63; } | tcpsim debug
 ",
-    "B5: there is no breakpoint of this number
+    "B5: there is no breakpoint of this number, or no display
 
-`delete` is a command at a prompt, and takes one breakpoint away. They have the numbers from 1 on, which
-`breaks` lists; where one is taken away, those behind it move up. The session goes on.
+At a prompt `delete` takes one breakpoint away, and `undisplay` one display. They have the numbers from 1
+on, which `breaks` and `display` list; where one is taken away, those behind it move up. The session goes on.
 
 Refused, with the note `refused B5`, where one.txt is the text that `tcpsim explain E2` ends with:
 

@@ -1,7 +1,7 @@
 -- A number's decimal digits, three at a time.
 use Rattle.std.proofs.Common.{◌≡◌, ◌-◌, cond, inl, inr, refl, subst, take, ltb, ℕ, zero, suc, ◌+◌, ◌/◌, ◌%◌, ◌^◌, ◌<◌, ◌≤◌, List, [], ◌∷◌, ◌++◌, length, get_or, sym, ap, ◌∙◌, arith, append_assoc, length-append}
 use Rattle.std.proofs.lemmas.Bool.{cases_lt, cond_below, cond_above}
-use Rattle.std.proofs.lemmas.Fmt.{decimal_digit, decimal_step, decimal_nonempty}
+use Rattle.std.proofs.lemmas.Fmt.{decimal_digit, decimal_step}
 use Rattle.std.specs.Fmt.{decimal}
 use Rattle.trace_text.specs.Digits.{three_digits}
 use Rattle.trace_text.specs.declared.groups.TheConstants.{FIRSTS, GROUPS}
@@ -57,11 +57,6 @@ pub decimal_three : (n : ℕ) → 100 ≤ n → n < 1000 → decimal n ≡ three
 decimal_three n lo hi =
     let a : n / 10 / 10 ≡ n / 100 = omega arith in
     rw (decimal_step n (omega arith) (omega arith), decimal_step (n / 10) (omega arith) (omega arith), decimal_digit (n / 10 / 10) (omega arith), a)
-
-pub length_from_ten : (n : ℕ) → 10 ≤ n → n < 2 ^ 64 → 2 ≤ length (decimal n)
-length_from_ten n lo hi =
-    let e = ap length (decimal_step n lo hi) ∙ length-append (decimal (n / 10)) ((48 + n % 10) ∷ []) in
-    omega (arith, decimal_nonempty (n / 10) (omega arith))
 
 pub decimal_six : (n : ℕ) → 1000000 ≤ n → n < 2 ^ 64 → decimal n ≡ decimal (n / 1000 / 1000) ++ (three_digits (n / 1000 % 1000) ++ three_digits (n % 1000))
 decimal_six n lo hi = rw (decimal_group n (omega arith) hi, decimal_group (n / 1000) (omega arith) (omega arith), append_assoc)

@@ -1,5 +1,5 @@
 -- Texts that are written one behind another.
-use Rattle.std.proofs.Common.{◌≡◌, ◌≤◌, ◌+◌, ℕ, List, [], ◌++◌, append-nil, length, take, sym, ap, ◌∙◌, arith, append_assoc}
+use Rattle.std.proofs.Common.{◌≡◌, ◌≤◌, ◌+◌, ℕ, List, ◌++◌, length, take, sym, ap, ◌∙◌, arith, append_assoc}
 use Rattle.std.proofs.Math.Seq.{take-append-add}
 use Rattle.std.proofs.lemmas.List.{take-take, length-take-le}
 
@@ -13,7 +13,3 @@ first_written old now row at k m within few e =
 -- a text, and another behind it
 pub both_written : (before first now a b : List ℕ) → first ≡ before ++ a → now ≡ first ++ b → now ≡ before ++ (a ++ b)
 both_written before first now a b e f = f ∙ ap (λ l. l ++ b) e ∙ append_assoc before a b
-
--- a last text of a row
-pub last_written : (before now a : List ℕ) → now ≡ before ++ a → now ≡ before ++ (a ++ [])
-last_written before now a e = e ∙ ap (λ l. before ++ l) (sym (append-nil a))

@@ -7,9 +7,7 @@ use Rattle.reno_sender.specs.declared.fields.SenderFields.{SenderFields}
 use Rattle.sim_time.specs.declared.key.Key.{Key}
 use Rattle.port.specs.declared.acts.Act.{Act}
 use Rattle.port.specs.declared.acts.Act.TheVariants.{Tx, Dropped}
-use Rattle.aqm.specs.declared.drop_reason.DropReason.{DropReason}
-use Rattle.aqm.specs.declared.drop_reason.DropReason.TheVariants.{Lost, Full, Take}
-use Rattle.aqm.specs.declared.drop_reason.TakeDrop.TheVariants.{Codel}
+use Rattle.aqm.specs.DropReasons.{reason_word}
 use Rattle.node_core.specs.declared.event.Event.{Event}
 use Rattle.node_core.specs.declared.event.Event.TheVariants.{Start, Rto, DelAck, Free, Arrive}
 use Rattle.node_core.specs.declared.line.After.{After}
@@ -52,11 +50,6 @@ after_words (AtSender s) =
 after_words (AtReceiver next) = (codes "next=" ++ decimal next) ∷ []
 after_words AtRouter = []
 
-abbrev pub reason_name : DropReason → List ℕ
-reason_name Lost = codes "lost"
-reason_name Full = codes "full"
-reason_name (Take Codel) = codes "codel"
-
 -- flow and number of a packet, each after a colon
 abbrev pub packet_name : Packet → List ℕ
 packet_name p = codes ":" ++ decimal p.flow ++ codes ":" ++ decimal p.number
@@ -64,7 +57,7 @@ packet_name p = codes ":" ++ decimal p.flow ++ codes ":" ++ decimal p.number
 -- the link that began to send a packet, or the reason why one was dropped
 abbrev pub act_word : Act → List ℕ
 act_word (Tx link p) = codes "tx=" ++ decimal link ++ packet_name p
-act_word (Dropped link reason p) = codes "drop=" ++ reason_name reason ++ packet_name p
+act_word (Dropped link reason p) = codes "drop=" ++ reason_word reason ++ packet_name p
 
 -- the n-th event's line: n, its key, what it was, the state after it, its acts in order
 abbrev pub line_bytes : ℕ → TraceLine → List ℕ

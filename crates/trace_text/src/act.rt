@@ -1,10 +1,12 @@
 //! The words that say what an event did to packets.
 ghost use Rattle.std.specs.Prelude.{◌≡◌, ◌+◌, ◌≤◌, ◌++◌, map, take, codes, length, vec_len, OnOk, OnErr};
+ghost use Rattle.aqm.specs.DropReasons.{reason_word};
 ghost use Rattle.trace_text.specs.Words.{spaced_words};
-ghost use Rattle.trace_text.specs.Line.{act_word, packet_name, reason_name};
+ghost use Rattle.trace_text.specs.Line.{act_word, packet_name};
 
 use crate::forward::{write_field, write_named, write_text};
-use node_core::{Act, DropReason, TakeDrop};
+use aqm::drop_reason::LONGEST_WORD;
+use node_core::{Act, DropReason};
 use packet_chain::Packet;
 use std::alloc::AllocError;
 
@@ -82,14 +84,22 @@ fn write_packet(bytes: &mut [u8], at: usize, packet: &Packet) -> usize
 /// Writes that a packet was dropped, and why.
 #[inline(always)]
 fn write_drop(bytes: &mut [u8], at: usize, reason: DropReason) -> usize
-    requires room { at + 11 ≤ length bytes.old }
-    ensures written { take result bytes.new ≡ take at bytes.old ++ (codes " drop=" ++ reason_name reason) }
+    requires room { at + 6 + LONGEST_WORD ≤ length bytes.old }
+    ensures written { take result bytes.new ≡ take at bytes.old ++ (codes " drop=" ++ reason_word reason) }
     ensures above { at ≤ result }
-    ensures short { result ≤ at + 11 }
+    ensures short { result ≤ at + 6 + LONGEST_WORD }
 {
-    match reason {
-        DropReason::Lost => write_text(bytes, at, b" drop=lost"),
-        DropReason::Full => write_text(bytes, at, b" drop=full"),
-        DropReason::Take(TakeDrop::Codel) => write_text(bytes, at, b" drop=codel"),
-    }
+    let at = write_text(bytes, at, b" drop=");
+    write_word(bytes, at, reason.word())
+}
+
+/// Writes the word of a reason.
+fn write_word(bytes: &mut [u8], at: usize, word: &[u8]) -> usize
+    requires room { at + length word.now ≤ length bytes.old }
+    ensures written { take result bytes.new ≡ take at bytes.old ++ word.now }
+    ensures end { result ≡ at + length word.now }
+{
+    let end = at + word.len();
+    bytes[at..end].copy_from_slice(word);
+    end
 }

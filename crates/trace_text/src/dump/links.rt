@@ -17,11 +17,12 @@ use itoa::Buffer;
 use node_core::Node;
 use node_core::link::Link;
 use packet_chain::{Iter, Kind, Packet};
+use scenario_image::limits::MOST_LINKS;
 use sim_time::Time;
 use std::alloc::AllocError;
 
 /// The most links of a net; all their numbers are below it.
-const MOST_LINKS: u16 = 1024;
+const MOST_NUMBERS: u16 = MOST_LINKS as u16;
 
 /// Appends the line of each link, in rising number, or of those where a packet of a flow waits.
 pub(super) fn append_links(
@@ -32,7 +33,7 @@ pub(super) fn append_links(
     ensures { OnOk result (out.new.items ≡ out.old.items
         ++ flat_map (chosen_link flow) (links_in_order (parts_of nodes.now))) }
 {
-    append_first(flow, MOST_LINKS, nodes, out)
+    append_first(flow, MOST_NUMBERS, nodes, out)
 }
 
 /// Appends the lines of the links of numbers below this one.
