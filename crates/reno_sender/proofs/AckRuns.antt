@@ -8,8 +8,9 @@ use Rattle.reno_sender.specs.AckRun.{IsAckRun, let_go}
 use Rattle.reno_sender.specs.Fields.{IsSound, total}
 use Rattle.reno_sender.specs.Laws.{IsAckFor}
 use Rattle.reno_sender.specs.Sending.{Planned, fill_count, spaced}
-use Rattle.reno_sender.specs.Table.{acknowledged, advanced, measured_by, new_acknowledgement, restarted, window_after, with_estimate}
-use Rattle.reno_sender.specs.Timer.{sampled}
+use Rattle.reno_sender.specs.LossRecovery.{advanced, new_acknowledgement, window_after}
+use Rattle.reno_sender.specs.Table.{acknowledged}
+use Rattle.reno_sender.specs.Timer.{measured_by, restarted, with_estimate, sampled}
 use Rattle.sim_time.specs.Moment.{IsMoment}
 use Rattle.reno_sender.proofs.Advances.{advanced_keeps, new_acknowledgement_keeps}
 use Rattle.reno_sender.proofs.Rows.{fill_in_total}

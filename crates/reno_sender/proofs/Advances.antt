@@ -1,16 +1,19 @@
 -- A new acknowledgement keeps the facts on fields.
-use Rattle.std.proofs.Common.{◌≡◌, ℕ, ◌+◌, ◌-◌, ◌*◌, ◌/◌, ◌<◌, ◌≤◌, ◌⊎◌, ◌↔◌, inl, inr, Bool, true, false, cond, ◌&&◌, ltb, leb, eqb, min, max, Option, Some, None, [], ◌∷◌, refl, sym, ◌∙◌, subst, arith}
+use Rattle.std.proofs.Common.{◌≡◌, ℕ, ◌+◌, ◌-◌, ◌/◌, ◌<◌, ◌≤◌, ◌⊎◌, ◌↔◌, inl, inr, Bool, true, false, cond, ◌&&◌, leb, eqb, min, max, Option, Some, None, [], ◌∷◌, refl, sym, ◌∙◌, subst, arith}
 use Rattle.std.specs.Prelude.{IfSome, IsSome, IsSomeAnd, IsTrue, IsFalse, is_some}
 use Rattle.std.proofs.lemmas.Bool.{leb-false, ltb-true, eqb-true, eqb-false, and_parts, false≢true}
 use Rattle.reno_sender.specs.declared.fields.SenderFields.{SenderFields}
 use Rattle.reno_sender.specs.declared.fields.Timing.{Timing}
 use Rattle.reno_sender.specs.Fields.{IsSound, IsTimedWithin, total}
-use Rattle.reno_sender.specs.Timer.{Estimate, sampled, estimate_of}
-use Rattle.reno_sender.specs.Table.{enlarged, window_after, with_estimate, measured_by, restarted, advanced, new_acknowledgement, may_send_new, is_below, is_partial, partly, partial_acknowledgement}
+use Rattle.reno_sender.specs.Timer.{Estimate, sampled, estimate_of, with_estimate, measured_by, restarted}
+use Rattle.reno_sender.specs.declared.congestion_control.Progress.TheVariants.{PartialData}
+use Rattle.reno_sender.specs.CongestionControl.{window_at}
+use Rattle.reno_sender.specs.LossRecovery.{window_after, advanced, new_acknowledgement, may_send_new, is_below, is_partial, partly, partial_acknowledgement}
 use Rattle.reno_sender.specs.Sending.{Planned, sending}
 use Rattle.sim_time.specs.Moment.{IsMoment}
-use Rattle.reno_sender.specs.Laws.{RowKeeps, IsAckFor, IsDeadlineSetAt}
+use Rattle.reno_sender.specs.Laws.{RowKeeps, IsAckFor, IsDeadlineSetAt, IsWindowSize}
 use Rattle.reno_sender.proofs.Multiples.{multiple_max, multiple_below}
+use Rattle.reno_sender.proofs.CongestionControl.{progress_keeps_window, window_after_is}
 use Rattle.reno_sender.proofs.Rows.{quiet_keeps, fill_keeps, resend_keeps, again_and_next_keeps, new_ends}
 
 -- what an estimate has to be
@@ -98,12 +101,6 @@ measured_is : (o : Option Timing) (f : SenderFields) (ack now : ℕ) → IsSound
 measured_is None f ack now s m e = not_measured f ack now s (subst (λ (o : Option Timing). IfSome o (IsTimedWithin ack f.high)) (sym e) tt)
 measured_is (Some t) f ack now s m e = measured_split (leb t.number ack) f t ack now s m e (λ k. leb-false t.number ack k)
 
-window_bounds : (f : SenderFields) (bytes : ℕ) → IsSound f → (a b : Bool) (w : ℕ) →
-    w ≡ cond a f.ssthresh (cond b (enlarged f.cwnd (min bytes f.mss)) (enlarged f.cwnd (max (f.mss * f.mss / f.cwnd) 1))) → (f.mss ≤ w) × (w ≤ 1099511627776)
-window_bounds f bytes s true b w e = (omega (arith, s.ssthresh_least), omega (arith, s.ssthresh_most))
-window_bounds f bytes s false true w e = (omega (arith, s.cwnd_least, s.mss_most), omega arith)
-window_bounds f bytes s false false w e = (omega (arith, s.cwnd_least, s.mss_most), omega arith)
-
 restarted_is : (b : Bool) (una nxt deadline now : ℕ) (d : Option ℕ) → una ≤ nxt → b ≡ eqb una nxt → d ≡ cond b None (Some deadline) →
     (IsSome d ↔ (una < nxt)) × ((d ≡ None) ⊎ (d ≡ Some deadline))
 restarted_is true una nxt deadline now d l e k = ((λ t. absurd (false≢true (subst (λ (o : Option ℕ). is_some o ≡ true) k t)), λ m. absurd (omega (arith, eqb-true una nxt (sym e)))), inl k)
@@ -141,7 +138,7 @@ advanced_from f g ack now s moment a new m =
     let nxt : ℕ = max f.nxt ack in
     let cwnd : ℕ = window_after f (ack - f.una) in
     let deadline : Option ℕ = restarted ack nxt (now + g.rto) in
-    let window : (f.mss ≤ cwnd) × (cwnd ≤ 1099511627776) = window_bounds f (ack - f.una) s f.recovery (ltb f.cwnd f.ssthresh) cwnd refl in
+    let window : IsWindowSize f cwnd = window_after_is f (ack - f.una) s in
     let timer : (IsSome deadline ↔ (ack < nxt)) × ((deadline ≡ None) ⊎ (deadline ≡ Some (now + g.rto))) =
     restarted_is (eqb ack nxt) ack nxt (now + g.rto) now deadline (omega arith) refl refl in
     let h : SenderFields = record g { una = ack; nxt = nxt; cwnd = cwnd; dups = 0; lt = 0; recovery = false; resent = false; deadline = deadline } in
@@ -167,8 +164,8 @@ advanced_from f g ack now s moment a new m =
       recover_most = rw (m.recover_same, m.high_same) s.recover_most;
       newreno_nxt = λ newreno. rw (m.recover_same, m.high_same) (advanced_nxt f ack now a (s.newreno_nxt (rw m.variant_same at newreno)));
       newreno_recovery = λ _ on. absurd (false≢true on);
-      cwnd_least = omega (arith, m.mss_same, window.0);
-      cwnd_most = window.1;
+      cwnd_least = omega (arith, m.mss_same, window.least);
+      cwnd_most = window.most;
       ssthresh_least = omega (arith, m.mss_same, m.ssthresh_same, s.ssthresh_least);
       ssthresh_most = omega (arith, m.ssthresh_same, s.ssthresh_most);
       rto_least = m.rto_least;
@@ -224,7 +221,7 @@ partly_from : (f g : SenderFields) (ack now : ℕ) → IsSound f → IsMoment no
     RowKeeps f (record g {
       una = ack;
       nxt = max f.nxt ack;
-      cwnd = max (f.cwnd + f.mss - (ack - f.una)) f.mss;
+      cwnd = window_at f (PartialData (ack - f.una));
       lt = 0;
       resent = false;
       deadline = cond f.partial f.deadline (Some (now + g.rto));
@@ -238,7 +235,8 @@ partly_from f g ack now s moment a new part m =
     let all_sent : f.nxt ≡ f.high = facts.1.1.1 in
     let out : ack < f.nxt = omega (arith, recover_above f.recover ack f.high facts.1.1.0 s.recover_most) in
     let segment : f.una + f.mss ≤ ack = multiple_below f.mss f.una ack s.mss_least s.una_multiple a.multiple new in
-    let cwnd : ℕ = max (f.cwnd + f.mss - (ack - f.una)) f.mss in
+    let cwnd : ℕ = window_at f (PartialData (ack - f.una)) in
+    let window : IsWindowSize f cwnd = progress_keeps_window f (PartialData (ack - f.una)) s (omega arith) in
     let deadline : Option ℕ = cond f.partial f.deadline (Some (now + g.rto)) in
     let timer : IsSome deadline × ((deadline ≡ f.deadline) ⊎ (deadline ≡ Some (now + g.rto))) = kept_or_set f.partial f.deadline (now + g.rto) (s.deadline_flight.1 (omega arith)) in
     let h : SenderFields = record g { una = ack; nxt = max f.nxt ack; cwnd = cwnd; lt = 0; resent = false; deadline = deadline; partial = true } in
@@ -264,8 +262,8 @@ partly_from f g ack now s moment a new part m =
       recover_most = rw (m.recover_same, m.high_same) s.recover_most;
       newreno_nxt = λ _. inl (omega (arith, m.high_same));
       newreno_recovery = λ _ _. (rw m.recover_same facts.1.1.0, omega (arith, m.high_same));
-      cwnd_least = omega (arith, m.mss_same);
-      cwnd_most = omega (arith, s.cwnd_most, s.mss_most);
+      cwnd_least = omega (arith, m.mss_same, window.least);
+      cwnd_most = window.most;
       ssthresh_least = omega (arith, m.mss_same, m.ssthresh_same, s.ssthresh_least);
       ssthresh_most = omega (arith, m.ssthresh_same, s.ssthresh_most);
       rto_least = m.rto_least;

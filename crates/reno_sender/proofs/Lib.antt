@@ -1,6 +1,7 @@
 pub mod Multiples
 pub mod Runs
 pub mod Sends
+pub mod CongestionControl
 pub mod Rows
 pub mod Advances
 pub mod RowLaws

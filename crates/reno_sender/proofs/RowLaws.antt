@@ -5,10 +5,14 @@ use Rattle.std.specs.List.{list_any}
 use Rattle.std.proofs.lemmas.Bool.{ltb-true, ltb-false, eqb-false, or_parts, or_left, or_right, and_parts, lt-ltb, le-ltb, lt-leb, le-leb, cases_lt, false≢true}
 use Rattle.reno_sender.specs.declared.fields.SenderFields.{SenderFields}
 use Rattle.reno_sender.specs.declared.fields.Timing.{Timing}
-use Rattle.reno_sender.specs.Fields.{flight_size}
-use Rattle.reno_sender.specs.Timer.{sampled, backed_off}
+use Rattle.reno_sender.specs.Timer.{sampled, backed_off, measured_by, with_estimate}
 use Rattle.reno_sender.specs.Sending.{Planned, sending, timing_of, spaced, fill_count}
-use Rattle.reno_sender.specs.Table.{started, acknowledged, timed_out, new_acknowledgement, nothing_sent, further_duplicate, enters, recover_at_loss, fast_retransmit, repeated_duplicate, early_duplicate, is_partial, is_below, partly, partial_acknowledgement, may_send_new, measured_by, with_estimate, advanced, inflated, enlarged, one_more, halved}
+use Rattle.reno_sender.specs.declared.congestion_control.Lowered.{Lowered}
+use Rattle.reno_sender.specs.declared.congestion_control.Progress.TheVariants.{FurtherDuplicate}
+use Rattle.reno_sender.specs.declared.congestion_control.Loss.TheVariants.{ByDuplicates, ByTimer}
+use Rattle.reno_sender.specs.CongestionControl.{window_at, lowered_at}
+use Rattle.reno_sender.specs.LossRecovery.{new_acknowledgement, nothing_sent, further_duplicate, enters, recover_at_loss, fast_retransmit, repeated_duplicate, early_duplicate, is_partial, is_below, partly, partial_acknowledgement, may_send_new, advanced, inflated, one_more}
+use Rattle.reno_sender.specs.Table.{started, acknowledged, timed_out}
 use Rattle.reno_sender.specs.Laws.{ThresholdAtRecovery, ThresholdAtTimeout, ThresholdAtFurtherTimeout, ThresholdStays, NeverTimesResent, StartNeverTimesResent, AcknowledgementNeverTimesResent, TimeoutNeverTimesResent, TimeoutDoublesRto, RtoStaysUntilSample, LastsUntilRecover, RecoveryLasts}
 
 three_at_least : (dups : ℕ) → eqb dups 2 ≡ false → ltb dups 2 ≡ false → 3 ≤ dups
@@ -142,12 +146,12 @@ early_is_fresh f now p =
 
 retransmit_is_fresh : (f : SenderFields) (now : ℕ) → 1 ≤ f.mss → NeverTimesResent f (fast_retransmit f now) now
 retransmit_is_fresh f now p =
-    let threshold : ℕ = halved (flight_size f - f.lt) f.mss in
-    sending_is_fresh f (record f { dups = 3; ssthresh = threshold; cwnd = threshold + 3 * f.mss; recovery = true; recover = recover_at_loss f; partial = false }) (f.una ∷ []) f.nxt now refl refl p
+    let low : Lowered = lowered_at f ByDuplicates in
+    sending_is_fresh f (record f { dups = 3; ssthresh = low.ssthresh; cwnd = low.cwnd; recovery = true; recover = recover_at_loss f; partial = false }) (f.una ∷ []) f.nxt now refl refl p
 
 further_is_fresh : (f : SenderFields) (now : ℕ) → 1 ≤ f.mss → NeverTimesResent f (further_duplicate f now) now
 further_is_fresh f now p =
-    either_row (λ q. NeverTimesResent f q now) (may_send_new f (f.una + min (enlarged f.cwnd f.mss) f.rwnd)) (sending (inflated f) (f.nxt ∷ []) (f.nxt + f.mss) now) (nothing_sent (inflated f))
+    either_row (λ q. NeverTimesResent f q now) (may_send_new f (f.una + min (window_at f FurtherDuplicate) f.rwnd)) (sending (inflated f) (f.nxt ∷ []) (f.nxt + f.mss) now) (nothing_sent (inflated f))
     (sending_is_fresh f (inflated f) (f.nxt ∷ []) (f.nxt + f.mss) now refl refl p) (nothing_is_fresh f (inflated f) now)
 
 new_is_fresh : (f : SenderFields) (ack now : ℕ) → 1 ≤ f.mss → NeverTimesResent f (new_acknowledgement f ack now) now
@@ -173,8 +177,8 @@ pub timeout_never_times_resent : TimeoutNeverTimesResent
 unfolding timed_out
 timeout_never_times_resent f now p =
     sending_is_fresh f (record f {
-      ssthresh = cond f.resent f.ssthresh (halved (flight_size f) f.mss);
-      cwnd = f.mss;
+      ssthresh = (lowered_at f ByTimer).ssthresh;
+      cwnd = (lowered_at f ByTimer).cwnd;
       rto = backed_off f.rto;
       dups = 0;
       lt = 0;

@@ -9,11 +9,17 @@ use Rattle.reno_sender.specs.declared.fields.Timing.{Timing}
 use Rattle.reno_sender.specs.Fields.{IsSound, IsTimedWithin, IsMultiple, total, flight_size}
 use Rattle.reno_sender.specs.Timer.{backed_off}
 use Rattle.reno_sender.specs.Sending.{Planned, spaced, sending, timing_of, timing_after, filling, fill_count, allowed_end}
-use Rattle.reno_sender.specs.Table.{timed_out, enlarged, one_more, halved, may_send_new, nothing_sent, early_duplicate, is_past, enters, recover_at_loss, fast_retransmit, repeated_duplicate, further_duplicate, inflated}
+use Rattle.reno_sender.specs.declared.congestion_control.Lowered.{Lowered}
+use Rattle.reno_sender.specs.declared.congestion_control.Progress.TheVariants.{FurtherDuplicate}
+use Rattle.reno_sender.specs.declared.congestion_control.Loss.TheVariants.{ByDuplicates, ByTimer}
+use Rattle.reno_sender.specs.CongestionControl.{window_at, lowered_at}
+use Rattle.reno_sender.specs.LossRecovery.{one_more, may_send_new, nothing_sent, early_duplicate, is_past, enters, recover_at_loss, fast_retransmit, repeated_duplicate, further_duplicate, inflated}
+use Rattle.reno_sender.specs.Table.{timed_out}
 use Rattle.sim_time.specs.Moment.{IsMoment}
-use Rattle.reno_sender.specs.Laws.{RowKeeps, IsDeadlineSetAt}
+use Rattle.reno_sender.specs.Laws.{RowKeeps, IsDeadlineSetAt, IsWindowSize}
 use Rattle.reno_sender.proofs.Multiples.{multiple_next, multiple_below, fits_count}
 use Rattle.reno_sender.specs.PlanView.{IsWellMade}
+use Rattle.reno_sender.proofs.CongestionControl.{progress_keeps_window, loss_keeps_windows}
 use Rattle.reno_sender.proofs.Runs.{length-spaced}
 use Rattle.reno_sender.proofs.Sends.{run_keeps}
 
@@ -370,12 +376,11 @@ entered_losses f s out e = record {
 pub fast_retransmit_keeps : (f : SenderFields) (now : ℕ) → IsSound f → IsMoment now → f.una < f.nxt → enters f ≡ true →
     RowKeeps f (fast_retransmit f now).fields (fast_retransmit f now).sent now
 fast_retransmit_keeps f now s moment out e =
-    let threshold : ℕ = halved (flight_size f - f.lt) f.mss in
-    let h : SenderFields = record f { dups = 3; ssthresh = threshold; cwnd = threshold + 3 * f.mss; recovery = true; recover = recover_at_loss f; partial = false } in
-    let at_most : threshold ≤ 536870912 + 18000 = omega (arith, s.in_window, s.rwnd_most, s.mss_most) in
-    let at_least : f.mss ≤ threshold = omega arith in
-    let sound_h : IsSound h = windows_sound f (threshold + 3 * f.mss) threshold 3 f.lt f.rto true f.resent f.timing f.deadline (recover_at_loss f) false s
-    s.lt_flight (entered_losses f s out e) (omega arith) (omega (arith, s.mss_most)) at_least (omega arith)
+    let low : Lowered = lowered_at f ByDuplicates in
+    let is : IsWindowSize f low.ssthresh × IsWindowSize f low.cwnd = loss_keeps_windows f ByDuplicates s in
+    let h : SenderFields = record f { dups = 3; ssthresh = low.ssthresh; cwnd = low.cwnd; recovery = true; recover = recover_at_loss f; partial = false } in
+    let sound_h : IsSound h = windows_sound f low.cwnd low.ssthresh 3 f.lt f.rto true f.resent f.timing f.deadline (recover_at_loss f) false s
+    s.lt_flight (entered_losses f s out e) is.1.least is.1.most is.0.least is.0.most
     s.rto_least s.rto_most s.deadline_flight s.deadline_most s.timed in
     resend_keeps f h f.nxt now (quiet_keeps f h now sound_h refl refl refl refl (omega arith) (omega arith) (inl refl) (inr (inl refl))) out (omega arith) s.nxt_multiple s.lt_flight (inl refl)
 
@@ -408,8 +413,9 @@ pub inflated_sound : (f : SenderFields) → IsSound f → f.recovery ≡ true �
 inflated_sound f s e =
     let three : 3 ≤ f.dups = s.recovery_dups e in
     let still : 3 ≤ one_more f.dups = at_least_three f.dups three in
-    windows_sound f (enlarged f.cwnd f.mss) f.ssthresh (one_more f.dups) f.lt f.rto f.recovery f.resent f.timing f.deadline f.recover f.partial s
-    s.lt_flight (inflated_losses f s e still) (omega (arith, s.cwnd_least, s.mss_most)) (omega arith) s.ssthresh_least s.ssthresh_most
+    let window : IsWindowSize f (window_at f FurtherDuplicate) = progress_keeps_window f FurtherDuplicate s tt in
+    windows_sound f (window_at f FurtherDuplicate) f.ssthresh (one_more f.dups) f.lt f.rto f.recovery f.resent f.timing f.deadline f.recover f.partial s
+    s.lt_flight (inflated_losses f s e still) window.least window.most s.ssthresh_least s.ssthresh_most
     s.rto_least s.rto_most s.deadline_flight s.deadline_most s.timed
 
 further_split : (b : Bool) (f h : SenderFields) (now : ℕ) → RowKeeps f h [] now → IsMoment now →
@@ -427,12 +433,8 @@ pub further_duplicate_keeps : (f : SenderFields) (now : ℕ) → IsSound f → I
 further_duplicate_keeps f now s moment e =
     let h : SenderFields = inflated f in
     let k : RowKeeps f h [] now = quiet_keeps f h now (inflated_sound f s e) refl refl refl refl (omega arith) (omega arith) (inl refl) (inr (inl refl)) in
-    let end : ℕ = f.una + min (enlarged f.cwnd f.mss) f.rwnd in
+    let end : ℕ = f.una + min (window_at f FurtherDuplicate) f.rwnd in
     further_split (may_send_new f end) f h now k moment (λ t. new_ends f end s t) (further_duplicate f now) refl
-
-threshold_bounds : (f : SenderFields) → IsSound f → (b : Bool) → (f.mss ≤ cond b f.ssthresh (halved (flight_size f) f.mss)) × (cond b f.ssthresh (halved (flight_size f) f.mss) ≤ 1099511627776)
-threshold_bounds f s true = (s.ssthresh_least, s.ssthresh_most)
-threshold_bounds f s false = (omega arith, omega (arith, s.in_window, s.rwnd_most, s.mss_most))
 
 timed_out_losses : (f : SenderFields) → IsSound f → IsOfLosses f 0 false (recover_at_loss f) f.partial
 timed_out_losses f s = record {
@@ -450,14 +452,14 @@ pub timed_out_row_keeps : (f : SenderFields) (now : ℕ) → IsSound f → IsMom
 unfolding timed_out
 timed_out_row_keeps f now s moment set =
     let out : f.una < f.nxt = s.deadline_flight.0 set in
-    let threshold : ℕ = cond f.resent f.ssthresh (halved (flight_size f) f.mss) in
+    let low : Lowered = lowered_at f ByTimer in
+    let is : IsWindowSize f low.ssthresh × IsWindowSize f low.cwnd = loss_keeps_windows f ByTimer s in
     let later : ℕ = backed_off f.rto in
-    let h : SenderFields = record f { ssthresh = threshold; cwnd = f.mss; rto = later; dups = 0; lt = 0; recovery = false; recover = recover_at_loss f; resent = true; timing = None; deadline = Some (now + later) } in
-    let bounds : (f.mss ≤ threshold) × (threshold ≤ 1099511627776) = threshold_bounds f s f.resent in
+    let h : SenderFields = record f { ssthresh = low.ssthresh; cwnd = low.cwnd; rto = later; dups = 0; lt = 0; recovery = false; recover = recover_at_loss f; resent = true; timing = None; deadline = Some (now + later) } in
     let least : 1000000000 ≤ later = omega (arith, s.rto_least) in
     let most : later ≤ 60000000000 = omega arith in
-    let sound_h : IsSound h = windows_sound f f.mss threshold 0 0 later false true None (Some (now + later)) (recover_at_loss f) f.partial s
-    (omega arith) (timed_out_losses f s) (omega arith) (omega (arith, s.mss_most)) bounds.0 bounds.1
+    let sound_h : IsSound h = windows_sound f low.cwnd low.ssthresh 0 0 later false true None (Some (now + later)) (recover_at_loss f) f.partial s
+    (omega arith) (timed_out_losses f s) is.1.least is.1.most is.0.least is.0.most
     least most (λ _. out, λ _. refl) (omega arith) tt in
     let k : RowKeeps f h [] now = quiet_keeps f h now sound_h refl refl refl refl (omega arith) (omega arith) (inr tt) (inr (inr (record { after = later; after_least = least; after_most = most; is_then = refl }))) in
     resend_keeps f h (f.una + f.mss) now k (omega (arith, s.mss_least)) (multiple_below f.mss f.una f.nxt s.mss_least s.una_multiple s.nxt_multiple out)

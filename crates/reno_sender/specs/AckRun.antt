@@ -3,7 +3,7 @@ use Rattle.std.specs.Prelude.{◌≡◌, ◌<◌, ◌+◌, ◌-◌, ◌/◌, ℕ
 use Rattle.reno_sender.specs.declared.fields.SenderFields.{SenderFields}
 use Rattle.reno_sender.specs.declared.plan.AckRun.{AckRun}
 use Rattle.reno_sender.specs.Fields.{total}
-use Rattle.reno_sender.specs.Table.{is_partial, window_after}
+use Rattle.reno_sender.specs.LossRecovery.{is_partial, window_after}
 
 -- how many whole segments the windows and the flow allow then
 abbrev pub let_go : SenderFields → ℕ → ℕ

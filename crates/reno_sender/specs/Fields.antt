@@ -1,5 +1,5 @@
 -- What a sender keeps, and the facts that hold of it in every reachable state.
-use Rattle.std.specs.Prelude.{◌≡◌, ◌≤◌, ◌<◌, ◌*◌, ◌-◌, ◌%◌, ◌⊎◌, ◌↔◌, ℕ, IsTrue, IsFalse, Some, None, IsSome, IfSome, IsSomeAnd}
+use Rattle.std.specs.Prelude.{◌≡◌, ◌≤◌, ◌<◌, ◌*◌, ◌-◌, ◌%◌, ◌⊎◌, ◌↔◌, ℕ, Bool, IsTrue, IsFalse, Some, None, IsSome, IfSome, IsSomeAnd}
 use Rattle.reno_sender.specs.declared.fields.SenderFields.{SenderFields}
 use Rattle.reno_sender.specs.declared.fields.Timing.{Timing}
 
@@ -14,6 +14,10 @@ total f = f.segments * f.mss
 -- FlightSize (RFC 5681 section 2): the bytes sent and not acknowledged
 abbrev pub flight_size : SenderFields → ℕ
 flight_size f = f.nxt - f.una
+
+-- how the sender recovers from losses: as NewReno does (RFC 6582), or as Reno (RFC 5681 section 3.2)
+abbrev pub is_newreno : SenderFields → Bool
+is_newreno f = f.variant.newreno
 
 -- the timed number lies above una and at most at high
 pub record IsTimedWithin (una high : ℕ) (t : Timing) : Type 0 where
@@ -37,12 +41,12 @@ pub record IsSound (f : SenderFields) : Type 0 where
   pub in_window : flight_size f ≤ f.rwnd
   pub lt_flight : f.lt ≤ flight_size f
   pub recovery_dups : IsTrue f.recovery → 3 ≤ f.dups
-  pub reno_recovery : IsFalse f.variant.newreno → 3 ≤ f.dups → IsTrue f.recovery
-  pub reno_recover : IsFalse f.variant.newreno → f.recover ≡ None
-  pub reno_partial : IsFalse f.variant.newreno → IsFalse f.partial
+  pub reno_recovery : IsFalse (is_newreno f) → 3 ≤ f.dups → IsTrue f.recovery
+  pub reno_recover : IsFalse (is_newreno f) → f.recover ≡ None
+  pub reno_partial : IsFalse (is_newreno f) → IsFalse f.partial
   pub recover_most : IfSome f.recover (λ r. r ≤ f.high)
-  pub newreno_nxt : IsTrue f.variant.newreno → (f.nxt ≡ f.high) ⊎ (f.recover ≡ Some f.high)
-  pub newreno_recovery : IsTrue f.variant.newreno → IsTrue f.recovery → IsSomeAnd f.recover (λ r. f.una < r) × (f.nxt ≡ f.high)
+  pub newreno_nxt : IsTrue (is_newreno f) → (f.nxt ≡ f.high) ⊎ (f.recover ≡ Some f.high)
+  pub newreno_recovery : IsTrue (is_newreno f) → IsTrue f.recovery → IsSomeAnd f.recover (λ r. f.una < r) × (f.nxt ≡ f.high)
   pub cwnd_least : f.mss ≤ f.cwnd
   pub cwnd_most : f.cwnd ≤ 1099511627776
   pub ssthresh_least : f.mss ≤ f.ssthresh

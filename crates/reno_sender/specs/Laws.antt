@@ -4,7 +4,12 @@ use Rattle.std.specs.List.{AllByRecursion}
 use Rattle.sim_time.specs.Moment.{IsMoment}
 use Rattle.sim_time.specs.declared.settings.SenderSettings.{SenderSettings}
 use Rattle.reno_sender.specs.declared.fields.SenderFields.{SenderFields}
-use Rattle.reno_sender.specs.Fields.{IsSound, IsMultiple, total}
+use Rattle.reno_sender.specs.Fields.{IsSound, IsMultiple, total, is_newreno}
+use Rattle.reno_sender.specs.declared.congestion_control.TheConstants.{MOST_CWND}
+use Rattle.reno_sender.specs.declared.congestion_control.Progress.{Progress}
+use Rattle.reno_sender.specs.declared.congestion_control.Progress.TheVariants.{NewData, FurtherDuplicate, PartialData, RecoveryEnd}
+use Rattle.reno_sender.specs.declared.congestion_control.Loss.{Loss}
+use Rattle.reno_sender.specs.CongestionControl.{window_at, lowered_at}
 use Rattle.reno_sender.specs.Sending.{Planned, filling}
 use Rattle.reno_sender.specs.Table.{initial_fields, started, acknowledged, timed_out}
 
@@ -54,6 +59,25 @@ abbrev pub TimeoutKeeps : Type 0
 TimeoutKeeps =
     (f : SenderFields) (now : ℕ) → IsSound f → IsMoment now → IsSome f.deadline →
     RowKeeps f (timed_out f now).fields (timed_out f now).sent now
+
+-- one segment at least, and no more than where additions stop
+pub record IsWindowSize (f : SenderFields) (bytes : ℕ) : Type 0 where
+  pub least : f.mss ≤ bytes
+  pub most : bytes ≤ MOST_CWND
+
+-- what is acknowledged in part is one segment at least
+abbrev pub IsProgress : SenderFields → Progress → Type 0
+IsProgress f (NewData bytes) = Unit {0}
+IsProgress f FurtherDuplicate = Unit {0}
+IsProgress f (PartialData bytes) = f.mss ≤ bytes
+IsProgress f RecoveryEnd = Unit {0}
+
+-- all that loss recovery's proofs need of congestion control: each of its rows leaves windows in range
+abbrev pub ProgressKeepsWindow : Type 0
+ProgressKeepsWindow = (f : SenderFields) (progress : Progress) → IsSound f → IsProgress f progress → IsWindowSize f (window_at f progress)
+
+abbrev pub LossKeepsWindows : Type 0
+LossKeepsWindows = (f : SenderFields) (loss : Loss) → IsSound f → IsWindowSize f (lowered_at f loss).ssthresh × IsWindowSize f (lowered_at f loss).cwnd
 
 -- the ranges of a flow
 pub record IsFlow (s : SenderSettings) : Type 0 where
@@ -109,7 +133,7 @@ pub record LastsUntilRecover (p : Planned) (recover ack : ℕ) : Type 0 where
 
 abbrev pub RecoveryLasts : Type 0
 RecoveryLasts =
-    (f : SenderFields) (recover ack now : ℕ) → IsTrue f.variant.newreno → IsTrue f.recovery → f.recover ≡ Some recover → f.una < ack →
+    (f : SenderFields) (recover ack now : ℕ) → IsTrue (is_newreno f) → IsTrue f.recovery → f.recover ≡ Some recover → f.una < ack →
     LastsUntilRecover (acknowledged f ack now) recover ack
 
 -- where a number that was sent before is sent again, nothing is timed afterwards but a new segment, sent now (RFC 6298 section 3, Karn's algorithm)

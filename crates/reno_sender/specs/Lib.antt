@@ -1,6 +1,8 @@
 pub mod Fields
 pub mod Timer
 pub mod Sending
+pub mod CongestionControl
+pub mod LossRecovery
 pub mod Table
 pub mod PlanView
 pub mod AckRun

@@ -1,6 +1,8 @@
--- The retransmission timer (RFC 6298 sections 2 and 5).
-use Rattle.std.specs.Prelude.{◌+◌, ◌*◌, ◌/◌, ℕ, min, max, Option, Some, None}
+-- The retransmission timer (RFC 6298 sections 2 to 5).
+use Rattle.std.specs.Prelude.{◌+◌, ◌-◌, ◌*◌, ◌/◌, ℕ, min, max, nat_le, ◌==◌, if◌then◌else◌, Option, Some, None}
 use Rattle.std.specs.Int.{abs_diff}
+use Rattle.reno_sender.specs.declared.fields.SenderFields.{SenderFields}
+use Rattle.reno_sender.specs.declared.fields.Timing.{Timing}
 
 -- what a round-trip time leaves, in nanoseconds
 pub record Estimate : Type 0 where
@@ -23,3 +25,16 @@ sampled (Some srtt) rttvar r = estimate_of ((7 * srtt + r) / 8) ((3 * rttvar + a
 -- a timeout doubles the RTO (5.5), up to sixty seconds
 abbrev pub backed_off : ℕ → ℕ
 backed_off rto = min (2 * rto) 60000000000
+
+-- a sample replaces the estimates and ends the timing; a backed-off rto stays until then
+abbrev pub with_estimate : SenderFields → Estimate → SenderFields
+with_estimate f e = record f { timing = None; srtt = Some e.srtt; rttvar = e.rttvar; rto = e.rto }
+
+-- an acknowledgement at or past the timed number gives a sample (sections 2 and 3)
+abbrev pub measured_by : Option Timing → SenderFields → ℕ → ℕ → SenderFields
+measured_by None f ack now = f
+measured_by (Some t) f ack now = if nat_le t.number ack then with_estimate f (sampled f.srtt f.rttvar (now - t.sent_at)) else f
+
+-- the timer after a new acknowledgement: off where all is acknowledged, else from now on (sections 5.2 and 5.3)
+abbrev pub restarted : ℕ → ℕ → ℕ → Option ℕ
+restarted una nxt deadline = if una == nxt then None else Some deadline

@@ -1,5 +1,5 @@
 //! What every row of the sender's table keeps. Each function does nothing: its contract is the law.
-ghost use Rattle.reno_sender.specs.Laws.{AcknowledgementKeeps, AcknowledgementNeverTimesResent, FillIsAllAllowed, InitialIsSound, ReachableIsSound, RecoveryLasts, RtoStaysUntilSample, StartKeeps, StartNeverTimesResent, ThresholdAtFurtherTimeout, ThresholdAtRecovery, ThresholdAtTimeout, ThresholdStays, TimeoutDoublesRto, TimeoutKeeps, TimeoutNeverTimesResent};
+ghost use Rattle.reno_sender.specs.Laws.{AcknowledgementKeeps, AcknowledgementNeverTimesResent, FillIsAllAllowed, InitialIsSound, LossKeepsWindows, ProgressKeepsWindow, ReachableIsSound, RecoveryLasts, RtoStaysUntilSample, StartKeeps, StartNeverTimesResent, ThresholdAtFurtherTimeout, ThresholdAtRecovery, ThresholdAtTimeout, ThresholdStays, TimeoutDoublesRto, TimeoutKeeps, TimeoutNeverTimesResent};
 
 /// The facts on fields hold in every state that a flow reaches.
 pub fn reachable_is_sound()
@@ -13,6 +13,12 @@ pub fn rows_keep()
     ensures start { StartKeeps }
     ensures acknowledgement { AcknowledgementKeeps }
     ensures timeout { TimeoutKeeps }
+{}
+
+/// Whatever loss recovery says, congestion control leaves windows of one segment at least, within its limit.
+pub fn control_keeps_windows()
+    ensures progress { ProgressKeepsWindow }
+    ensures loss { LossKeepsWindows }
 {}
 
 /// What may be sent is sent, and nothing else (RFC 5681 section 3.1).

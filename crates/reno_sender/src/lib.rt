@@ -1,19 +1,16 @@
 //! The Reno and the NewReno sender.
 #![tactic(auto)]
 
-mod acknowledgement;
-pub mod duplicates;
+pub mod congestion_control;
 pub mod fields;
 mod fill;
 pub mod guarantees;
-mod partial;
+pub mod loss_recovery;
 pub mod plan;
 pub mod sender;
 mod sending;
 mod soundness;
-mod timeout;
 pub mod timer;
-pub mod window;
 
 pub use fields::{SenderFields, Timing};
 pub use plan::{AckRun, Plan};

@@ -2,7 +2,7 @@
 ghost use Rattle.std.specs.Prelude.{◌≡◌, Option};
 ghost use Rattle.reno_sender.specs.Fields.{IsSound};
 ghost use Rattle.reno_sender.specs.PlanView.{IsWellMade, planned_of, plan_view};
-ghost use Rattle.reno_sender.specs.Table.{nothing_sent};
+ghost use Rattle.reno_sender.specs.LossRecovery.{nothing_sent};
 
 use crate::fields::SenderFields;
 use std::marker::Model;

@@ -7,12 +7,12 @@ ghost use Rattle.reno_sender.specs.AckRun.{IsAckRun};
 ghost use Rattle.reno_sender.specs.PlanView.{planned_of, IsPlanOf, IsWellMade};
 ghost use Rattle.reno_sender.specs.Table.{initial_fields, started, acknowledged, timed_out};
 
-use crate::acknowledgement::{acknowledged, run_after, take_run};
 use crate::fields::SenderFields;
 use crate::fill::fill;
+use crate::loss_recovery::acknowledgement::{acknowledged, run_after, take_run};
+use crate::loss_recovery::timeout::timed_out;
 use crate::plan::{AckRun, Plan};
 use crate::soundness::is_sound;
-use crate::timeout::timed_out;
 use crate::timer::LEAST_RTO;
 use sim_time::{SenderSettings, Time, initial_window};
 use std::marker::Model;

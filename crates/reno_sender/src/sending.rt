@@ -1,6 +1,6 @@
 //! What sending does to a sender: `high`, the timed segment and the timer.
 ghost use Rattle.std.specs.Prelude.{◌⊎◌, IsTrue, false, Some, ◌≡◌, ◌≤◌, ◌<◌, ℕ, ◌+◌, ◌-◌, ◌*◌, [], ◌∷◌, ◌^◌, ◌&&◌, nat_lt, if◌then◌else◌};
-ghost use Rattle.reno_sender.specs.Fields.{IsSound, IsMultiple, total};
+ghost use Rattle.reno_sender.specs.Fields.{IsSound, IsMultiple, total, is_newreno};
 ghost use Rattle.sim_time.specs.Moment.{IsMoment};
 ghost use Rattle.reno_sender.specs.PlanView.{planned_of};
 ghost use Rattle.reno_sender.specs.Sending.{sending, spaced, timing_of, timing_after, deadline_after};
@@ -122,7 +122,7 @@ pub(crate) fn resend(fields: &SenderFields, nxt: u64) -> Plan
     requires back { nxt ≤ fields.now.nxt }
     requires whole { IsMultiple fields.now.mss nxt }
     requires lt_flight { fields.now.lt ≤ nxt - fields.now.una }
-    requires went_back { (nxt ≡ fields.now.nxt) ⊎ ((fields.now.recovery ≡ false) × (IsTrue fields.now.variant.newreno → fields.now.recover ≡ Some fields.now.high)) }
+    requires went_back { (nxt ≡ fields.now.nxt) ⊎ ((fields.now.recovery ≡ false) × (IsTrue (is_newreno fields.now) → fields.now.recover ≡ Some fields.now.high)) }
     ensures { (now : ℕ) → planned_of result ≡ sending fields.now (fields.now.una ∷ []) nxt now }
 {
     let una = fields.una;

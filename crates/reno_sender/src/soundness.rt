@@ -2,9 +2,10 @@
 ghost use Rattle.std.specs.Prelude.{◌≡◌, ◌≤◌, ◌<◌, ◌-◌, ◌*◌, ◌⊎◌, ◌↔◌, IsTrue, IsFalse, Some, None, IsSome, IfSome, IsSomeAnd};
 ghost use Rattle.reno_sender.specs.Fields.{IsSound, IsMultiple, IsTimedWithin, total, flight_size};
 
+use crate::congestion_control::MOST_CWND;
 use crate::fields::SenderFields;
+use crate::loss_recovery::is_newreno;
 use crate::timer::{GREATEST_RTO, LEAST_RTO};
-use crate::window::MOST_CWND;
 
 /// The latest time that a sender keeps, in nanoseconds.
 const LATEST: u64 = 2_000_000_000_000_000;
@@ -143,7 +144,7 @@ pub(crate) fn is_sound(fields: &SenderFields) -> bool
         && numbers_are_ordered(fields)
         && numbers_are_whole(fields)
         && windows_are_sound(fields)
-        && (if fields.variant.newreno {
+        && (if is_newreno(fields) {
             newreno_is_sound(fields)
         } else {
             reno_is_sound(fields)

@@ -3,8 +3,7 @@ ghost use Rattle.std.specs.Prelude.{◌≡◌, ◌≤◌, IfSome};
 ghost use Rattle.reno_sender.specs.Fields.{IsSound};
 ghost use Rattle.sim_time.specs.Moment.{IsMoment};
 ghost use Rattle.reno_sender.specs.Laws.{IsAckFor};
-ghost use Rattle.reno_sender.specs.Timer.{sampled};
-ghost use Rattle.reno_sender.specs.Table.{measured_by};
+ghost use Rattle.reno_sender.specs.Timer.{measured_by, sampled};
 
 use crate::fields::SenderFields;
 use sim_time::Time;

@@ -11,7 +11,8 @@ use Rattle.packet_chain.specs.declared.packet.Kind.{Kind}
 use Rattle.packet_chain.specs.declared.packet.Kind.TheVariants.{Data, Ack}
 use Rattle.reno_sender.specs.declared.fields.SenderFields.{SenderFields}
 use Rattle.reno_sender.specs.Sending.{Planned}
-use Rattle.reno_sender.specs.Table.{started, acknowledged, timed_out, may_send_new, partly}
+use Rattle.reno_sender.specs.LossRecovery.{may_send_new, partly}
+use Rattle.reno_sender.specs.Table.{started, acknowledged, timed_out}
 use Rattle.reno_sender.proofs.RowLaws.{by_rows}
 use Rattle.run_laws.proofs.Ports.{by_test}
 use Rattle.reno_receiver.specs.Received.{ReceiverState, next_of}

@@ -8,8 +8,9 @@ use Rattle.reno_sender.specs.declared.fields.Timing.{Timing}
 use Rattle.reno_sender.specs.Fields.{IsSound, total}
 use Rattle.reno_sender.specs.Laws.{IsAckFor}
 use Rattle.reno_sender.specs.Sending.{Planned, spaced, fill_count, allowed_end, deadline_after, filling}
-use Rattle.reno_sender.specs.Table.{started, acknowledged, timed_out, nothing_sent, may_send_new, partly, advanced, measured_by, inflated, one_more, enlarged, with_estimate}
-use Rattle.reno_sender.specs.Timer.{sampled}
+use Rattle.reno_sender.specs.LossRecovery.{nothing_sent, may_send_new, partly, advanced, inflated, one_more}
+use Rattle.reno_sender.specs.Table.{started, acknowledged, timed_out}
+use Rattle.reno_sender.specs.Timer.{sampled, measured_by, with_estimate}
 use Rattle.reno_sender.proofs.RowLaws.{by_rows}
 use Rattle.run_laws.proofs.Ports.{by_test}
 
@@ -64,8 +65,8 @@ ack_fits f ack now sound is_ack =
     (λ may. let parts = may_parts h (h.una + min h.cwnd h.rwnd) may in inr (let a = parts.0 in let b = parts.1 in omega (arith, a, b)))
     (λ _. inl (let a = measured.0 in omega (arith, a, below, most))))
     (inl refl)
-    (λ _. by_test (FitsNew f) (may_send_new f (f.una + min (enlarged f.cwnd f.mss) f.rwnd)) _ _
-    (λ may. let parts = may_parts f (f.una + min (enlarged f.cwnd f.mss) f.rwnd) may in inr (let a = parts.0 in let b = parts.1 in omega (arith, a, b)))
+    (λ _. by_test (FitsNew f) (may_send_new f (f.una + min (inflated f).cwnd f.rwnd)) _ _
+    (λ may. let parts = may_parts f (f.una + min (inflated f).cwnd f.rwnd) may in inr (let a = parts.0 in let b = parts.1 in omega (arith, a, b)))
     (λ _. inl refl))
     (λ _ _ _. inl (omega (arith, below)))
     (λ _ _. inl refl)
@@ -115,7 +116,7 @@ ack_ends f ack now =
     let is = stays_or_restarts f.partial now g.rto f.deadline in
     by_test (EndsAfter now f) (may_send_new h (h.una + min h.cwnd h.rwnd)) _ _ (λ _. after_sending h (h.una ∷ h.nxt ∷ []) now f.deadline is) (λ _. after_sending h (h.una ∷ []) now f.deadline is))
     keeps
-    (λ _. by_test (EndsAfter now f) (may_send_new f (f.una + min (enlarged f.cwnd f.mss) f.rwnd)) _ _ (λ _. after_sending (inflated f) (f.nxt ∷ []) now f.deadline (inr (inl refl))) (λ _. keeps))
+    (λ _. by_test (EndsAfter now f) (may_send_new f (f.una + min (inflated f).cwnd f.rwnd)) _ _ (λ _. after_sending (inflated f) (f.nxt ∷ []) now f.deadline (inr (inl refl))) (λ _. keeps))
     (λ _ _ _. after_sending (record f { dups = 3; recovery = true }) (f.una ∷ []) now f.deadline (inr (inl refl)))
     (λ _ _. keeps)
     (λ _ _. by_test (EndsAfter now f) (may_send_new f (f.una + min (f.cwnd + 2 * f.mss) f.rwnd)) _ _ (λ _. after_sending (record f { dups = one_more f.dups; lt = f.lt + f.mss }) (f.nxt ∷ []) now f.deadline (inr (inl refl))) (λ _. keeps))

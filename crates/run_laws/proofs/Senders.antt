@@ -14,7 +14,8 @@ use Rattle.reno_sender.specs.declared.fields.SenderFields.{SenderFields}
 use Rattle.reno_sender.specs.Fields.{IsSound, total}
 use Rattle.reno_sender.specs.Laws.{IsAckFor}
 use Rattle.reno_sender.specs.Sending.{Planned}
-use Rattle.reno_sender.specs.Table.{nothing_sent, started, acknowledged, timed_out}
+use Rattle.reno_sender.specs.LossRecovery.{nothing_sent}
+use Rattle.reno_sender.specs.Table.{started, acknowledged, timed_out}
 use Rattle.reno_sender.proofs.RowLaws.{start_never_times_resent, acknowledgement_never_times_resent, timeout_never_times_resent, timeout_doubles_rto, rto_stays_until_sample}
 use Rattle.node_core.specs.declared.event.Event.{Event}
 use Rattle.node_core.specs.declared.event.Event.TheVariants.{Start, Rto, DelAck, Free, Arrive}

@@ -8,7 +8,8 @@ use Rattle.scenario_image.specs.declared.parts.FlowPart.{FlowPart}
 use Rattle.reno_sender.specs.declared.fields.SenderFields.{SenderFields}
 use Rattle.reno_sender.specs.Fields.{total}
 use Rattle.reno_sender.specs.Sending.{Planned}
-use Rattle.reno_sender.specs.Table.{nothing_sent, started, acknowledged, timed_out}
+use Rattle.reno_sender.specs.LossRecovery.{nothing_sent}
+use Rattle.reno_sender.specs.Table.{started, acknowledged, timed_out}
 use Rattle.node_core.specs.declared.event.Event.{Event}
 use Rattle.node_core.specs.declared.event.Event.TheVariants.{Start, Rto, DelAck, Free, Arrive}
 use Rattle.node_core.specs.declared.role.Role.TheVariants.{Sends}

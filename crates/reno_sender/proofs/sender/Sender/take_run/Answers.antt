@@ -4,7 +4,7 @@ use Rattle.reno_sender.specs.AckRun.{IsAckRun}
 use Rattle.reno_sender.specs.Fields.{IsSound}
 use Rattle.reno_sender.specs.Laws.{IsAckFor}
 use Rattle.reno_sender.specs.Sending.{Planned}
-use Rattle.reno_sender.specs.Table.{new_acknowledgement}
+use Rattle.reno_sender.specs.LossRecovery.{new_acknowledgement}
 use Rattle.reno_sender.proofs.Advances.{new_acknowledgement_keeps}
 use Rattle.reno_sender.proofs.AckRuns.{is_new}
 use Rattle.reno_sender.proofs.sender.Sender.take_run.Goals as goal

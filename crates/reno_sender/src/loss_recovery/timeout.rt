@@ -7,12 +7,12 @@ ghost use Rattle.reno_sender.specs.PlanView.{planned_of};
 ghost use Rattle.reno_sender.specs.Table.{timed_out};
 ghost use Rattle.reno_sender.specs.Timer.{backed_off};
 
-use crate::duplicates::recover_at_loss;
+use super::recover_at_loss;
+use crate::congestion_control::{Loss, Lowered, lowered_at};
 use crate::fields::SenderFields;
 use crate::plan::Plan;
 use crate::sending::resend;
 use crate::timer::GREATEST_RTO;
-use crate::window::halved;
 use sim_time::Time;
 
 /// Twice the timeout, up to sixty seconds (RFC 6298 section 5.5).
@@ -32,14 +32,10 @@ pub(crate) fn timed_out(fields: &SenderFields, now: Time) -> Plan
     ensures { planned_of result ≡ timed_out fields.now now }
 {
     let rto = backed_off(fields.rto);
-    let ssthresh = if fields.resent {
-        fields.ssthresh
-    } else {
-        halved(fields.nxt - fields.una, fields.mss)
-    };
+    let Lowered { ssthresh, cwnd } = lowered_at(fields, Loss::ByTimer);
     let timed_out = SenderFields {
         ssthresh,
-        cwnd: fields.mss,
+        cwnd,
         rto,
         dups: 0,
         lt: 0,

@@ -1,6 +1,6 @@
 use Rattle.std.proofs.Common.{◌+◌, sym, ◌∙◌}
 use Rattle.reno_sender.proofs.Rows.{new_ends}
-use Rattle.reno_sender.proofs.duplicates.further_duplicate.Goals as goal
+use Rattle.reno_sender.proofs.loss_recovery.duplicates.further_duplicate.Goals as goal
 
 pub send_one-requires-clause-in_total : goal.send_one-requires-clause-in_total
 send_one-requires-clause-in_total c =

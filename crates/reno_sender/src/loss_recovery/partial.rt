@@ -4,26 +4,15 @@ ghost use Rattle.reno_sender.specs.Fields.{IsSound};
 ghost use Rattle.sim_time.specs.Moment.{IsMoment};
 ghost use Rattle.reno_sender.specs.Laws.{IsAckFor};
 ghost use Rattle.reno_sender.specs.PlanView.{planned_of};
-ghost use Rattle.reno_sender.specs.Table.{is_partial, partly, partial_acknowledgement};
+ghost use Rattle.reno_sender.specs.LossRecovery.{is_partial, partly, partial_acknowledgement};
 
-use crate::duplicates::may_send_new;
+use super::may_send_new;
+use crate::congestion_control::{Progress, window_at};
 use crate::fields::SenderFields;
 use crate::plan::Plan;
 use crate::sending::{resend, resend_and_send};
 use crate::timer::measure;
 use sim_time::Time;
-
-/// Whether a new acknowledgement leaves segments out that were sent before the loss was found.
-pub(crate) fn is_partial(fields: &SenderFields, ack: u64) -> bool
-    ensures { result ≡ is_partial fields.now ack }
-{
-    fields.variant.newreno
-        && fields.recovery
-        && match fields.recover {
-            Some(recover) => ack < recover,
-            None => false,
-        }
-}
 
 /// What a partial acknowledgement does before anything is sent.
 fn take_partly(fields: &mut SenderFields, ack: u64, now: Time)
@@ -33,9 +22,7 @@ fn take_partly(fields: &mut SenderFields, ack: u64, now: Time)
     requires new { fields.old.una < ack }
     ensures { fields.new ≡ partly fields.old ack now }
 {
-    let cwnd = (fields.cwnd + fields.mss)
-        .saturating_sub(ack - fields.una)
-        .max(fields.mss);
+    let cwnd = window_at(fields, Progress::PartialData(ack - fields.una));
     measure(fields, ack, now);
     fields.una = ack;
     fields.nxt = fields.nxt.max(ack);
@@ -50,7 +37,7 @@ fn take_partly(fields: &mut SenderFields, ack: u64, now: Time)
 
 /// A partial acknowledgement: one segment is sent again, and a new one where the windows allow it.
 #[inline(never)]
-pub(crate) fn partial_acknowledgement(fields: &SenderFields, ack: u64, now: Time) -> Plan
+pub(super) fn partial_acknowledgement(fields: &SenderFields, ack: u64, now: Time) -> Plan
     requires sound { IsSound fields.now }
     requires moment { IsMoment now }
     requires ack { IsAckFor fields.now ack now }

@@ -1,44 +1,22 @@
 //! Duplicate acknowledgements: limited transmit, fast retransmit and fast recovery (RFC 5681
-//! section 3.2), and when NewReno enters it (RFC 6582 section 3.2 step 2). Each row is a function of its own also
-//! in the program: else every acknowledgement would clear the places of all rows.
+//! section 3.2). Each row is a function of its own also in the program: else every acknowledgement would clear the
+//! places of all rows.
 ghost use Rattle.std.specs.Prelude.{◌≡◌, ◌≤◌, ◌<◌, ◌+◌, ◌^◌, Bool, true, false};
 ghost use Rattle.reno_sender.specs.Fields.{IsSound};
 ghost use Rattle.sim_time.specs.Moment.{IsMoment};
 ghost use Rattle.reno_sender.specs.PlanView.{planned_of};
-ghost use Rattle.reno_sender.specs.Table.{one_more, may_send_new, early_duplicate, enters, recover_at_loss, fast_retransmit, third_duplicate, repeated_duplicate, further_duplicate};
+ghost use Rattle.reno_sender.specs.LossRecovery.{early_duplicate, enters, fast_retransmit, third_duplicate, repeated_duplicate, further_duplicate};
 
+use super::{enters, may_send_new, one_more, recover_at_loss};
+use crate::congestion_control::{Loss, Lowered, Progress, lowered_at, window_at};
 use crate::fields::SenderFields;
 use crate::plan::Plan;
 use crate::sending::{resend, send_one};
-use crate::window::{enlarged, halved};
 use sim_time::Time;
-
-/// The count of duplicates stops here.
-pub const MOST_DUPLICATES: u64 = 4_294_967_295;
-
-fn one_more(dups: u64) -> u64
-    ensures { result ≡ one_more dups }
-{
-    if dups < MOST_DUPLICATES {
-        dups + 1
-    } else {
-        dups
-    }
-}
-
-/// Whether a segment that was never sent may be sent now and ends within `end`.
-pub(crate) fn may_send_new(fields: &SenderFields, end: u64) -> bool
-    requires { IsSound fields.now }
-    ensures { result ≡ may_send_new fields.now end }
-{
-    fields.nxt == fields.high
-        && fields.nxt < fields.segments * fields.mss
-        && fields.nxt + fields.mss <= end
-}
 
 /// The first and the second duplicate: limited transmit (RFC 5681 section 3.2 step 1, RFC 3042).
 #[inline(never)]
-pub(crate) fn early_duplicate(fields: &SenderFields, now: Time) -> Plan
+pub(super) fn early_duplicate(fields: &SenderFields, now: Time) -> Plan
     requires sound { IsSound fields.now }
     requires moment { IsMoment now }
     requires no_recovery { fields.now.recovery ≡ false }
@@ -59,32 +37,6 @@ pub(crate) fn early_duplicate(fields: &SenderFields, now: Time) -> Plan
     }
 }
 
-/// Whether the third duplicate tells of a loss: with NewReno only where all that was sent when the last
-/// one was found is acknowledged (RFC 6582 section 3.2 step 2).
-fn enters(fields: &SenderFields) -> bool
-    ensures { result ≡ enters fields.now }
-{
-    if fields.variant.newreno {
-        match fields.recover {
-            Some(recover) => fields.una > recover,
-            None => true,
-        }
-    } else {
-        true
-    }
-}
-
-/// What `recover` is once a loss is found (RFC 6582 section 3.2 steps 2 and 4).
-pub(crate) fn recover_at_loss(fields: &SenderFields) -> Option<u64>
-    ensures { result ≡ recover_at_loss fields.now }
-{
-    if fields.variant.newreno {
-        Some(fields.high)
-    } else {
-        fields.recover
-    }
-}
-
 /// Fast retransmit, the beginning of fast recovery (RFC 5681 section 3.2 steps 2 and 3).
 fn fast_retransmit(fields: &SenderFields, now: Time) -> Plan
     requires sound { IsSound fields.now }
@@ -93,11 +45,11 @@ fn fast_retransmit(fields: &SenderFields, now: Time) -> Plan
     requires enters { enters fields.now ≡ true }
     ensures { planned_of result ≡ fast_retransmit fields.now now }
 {
-    let threshold = halved(fields.nxt - fields.una - fields.lt, fields.mss);
+    let Lowered { ssthresh, cwnd } = lowered_at(fields, Loss::ByDuplicates);
     let retransmitting = SenderFields {
         dups: 3,
-        ssthresh: threshold,
-        cwnd: threshold + 3 * fields.mss,
+        ssthresh,
+        cwnd,
         recovery: true,
         recover: recover_at_loss(fields),
         partial: false,
@@ -108,7 +60,7 @@ fn fast_retransmit(fields: &SenderFields, now: Time) -> Plan
 
 /// The third duplicate.
 #[inline(never)]
-pub(crate) fn third_duplicate(fields: &SenderFields, now: Time) -> Plan
+pub(super) fn third_duplicate(fields: &SenderFields, now: Time) -> Plan
     requires sound { IsSound fields.now }
     requires moment { IsMoment now }
     requires outstanding { fields.now.una < fields.now.nxt }
@@ -124,7 +76,7 @@ pub(crate) fn third_duplicate(fields: &SenderFields, now: Time) -> Plan
 
 /// A further duplicate where the third told of no loss.
 #[inline(never)]
-pub(crate) fn repeated_duplicate(fields: &SenderFields) -> Plan
+pub(super) fn repeated_duplicate(fields: &SenderFields) -> Plan
     requires sound { IsSound fields.now }
     requires no_recovery { fields.now.recovery ≡ false }
     requires many { 3 ≤ fields.now.dups }
@@ -139,13 +91,13 @@ pub(crate) fn repeated_duplicate(fields: &SenderFields) -> Plan
 
 /// A further duplicate, in fast recovery (RFC 5681 section 3.2 steps 4 and 5).
 #[inline(never)]
-pub(crate) fn further_duplicate(fields: &SenderFields, now: Time) -> Plan
+pub(super) fn further_duplicate(fields: &SenderFields, now: Time) -> Plan
     requires sound { IsSound fields.now }
     requires moment { IsMoment now }
     requires in_recovery { fields.now.recovery ≡ true }
     ensures { planned_of result ≡ further_duplicate fields.now now }
 {
-    let cwnd = enlarged(fields.cwnd, fields.mss);
+    let cwnd = window_at(fields, Progress::FurtherDuplicate);
     let sends = may_send_new(fields, fields.una + cwnd.min(fields.rwnd));
     let inflated = SenderFields {
         dups: one_more(fields.dups),

@@ -5,17 +5,32 @@ ghost use Rattle.sim_time.specs.Moment.{IsMoment};
 ghost use Rattle.reno_sender.specs.Laws.{IsAckFor};
 ghost use Rattle.reno_sender.specs.AckRun.{IsAckRun};
 ghost use Rattle.reno_sender.specs.PlanView.{planned_of};
-ghost use Rattle.reno_sender.specs.Table.{advanced, restarted, new_acknowledgement, acknowledged};
+ghost use Rattle.reno_sender.specs.LossRecovery.{advanced, new_acknowledgement, window_after};
+ghost use Rattle.reno_sender.specs.Table.{acknowledged};
 
-use crate::duplicates::{early_duplicate, further_duplicate, repeated_duplicate, third_duplicate};
+use super::duplicates::{early_duplicate, further_duplicate, repeated_duplicate, third_duplicate};
+use super::is_partial;
+use super::partial::partial_acknowledgement;
+use crate::congestion_control::{Progress, window_at};
 use crate::fields::SenderFields;
 use crate::fill::fill;
-use crate::partial::{is_partial, partial_acknowledgement};
 use crate::plan::{AckRun, Plan};
 use crate::sending::send_run;
 use crate::timer::measure;
-use crate::window::window_after;
 use sim_time::Time;
+
+/// The congestion window after a new acknowledgement of so many bytes, which ends recovery.
+#[inline(always)]
+fn window_after(fields: &SenderFields, bytes: u64) -> u64
+    requires { IsSound fields.now }
+    ensures { result ≡ window_after fields.now bytes }
+{
+    if fields.recovery {
+        window_at(fields, Progress::RecoveryEnd)
+    } else {
+        window_at(fields, Progress::NewData(bytes))
+    }
+}
 
 /// What a new acknowledgement does before anything is sent.
 #[inline(always)]

@@ -2,7 +2,7 @@ use Rattle.std.proofs.Common.{◌+◌, sym, ◌∙◌}
 use Rattle.reno_sender.specs.Fields.{IsSound}
 use Rattle.reno_sender.proofs.Rows.{new_ends}
 use Rattle.reno_sender.proofs.Advances.{partly_keeps, partly_out}
-use Rattle.reno_sender.proofs.partial.partial_acknowledgement.Goals as goal
+use Rattle.reno_sender.proofs.loss_recovery.partial.partial_acknowledgement.Goals as goal
 
 pub may_send_new-requires : goal.may_send_new-requires
 may_send_new-requires c =

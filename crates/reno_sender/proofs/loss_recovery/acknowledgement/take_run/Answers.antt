@@ -1,10 +1,10 @@
 use Rattle.std.proofs.Common.{ℕ, ◌+◌, ◌*◌, ◌≤◌, subst}
 use Rattle.reno_sender.specs.Fields.{total}
-use Rattle.reno_sender.specs.Table.{advanced}
+use Rattle.reno_sender.specs.LossRecovery.{advanced}
 use Rattle.reno_sender.proofs.Advances.{advanced_keeps}
 use Rattle.reno_sender.proofs.AckRuns.{count_is}
 use Rattle.reno_sender.proofs.Rows.{fill_in_total}
-use Rattle.reno_sender.proofs.acknowledgement.take_run.Goals as goal
+use Rattle.reno_sender.proofs.loss_recovery.acknowledgement.take_run.Goals as goal
 
 pub send_run-requires-clause-in_total : goal.send_run-requires-clause-in_total
 send_run-requires-clause-in_total c =

@@ -1,5 +1,5 @@
 use Rattle.reno_sender.proofs.Multiples.{multiple_next, multiple_below}
-use Rattle.reno_sender.proofs.timeout.timed_out.Goals as goal
+use Rattle.reno_sender.proofs.loss_recovery.timeout.timed_out.Goals as goal
 
 pub resend-requires-clause-back : goal.resend-requires-clause-back
 resend-requires-clause-back c =

@@ -1,5 +1,5 @@
 use Rattle.reno_sender.proofs.Advances.{advanced_keeps}
-use Rattle.reno_sender.proofs.acknowledgement.new_acknowledgement.Goals as goal
+use Rattle.reno_sender.proofs.loss_recovery.acknowledgement.new_acknowledgement.Goals as goal
 
 pub fill-requires-clause-sound : goal.fill-requires-clause-sound
 fill-requires-clause-sound c =
