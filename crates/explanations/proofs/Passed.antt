@@ -15,11 +15,6 @@ pub record Walk (parts : ScenarioParts) (path : Path) (hops from : ℕ) (passed 
   pub count : length passed ≡ hops
   pub nodes : ArePassed parts path passed
 
--- before the first hop
-pub walk_none : (parts : ScenarioParts) (path : Path) (passed : List ℕ) → passed ≡ [] → Walk parts path 0 path.start passed
-walk_none parts path passed none =
-    record { at_from = refl; count = ap length none; nodes = λ hops node found. absurd (let P : List ℕ → Type 0 = λ l. slice_get l hops ≡ Some node in let there : slice_get [] hops ≡ Some node = subst P none found in cc) }
-
 -- a node at the end of a list
 last_or_before : {X : Type 0} (xs : List X) (x y : X) (k : ℕ) → slice_get (xs ++ x ∷ []) k ≡ Some y → (slice_get xs k ≡ Some y) ⊎ ((k ≡ length xs) × (x ≡ y))
 last_or_before [] x y zero found = inr (refl, same_Some x y found)

@@ -80,13 +80,8 @@ all_distinct (lines ∷ lists) are = go lines (are.rising 0) (λ k has i. elsewh
 pub length_in_order : (lists : List (List TraceLine)) → AreApart lists → length (in_order (all_of lists)) ≡ length (all_of lists)
 length_in_order lists are = count_in_order (all_of lists) (all_distinct lists are)
 
-pub none_apart : AreApart []
-none_apart = record { rising = λ i. tt; apart = λ i j k a b. absurd (a refl) }
-
 pub counted : (s : Inside) → IsSheaf s → (v : SheafValue) → sheaf_of s ≡ v → s.count ≡ length (merged v).lines
 counted s is v view = is.count ∙ sym (length_in_order s.lists.items is.apart) ∙ ap (λ (x : SheafValue). length (merged x).lines) view
-
--- ONE LINE MORE
 
 dropped : (n : ℕ) (xs : List TraceLine) (y : TraceLine) (ys : List TraceLine) → drop n xs ≡ y ∷ ys → (drop (suc n) xs ≡ ys) × (line_in xs n ≡ y)
 dropped zero [] y ys e = absurd (cc)

@@ -63,13 +63,6 @@ module _ {S : Type 0} (nodes : S → List NodeState) (put : S → ℕ → NodeSt
   happened new goes = record { is_least = has.is_least; reported = λ i. record { key = line.key; event = line.event; after = has.shows i; acts = has.did i }; goes = goes }
 
   -- nothing left it
-  module _ (none : None ≡ option_map (λ (l : Leaving). l.index) eff.leaving) where
-    pub quiet_happened : HasHappened nodes put takes old mid place line
-    quiet_happened = happened mid (subst (λ o. GoneOn takes eff o (put old place (node_after (nodes old) place line.key line.event)) mid) (sym (none_left eff.leaving none)) mid_is)
-
-    pub quiet_empty : after ≡ replicate 16 []
-    quiet_empty = has.out ∙ ap (λ o. put_out o out) (none_left eff.leaving none) ∙ empty
-
   -- a packet left it
   module _ (index : ℕ) (index_is : Some index ≡ option_map (λ (l : Leaving). l.index) eff.leaving) where
     abbrev it : Left eff.leaving index

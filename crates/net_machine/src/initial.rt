@@ -6,11 +6,9 @@ ghost use Rattle.net_machine.specs.Wiring.{AreEnds};
 
 use crate::places::{EndPlace, LinkEnds};
 use node_core::Node;
+use scenario_image::limits::MOST_NODES;
 use scenario_image::{LinkPart, Scenario};
 use std::alloc::{AllocError, Global};
-
-/// The most nodes of a scenario.
-const MOST_NODES: usize = 256;
 
 /// The nodes of a scenario, each at its number, before anything is sent.
 pub(crate) fn nodes_of(alloc: Global, scenario: &Scenario) -> Result<Vec<Node>, AllocError>

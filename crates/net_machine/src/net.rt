@@ -19,12 +19,10 @@ use crate::region::run_event;
 use node_core::{After, Event, Line, Node, Outbox};
 use port::Acts;
 use scenario_image::Scenario;
+use scenario_image::limits::MOST_ROUTER_LINKS;
 use sim_time::{Key, Time};
 use std::alloc::{AllocError, Global};
 use std::marker::Model;
-
-/// The most outgoing links of a node.
-const MOST_LINKS: usize = 16;
 
 /// The most events of a run.
 pub const MOST_EVENTS: u64 = 1_000_000_000_000_000;
@@ -122,7 +120,7 @@ impl Net {
             ends: copied(&self.ends)?,
             end: self.end,
             position: self.position,
-            out: Outbox::new(self.alloc, MOST_LINKS)?,
+            out: Outbox::new(self.alloc, MOST_ROUTER_LINKS)?,
             alloc: self.alloc,
         })
     }

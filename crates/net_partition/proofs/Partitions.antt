@@ -1,9 +1,9 @@
 -- Which lists of entries are partitions, and the greatest of a list.
-use Rattle.std.proofs.Common.{◌≡◌, ◌≤◌, ◌<◌, ◌%◌, ℕ, zero, suc, true, ◌&&◌, nat_lt, nat_le, List, [], ◌∷◌, take, length, replicate, All, Contains, get_or, set, nat_eq, false, refl, sym, subst, ⊎_elim, ◌+◌, map, ap, ap₂, ◌∙◌, arith, lt-ltb, le-leb, length-append, ltb-true, leb-true}
-use Rattle.std.specs.List.{list_all, AllByRecursion, AllWithin}
-use Rattle.std.proofs.lemmas.Bool.{and_parts, cases_lt, eqb-false}
-use Rattle.std.proofs.lemmas.List.{length-replicate, length-set, length-take, get_or-set_other, get_or-set_same}
-use Rattle.std.proofs.lemmas.List.Elements.{All-set, All-take, Contains-get_or, recursion_from_All}
+use Rattle.std.proofs.Common.{◌≡◌, ◌≤◌, ◌<◌, ◌%◌, ℕ, zero, suc, true, ◌&&◌, nat_lt, nat_le, List, [], ◌∷◌, take, length, replicate, All, Contains, get_or, refl, sym, ⊎_elim, map, ap, ap₂, ◌∙◌, arith, lt-ltb, le-leb, length-append, ltb-true, leb-true}
+use Rattle.std.specs.List.{list_all, AllByRecursion}
+use Rattle.std.proofs.lemmas.Bool.{and_parts, cases_lt}
+use Rattle.std.proofs.lemmas.List.{length-replicate, length-take}
+use Rattle.std.proofs.lemmas.List.Elements.{All-take, Contains-get_or, recursion_from_All}
 use Rattle.std.proofs.lemmas.List.Folds.{list_all-append}
 use Rattle.net_partition.specs.Partition.{is_partition, group_in, greatest_number, groups_of, alone}
 
@@ -32,9 +32,8 @@ alone_is n least most = let l = length-alone n in within (alone n) (omega (arith
 
 -- each entry is at most the greatest, and so is what stands past the last
 pub upto_greatest : (entries : List ℕ) (node : ℕ) → group_in entries node ≤ greatest_number entries
-upto_greatest [] node = omega arith
-upto_greatest (x ∷ xs) zero = omega arith
 upto_greatest (x ∷ xs) (suc node) = let rest = upto_greatest xs node in omega (arith, rest)
+upto_greatest _ _ = omega arith
 
 greatest_below : (entries : List ℕ) → list_all (λ group. nat_lt group 64) entries ≡ true → greatest_number entries < 64
 greatest_below [] all = omega arith
@@ -92,44 +91,6 @@ pub record AreNumbered (entries numbers : List ℕ) (count upto : ℕ) : Type 0 
   pub few : count ≤ upto
   pub counted : (g : ℕ) → g < upto → Contains entries g → get_or numbers g 0 < count
   pub rising : (g h : ℕ) → g < h → h < upto → Contains entries g → get_or numbers g 0 < get_or numbers h 0
-
--- the next group has the count, which then is one more where that has a node
-pub numbered_more : (entries numbers : List ℕ) (count more upto : ℕ) → upto < 64 → AreNumbered entries numbers count upto → count ≤ more → more ≤ count + 1 → (Contains entries upto → count < more)
-    → AreNumbered entries (set numbers upto count) more (upto + 1)
-numbered_more entries numbers count more upto under are least most node =
-    let few = are.few in
-    let size = are.size in
-    let inside : upto < length numbers = omega (arith, size, under) in
-    record {
-      size = length-set numbers upto count ∙ size;
-      below = All-set (λ (number : ℕ). number < 64) numbers upto count (omega (arith, few, under)) are.below;
-      few = omega (arith, few, most);
-      counted = λ g before has. ⊎_elim
-          (λ (l : g < upto). let was = are.counted g l has in let e = get_or-set_other numbers upto g count 0 (λ z. absurd (omega (arith, z, l))) in omega (arith, e, was, least))
-          (λ (past : upto ≤ g).
-          let last : g ≡ upto = omega (arith, past, before) in
-          let e = get_or-set_same numbers upto count 0 inside in
-          let grown = node (subst (Contains entries) last has) in
-          subst (λ n. get_or (set numbers upto count) n 0 < more) (sym last) (omega (arith, e, grown)))
-          (cases_lt g upto);
-      rising = λ g h less before has. ⊎_elim
-          (λ (l : h < upto).
-          let was = are.rising g h less l has in
-          let a = get_or-set_other numbers upto g count 0 (λ z. absurd (omega (arith, z, l, less))) in
-          let b = get_or-set_other numbers upto h count 0 (λ z. absurd (omega (arith, z, l))) in
-          omega (arith, was, a, b))
-          (λ (past : upto ≤ h).
-          let last : h ≡ upto = omega (arith, past, before) in
-          let was = are.counted g (omega (arith, less, before)) has in
-          let a = get_or-set_other numbers upto g count 0 (λ z. absurd (omega (arith, z, less, before))) in
-          let b = get_or-set_same numbers upto count 0 inside in
-          subst (λ n. get_or (set numbers upto count) g 0 < get_or (set numbers upto count) n 0) (sym last) (omega (arith, was, a, b)))
-          (cases_lt h upto);
-    }
-
--- what no element is, the list doesn't have
-pub not_there : (xs : List ℕ) (x : ℕ) → AllWithin (λ y. nat_eq y x ≡ false) xs 0 (length xs) → Contains xs x → ⊥
-not_there xs x none has = eqb-false (get_or xs has.0 x) x (none has.0 x (omega arith) has.1) has.2
 
 each_below : (entries : List ℕ) (node : ℕ) → list_all (λ group. nat_lt group 64) entries ≡ true → node < length entries → get_or entries node 0 < 64
 each_below [] node all under = absurd (omega (arith, under))

@@ -103,10 +103,6 @@ route_decides table links key packet room index exit within enough = record {
   can = record { arrives = (packet, refl); within = within; room_for = enough };
 }
 
--- a router has none
-pub no_route_decides : (table : List FlowExits) (links : List LinkState) (key : Key) (packet : Packet) (room : ℕ) → exit_for table packet ≡ None → IsDecided (Routes table) (Routes table) links key (Arrive packet) room Leave
-no_route_decides table links key packet room none = record { row_is = ap (passed_on (part (Routes table) links) key packet) none; suits = (refl, tt); can = tt }
-
 -- it goes on by the link of its route
 pub through_decides : (role : Role) (links : List LinkState) (key : Key) (event : Event) (room index : ℕ) → IsRouted role event index → CanHandle (part role links) key.time event → 1 ≤ room → IsDecided role role links key event room (PassOn index)
 through_decides role links key event room index routed runs enough =

@@ -4,18 +4,16 @@ use Rattle.std.specs.Prelude.{All, IsSome}
 use Rattle.std.specs.Option.{option_map}
 use Rattle.std.proofs.lemmas.List.{length-map}
 use Rattle.sim_time.specs.declared.key.Key.{Key}
-use Rattle.packet_chain.specs.declared.packet.Packet.{Packet}
 use Rattle.packet_chain.specs.Stamped.{Stamped}
 use Rattle.tournament.specs.Keyed.{least}
 use Rattle.node_core.specs.declared.event.Event.{Event}
 use Rattle.node_core.specs.declared.event.Event.TheVariants.{Start, Rto, DelAck, Free, Arrive}
 use Rattle.node_core.specs.declared.role.Role.{Role}
-use Rattle.node_core.specs.declared.role.Role.TheVariants.{Sends, Receives, Routes}
 use Rattle.node_core.specs.EventQueueState.{EventQueueState, IsDue, IsDueAs}
 use Rattle.node_core.specs.CarriedOut.{IsNextEvent}
 use Rattle.node_core.specs.InStep.{IsInStep, rto_deadline, delayed_of, frees_of}
-use Rattle.node_core.specs.Part.{LinkState, PartState}
-use Rattle.node_core.specs.Ready.{IsRunnable, EndTakes, IsOfLink, IsSetBy, CanTakePacket}
+use Rattle.node_core.specs.Part.{LinkState}
+use Rattle.node_core.specs.Ready.{IsRunnable, IsOfLink, IsSetBy}
 use Rattle.node_core.specs.Running.{part}
 
 pub is_next : (role : Role) (links : List LinkState) (event_queue : EventQueueState) (chains : List (List Stamped)) (key : Key) (event : Event) → IsInStep role links event_queue → IsDue event_queue key event → IsRunnable (part role links) key event
@@ -52,8 +50,3 @@ of_link role links event_queue key (Rto flow) is due = tt
 of_link role links event_queue key (DelAck flow) is due = tt
 of_link role links event_queue key (Free link) is due = (due.0, omega (arith, due.1.within, ap length is.timers, length-map links (λ (l : LinkState). l.port.next_free)))
 of_link role links event_queue key (Arrive packet) is due = tt
-
-pub end_takes : (role : Role) (p : PartState) (now : ℕ) (x : Packet) → CanTakePacket p role now x → EndTakes role now x
-end_takes (Sends flow fields) p now x takes = takes
-end_takes (Receives flow state) p now x takes = takes
-end_takes (Routes table) p now x takes = tt

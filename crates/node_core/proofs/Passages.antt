@@ -1,6 +1,5 @@
 -- What passing a link does to the event queue.
 use Rattle.std.proofs.Common.{◌≡◌, ℕ, ◌+◌, ◌-◌, ◌==◌, Bool, true, false, cond, List, [], ◌∷◌, ◌++◌, get_or, set, Option, Some, None, refl, sym, ap, ◌∙◌, arith}
-use Rattle.std.specs.Prelude.{is_some}
 use Rattle.std.specs.Option.{option_map, option_or}
 use Rattle.std.proofs.lemmas.Bool.{ne_eqb}
 use Rattle.std.proofs.lemmas.List.{set-get_or}
@@ -59,10 +58,6 @@ all_link now port (packet ∷ packets) = all_link now (offered_one now port pack
 pub taken_link : (now : ℕ) (port : PortState) → (taken now port).port.link ≡ port.link
 taken_link now port = (taken_counts now port).link
 
-pub some_free : (d : Option Departure) → is_some (free_of d) ≡ is_some d
-some_free None = refl
-some_free (Some d) = refl
-
 -- a link that stays as long busy leaves the event queue as it was
 pub passed_busy : (event_queue : EventQueueState) (index : ℕ) (step : PortStep) → get_or event_queue.timers (3 + index) None ≡ step.port.next_free → step.departure ≡ None → event_queue ≡ passed event_queue index step
 passed_busy event_queue index step timer none =
@@ -91,11 +86,3 @@ passed_idle event_queue index step timer exit free time is =
     (ap (λ old. apply (timer_cleared (numbered_key event_queue.owner.node (3 + index)) old ++ timer_set (numbered_key event_queue.owner.node (3 + index)) (timer_event event_queue.owner (3 + index)) time) event_queue.pending) timer
     ∙ ap (λ t. apply (timer_set (numbered_key event_queue.owner.node (3 + index)) (timer_event event_queue.owner (3 + index)) t) event_queue.pending) (is ∙ free)
     ∙ ap (λ (cs : List EventChange). apply cs event_queue.pending) (set_is_busied event_queue.owner index step.port.link step.departure exit))
-
-pub none_busy : (o : Option ℕ) → is_some o ≡ false → o ≡ None
-none_busy None e = refl
-none_busy (Some t) e = absurd (cc)
-
-pub some_busy : (o : Option ℕ) → is_some o ≡ true → (t : ℕ) × (o ≡ Some t)
-some_busy None e = absurd (cc)
-some_busy (Some t) e = (t, refl)

@@ -53,6 +53,3 @@ module _ (seats : Seats) (place : ℕ) (within : place < length seats) where
 
       pub placed_come : IsPlaced (set (seated seats) place x)
       placed_come = come_placed (seated seats) placed place inside index packets x come_here
-
-      pub seated_come : seated (set seats place (Some x)) ≡ set (seated seats) place (delivered (node_at (seated seats) place) index packets)
-      seated_come = seated_set seats place x ∙ ap (set (seated seats) place) come_here

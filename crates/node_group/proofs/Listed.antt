@@ -7,9 +7,7 @@ use Rattle.std.proofs.lemmas.List.Sums.{sum_by-set}
 use Rattle.std.specs.List.{Contains, count_by}
 use Rattle.packet_chain.specs.Stamped.{Stamped}
 use Rattle.node_core.specs.WireState.{WireState}
-use Rattle.node_group.specs.Held.{no_wire, wire_at, is_idle, AreByLink, AreListed, WiresAreEmpty}
-
--- ANOTHER WIRE FOR A LINK
+use Rattle.node_group.specs.Held.{no_wire, wire_at, is_idle, AreByLink, AreListed}
 
 module _ (wires : List WireState) (link : ℕ) (within : link < length wires) (new : WireState) (number : new.link ≡ (wire_at wires link).link) where
   abbrev back : List WireState
@@ -85,8 +83,6 @@ module _ (wires : List WireState) (link : ℕ) (within : link < length wires) (n
 pub listed_as : (wires back : List WireState) (links others : List ℕ) (room roomy : ℕ) → back ≡ wires → others ≡ links → roomy ≡ room → AreListed wires links room → AreListed back others roomy
 listed_as wires back links others room roomy same list size is = subst (λ n. AreListed back others n) (sym size) (subst (λ ls. AreListed back ls room) (sym list) (subst (λ ws. AreListed ws links room) (sym same) is))
 
--- THE LAST OF THE LIST
-
 module _ (wires : List WireState) (links : List ℕ) (link room : ℕ) (is : AreListed wires (links ++ link ∷ []) room) where
   pub last_known : link < length wires
   last_known = subst (λ l. l < length wires) (get_or_push links link 0 (length links) refl) (is.known (length links) 0 (let longer = length-append links (link ∷ []) in omega (arith, longer)))
@@ -94,16 +90,6 @@ module _ (wires : List WireState) (links : List ℕ) (link room : ℕ) (is : Are
   -- nothing is under way over it
   pub listed_without : is_idle (wire_at wires link) ≡ true → AreListed wires links room
   listed_without idle = subst (λ ws. AreListed ws links room) (set-get_or wires link no_wire) (listed_less wires link last_known (wire_at wires link) refl links room idle is)
-
--- NO LINK
-
-pub none_listed : (wires : List WireState) (links : List ℕ) (room : ℕ) → links ≡ [] → AreListed wires links room → WiresAreEmpty wires
-none_listed wires links room empty is link under = ⊎_elim
-    (λ (idle : is_idle (wire_at wires link) ≡ true). idle)
-    (λ (busy : is_idle (wire_at wires link) ≡ false). let there = subst (λ ls. Contains ls link) empty (is.listed link under busy) in let below = there.1 in absurd (omega (arith, below)))
-    (cases_Bool (is_idle (wire_at wires link)))
-
--- PACKETS ARE HELD BACK
 
 idle_with : (w : WireState) (sent : List Stamped) (b : Bool) → ((length w.under_way + length sent) == 0) ≡ b → is_idle (record w { under_way = w.under_way ++ sent }) ≡ b
 idle_with w sent b e = ap (λ n. n == 0) (length-append w.under_way sent) ∙ e

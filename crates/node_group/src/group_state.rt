@@ -22,6 +22,7 @@ use crate::area::Area;
 use crate::exits::Exits;
 use crate::group::GroupFault;
 use crate::nodes_by_number::{NodesByNumber, NodesByNumberParts};
+use net_machine::net::MOST_EVENTS;
 use net_machine::{LinkEnds, Region, run_event};
 use net_partition::Partition;
 use node_core::{Line, Node, Outbox};
@@ -30,9 +31,6 @@ use sim_time::Time;
 use std::alloc::{AllocError, Global};
 use std::marker::Model;
 use std::snapshot::Snapshot;
-
-/// The most events of a run.
-const MOST_EVENTS: u64 = 1_000_000_000_000_000;
 
 /// A group's nodes, its outgoing messages, and its lines.
 #[derive(Drop)]

@@ -14,11 +14,9 @@ use crate::nodes_by_number::NodesByNumberParts;
 use net_machine::LinkEnds;
 use net_partition::Partition;
 use node_core::{Node, Outbox};
+use scenario_image::limits::MOST_ROUTER_LINKS;
 use sim_time::Time;
 use std::alloc::{AllocError, Global};
-
-/// The most outgoing links of a node.
-const MOST_LINKS: usize = 16;
 
 // How many packets an outgoing link of a node has sent; none where there is no such link.
 fn sent_by(node: &Node, index: usize) -> u64
@@ -92,7 +90,7 @@ fn room_of(
         links: copied(links)?,
         nodes_by_number: NodesByNumberParts::new(alloc, partition, number)?,
         exits: idle_exits(alloc, nodes, links, sent)?,
-        out: Outbox::new(alloc, MOST_LINKS)?,
+        out: Outbox::new(alloc, MOST_ROUTER_LINKS)?,
     })
 }
 

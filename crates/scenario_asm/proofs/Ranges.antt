@@ -27,9 +27,6 @@ pub record Passed (line : List ℕ) (number start before : ℕ) (rest : List (Li
   pub words : before ≡ length (filter is_word passed)
   pub few : before ≤ number
 
-pub passed_none : (line : List ℕ) (number : ℕ) (rest : List (List ℕ)) → rest ≡ pieces 32 (without_comment line) → Passed line number 0 0 rest
-passed_none line number rest is = record { passed = []; all = is; begins = omega arith; words = refl; few = omega arith }
-
 -- a first piece, the space after it and any bytes
 pieces_again : (bs zs : List ℕ) → pieces 32 (before_first is_space bs ++ 32 ∷ zs) ≡ before_first is_space bs ∷ pieces 32 zs
 pieces_again [] zs = refl

@@ -1,5 +1,5 @@
 -- The first twelve words of a line say what all its words say.
-use Rattle.std.proofs.Common.{◌≡◌, ◌<◌, ◌≤◌, ℕ, suc, ◌==◌, ◌||◌, Bool, true, false, if◌then◌else◌, nat_le, List, [], ◌∷◌, ◌++◌, length, take, Some, None, Ok, Err, inl, inr, refl, ap, sym, ◌∙◌, arith}
+use Rattle.std.proofs.Common.{◌≡◌, ◌<◌, ◌≤◌, ℕ, suc, ◌==◌, ◌||◌, Bool, true, false, if◌then◌else◌, nat_le, List, [], ◌∷◌, ◌++◌, length, take, Some, None, Err, inl, inr, refl, ap, sym, ◌∙◌, arith}
 use Rattle.std.specs.Prelude.{codes}
 use Rattle.std.specs.List.{list_all}
 use Rattle.std.specs.Str.{bytes_eq}
@@ -132,9 +132,3 @@ unfolding line_word
 line_word_is known line words first clean some =
     let none : (length (words_of line) == 0) ≡ false = sym (none_left (words_of line)) ∙ (ap (λ l. length l == 0) (sym first) ∙ some) in
     simp (clean, none) (sym (ap (λ l. statement_word known l) first ∙ first_words_word known (words_of line)))
-
-pub line_nothing : (known : Known) (line : List ℕ) (words : List Word) → words ≡ take 12 (words_of line) → list_all is_printable line ≡ true → (length words == 0) ≡ true → line_at known line ≡ Ok None
-unfolding line_at
-line_nothing known line words first clean none =
-    let nothing : (length (words_of line) == 0) ≡ true = sym (none_left (words_of line)) ∙ (ap (λ l. length l == 0) (sym first) ∙ none) in
-    simp (clean, nothing)

@@ -52,9 +52,6 @@ node_next bytes front byte rest kind is so_far =
 pub no_node : (bytes : List ℕ) (front : List NodeKind) (byte : ℕ) (rest : List ℕ) → node_of_byte byte ≡ None → AreNodesSoFar bytes front (byte ∷ rest) → nodes_at bytes ≡ None
 no_node bytes front byte rest is so_far = sym so_far ∙ ap (λ node. nodes_before front (option_and_then (λ kind. option_map (λ kinds. kind ∷ kinds) (nodes_at rest)) node)) is
 
-pub nodes_done : (bytes : List ℕ) (front : List NodeKind) → AreNodesSoFar bytes front [] → nodes_at bytes ≡ Some front
-nodes_done bytes front so_far = sym so_far ∙ ap Some (append-nil front)
-
 -- the same by the place of the byte
 pub nodes_step : (bytes : List ℕ) (front : List NodeKind) (i : ℕ) (kind : NodeKind) → i < length bytes → node_of_byte (get_or bytes i 0) ≡ Some kind → AreNodesSoFar bytes front (drop i bytes) → AreNodesSoFar bytes (front ++ kind ∷ []) (drop (i + 1) bytes)
 nodes_step bytes front i kind below is so_far = rw add-one (node_next bytes front (get_or bytes i 0) (drop (suc i) bytes) kind is (subst (λ rest. AreNodesSoFar bytes front rest) (drop-cons bytes i 0 below) so_far))
@@ -137,10 +134,6 @@ flow_next version count bytes done front rest flow below is so_far = record {
 pub no_flow : (version : Version) (count : ℕ) (bytes : List ℕ) (done : ℕ) (front : List FlowPart) (rest : List ℕ) → done < count → flow_at version rest ≡ None → AreFlowsSoFar version count bytes done front rest → flows_at version count bytes ≡ None
 no_flow version count bytes done front rest below is so_far =
     sym so_far.all ∙ ap (λ n. flows_before front (flows_at version n rest)) (one_more count done below) ∙ ap (λ first. flows_before front (first_flow version rest (count - (done + 1)) first)) is
-
-pub flows_done : (version : Version) (count : ℕ) (bytes : List ℕ) (done : ℕ) (front : List FlowPart) (rest : List ℕ) → count ≤ done → AreFlowsSoFar version count bytes done front rest → flows_at version count bytes ≡ Some front
-flows_done version count bytes done front rest above so_far =
-    sym so_far.all ∙ ap (λ n. flows_before front (flows_at version n rest)) {x = count - done} {y = 0} (omega arith) ∙ ap Some (append-nil front)
 
 -- what is read of one link fails as what is read of all
 pub link_fails : (fault : LoadFault) (count : ℕ) (bytes : List ℕ) (done : ℕ) (front : List LinkPart) (rest : List ℕ) → done < count → Fails fault (link_in_front rest) → AreLinksSoFar count bytes done front rest → Fails fault (links_at count bytes)

@@ -1,17 +1,10 @@
 -- The gap is the greatest that is at most interval / sqrt(count), and it alone is.
-use Rattle.std.proofs.Common.{◌≡◌, ℕ, ◌+◌, ◌*◌, ◌<◌, ◌≤◌, zero, suc, Bool, true, false, inl, inr, arith}
-use Rattle.std.specs.Prelude.{nat_le, if◌then◌else◌}
+use Rattle.std.proofs.Common.{◌≡◌, ℕ, ◌+◌, ◌*◌, ◌<◌, ◌≤◌, zero, suc, Bool, true, inl, inr, arith}
+use Rattle.std.specs.Prelude.{nat_le}
 use Rattle.std.proofs.lemmas.Bool.{cases_Bool, cases_lt, le-leb, leb-true}
 use Rattle.std.proofs.lemmas.Nat.{mul-le, mul-lt}
 use Rattle.std.proofs.Math.Nat.{le_antisymm, mul-le-mul_left, mul-le-mul_right}
 use Rattle.sim_time.specs.ControlLaw.{greatest_upto, gap_of, IsGap, GapsShrink}
-
-upto_below : (passes : ℕ → Bool) (n : ℕ) → greatest_upto passes n ≤ n
-unfolding greatest_upto
-upto_below passes zero = omega arith
-upto_below passes (suc n) =
-    let below = upto_below passes n in
-    elim (passes (suc n)) as (λ b. (if b then suc n else greatest_upto passes n) ≤ suc n) [ true ↦ omega arith | false ↦ omega (arith, below) ]
 
 upto_passes : (passes : ℕ → Bool) (n : ℕ) → passes zero ≡ true → passes (greatest_upto passes n) ≡ true
 unfolding greatest_upto
@@ -38,10 +31,6 @@ fits_below i c e counted fits = elim (cases_lt i e) [
   | inl above ↦ let squares = mul-lt i i e e above above in let once = mul-le-mul_left (e * e) counted in absurd (omega (arith, squares, once))
   | inr below ↦ below
 ]
-
-pub gap_below : (i c : ℕ) → gap_of i c ≤ i
-unfolding gap_of
-gap_below i c = upto_below _ i
 
 pub gap_is_greatest : (i c : ℕ) → 1 ≤ c → IsGap i c (gap_of i c)
 unfolding gap_of

@@ -18,7 +18,7 @@ use Rattle.sim_time.proofs.Order.{keys_total}
 use Rattle.tournament.specs.Leading.{rank_at, Leads}
 use Rattle.tournament.specs.Keyed.{Keyed, nothing_due, KeyChange, changed, apply, least, next_key, EachKey}
 use Rattle.tournament.specs.Gathered.{all_entries, gathered, map_at, AtHome}
-use Rattle.tournament.proofs.Maps.{not_some, none_or, same_at, untied, get-changed, get_other, each_changed, each_apply, least_is, is_least, least_none, none_least, next_none, next_some}
+use Rattle.tournament.proofs.Maps.{not_some, none_or, same_at, untied, get-changed, get_other, each_changed, least_is, is_least, least_none, none_least, next_none, next_some}
 
 not_gt : (r : Ordering) → r ≢ Greater → is_gt r ≡ false
 not_gt Less h = refl
@@ -159,21 +159,9 @@ module _ {E : Type 0} (home : Key → ℕ) where
   pub none_gathered : (ms : List (Keyed E)) → AtHome home ms → ((place : ℕ) → rank_at (map next_key ms) place ≡ None) → least (gathered ms) ≡ None
   none_gathered ms at none = least_none (gathered ms) (λ q. get-gathered ms at q ∙ none_least (map_at ms (home q)) (next_none _ (sym (rank-next ms (home q)) ∙ none (home q))) q)
 
-  -- what holds of each key of each map holds of each key of the whole
-  pub each-gathered : (P : Key → Type 0) (ms : List (Keyed E)) → AtHome home ms → ((i : ℕ) → EachKey P (map_at ms i)) → EachKey P (gathered ms)
-  each-gathered P ms at each q v there = each (home q) q v (sym (get-gathered ms at q) ∙ there)
-
   -- what a map has the whole has
   pub gathered_has : (ms : List (Keyed E)) → AtHome home ms → (i : ℕ) (k : Key) (v : E) → fin.get (map_at ms i) k ≡ Some v → fin.get (gathered ms) k ≡ Some v
   gathered_has ms at i k v there = get-gathered ms at k ∙ ap (λ n. fin.get (map_at ms n) k) (at i k v there) ∙ there
-
-  -- so what holds of each key of the whole holds of each key of a map
-  pub each_part : (P : Key → Type 0) (ms : List (Keyed E)) → AtHome home ms → EachKey P (gathered ms) → (i : ℕ) → EachKey P (map_at ms i)
-  each_part P ms at each i k v there = each k v (gathered_has ms at i k v there)
-
-  -- several changes at home at a number leave each key at home
-  pub home_apply : (cs : List (KeyChange E)) (ms : List (Keyed E)) → AtHome home ms → (i : ℕ) → i < length ms → AllByRecursion (λ (c : KeyChange E). home c.0 ≡ i) cs → AtHome home (set ms i (apply cs (map_at ms i)))
-  home_apply cs ms at i within here = home_set ms at i within (apply cs (map_at ms i)) (each_apply (λ q. home q ≡ i) cs (map_at ms i) here (at i))
 
   -- the map whose next key leads
   pub record IsFirst (ms : List (Keyed E)) (place : ℕ) (key : Key) : Type 0 where

@@ -36,9 +36,6 @@ module _ {E : Type 0} where
   pub first_leaves : (e : Key × E) (es : List (Key × E)) → IsInOrder (e ∷ es) → map_of_keys es ≡ map.remove (map_of_keys (e ∷ es)) e.0
   first_leaves e es h = sym (remove_insert (map_of_keys es) e.0 e.1 (get-from_entries keys_total es e.0 ∙ below_none e.0 es (both_of _ _ h).0))
 
-  pub rest_in_order : (e : Key × E) (es : List (Key × E)) → IsInOrder (e ∷ es) → IsInOrder es
-  rest_in_order e es h = (both_of _ _ h).1
-
   -- what holds of each key of the map holds of each entry's
   pub each_entry : (P : Key → Type 0) (es : List (Key × E)) → EachKey P (map_of_keys es) → AllByRecursion (λ (e : Key × E). P e.0) es
   each_entry P [] each = tt

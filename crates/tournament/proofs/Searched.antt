@@ -82,15 +82,6 @@ searched times end (Some entry) all sought = record {
   none_lower = sought.none_lower;
 }
 
-pub is_soonest : (times : List (Option ℕ)) (place time : ℕ) → IsSoonest times place time → IsSoonestOrPast times place time
-is_soonest times place time soonest =
-    let within = held_within times place time soonest.held in
-    record {
-      most = omega (arith, within);
-      soonest = λ _. soonest;
-      none = λ past. absurd (let no : ⊥ = omega (arith, within, past) in no);
-    }
-
 pub is_past : (times : List (Option ℕ)) (place time : ℕ) → place ≡ length times → ((other : ℕ) → time_at times other ≡ None) → IsSoonestOrPast times place time
 is_past times place time past none = record {
   most = omega (arith, past);

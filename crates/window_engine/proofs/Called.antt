@@ -142,10 +142,6 @@ module _ (until : ℕ) (began c : RunState) (written : ℕ) (known now : Option 
       let edge = all_committed w.net c w.behind at (omega (arith, upto, many)) in
       broke_batch until w.net (reached_in c.window) at count (merged c.sheaf) text now later w.early w.behind.gone edge is takes few
 
-  -- its bytes can be counted
-  pub some_fit : (text : List ℕ) (lines count : ℕ) (later : Option (List ℕ)) → text ≡ text_from c.sheaf.first (merged c.sheaf).lines → lines ≡ length (merged c.sheaf).lines → TakesFirst count text now later → count < 2 ^ 71 → written + count < 2 ^ 128
-  some_fit text lines count later is many takes few = tells 1 (c.position + lines) later (Failing count) (broke_all 1 text lines count (c.position + lines) later is many refl takes few)
-
   -- the call ends by a fault in the next window
   pub broken : (workers : ℕ) (new : RunState) (later : Option (List ℕ)) (fault : WriteFault) (f g h : ℕ) → Broke workers until w.net new.position now later fault → (fault ≡ Workers below.CountFull → HasTooMany w.net) → g ≡ f → h ≡ fails_after {T = ℕ} (Err fault) g
       → new.groups ≡ c.groups → new.ahead ≡ c.ahead → HasEnded workers until began new (Err (reported_as written fault)) known later f h
@@ -218,17 +214,8 @@ module _ (until : ℕ) (began c : RunState) (text : List ℕ) (lines written : �
   abbrev edge : Reached
   edge = reached_in o.was.window
 
-  -- the events of what is owed can be counted
-  pub few_pending : c.position + lines ≤ 1000000000000000
-  few_pending = let few = few_before edge (record c { position = c.position + lines }) o.behind in let at = o.behind.committed in omega (arith, few, at)
-
   wrote_pending : (count : ℕ) (later : Option (List ℕ)) → Appends now later text → count ≡ length text → count < 2 ^ 71 → Wrote until w.net edge count now later
   wrote_pending count later takes many few = wrote_batch until w.net edge count (merged o.was.sheaf) text now later w.early w.behind.gone o.text_is many few takes
-
-  -- its bytes too
-  pub paid_fits : (count : ℕ) (later : Option (List ℕ)) → Appends now later text → count ≡ length text → count < 2 ^ 71 → written + count < 2 ^ 128
-  paid_fits count later takes many few =
-      more_fits until began o.was written known now w edge count later (wrote_pending count later takes many few) (few_before edge (record c { position = c.position + lines }) o.behind)
 
   -- the sink took all of it
   pub paid : (count : ℕ) (later : Option (List ℕ)) → Appends now later text → count ≡ length text → count < 2 ^ 71 → IsWriting until began (record c { position = c.position + lines }) (written + count) known later
@@ -241,10 +228,6 @@ module _ (until : ℕ) (began c : RunState) (text : List ℕ) (lines written : �
     groups = o.groups ∙ w.groups;
     ahead = o.ahead ∙ w.ahead;
   }
-
-  -- the bytes that it took of what is owed can be counted
-  pub unpaid_fits : (count : ℕ) (later : Option (List ℕ)) → TakesFirst count text now later → count < 2 ^ 71 → written + count < 2 ^ 128
-  unpaid_fits count later takes few = some_fit until began o.was written known now w text lines count later o.text_is o.lines_are takes few
 
   -- the sink failed in it
   pub unpaid : (workers : ℕ) (new : RunState) (count : ℕ) (later : Option (List ℕ)) (f g h : ℕ) → new.position ≡ c.position + lines → TakesFirst count text now later → count < 2 ^ 71 → g ≡ f → h ≡ counted g → new.groups ≡ c.groups → new.ahead ≡ c.ahead

@@ -1,8 +1,6 @@
 -- Events that are run one after another: their text, and where they lead.
-use Rattle.std.proofs.Common.{◌≡◌, ◌≢◌, ◌≤◌, ◌<◌, ◌+◌, ◌-◌, ◌++◌, ◌^◌, ℕ, Bool, false, zero, suc, max, List, [], ◌∷◌, length, Option, Some, None, Ok, Err, option_map, refl, sym, ap, subst, ◌∙◌, inl, inr, ⊎_elim, arith, cond, append-nil, length-append, lt-ltb, le-ltb}
-use mathlib.Core.Bool.{false≢true}
+use Rattle.std.proofs.Common.{◌≡◌, ◌≢◌, ◌≤◌, ◌<◌, ◌+◌, ◌-◌, ◌++◌, ◌^◌, ℕ, zero, suc, max, List, [], ◌∷◌, length, Option, Some, None, Err, option_map, refl, sym, ap, subst, ◌∙◌, inl, inr, ⊎_elim, arith, cond, append-nil, length-append, lt-ltb, le-ltb}
 use Rattle.std.proofs.lemmas.Bool.{cases_lt}
-use Rattle.std.specs.Io.KnownBytes.{Appends}
 use Rattle.sim_time.specs.declared.key.Key.{Key}
 use Rattle.tournament.specs.Keyed.{least}
 use Rattle.tournament.proofs.Maps.{not_some, same_some}
@@ -13,9 +11,6 @@ use Rattle.table_run.proofs.Runs.{of_step, run_cons, run_end}
 use Rattle.net_machine.specs.declared.due.Due.{Due}
 use Rattle.net_machine.specs.Due.{due_of}
 use Rattle.net_machine.specs.Run.{Reached, Stepped}
-use Rattle.net_watch.specs.declared.run_end.RunEnd.{RunEnd}
-use Rattle.net_watch.specs.declared.run_end.RunEnd.TheVariants.{Stopped, Held, Done}
-use Rattle.net_watch.specs.Watched.{IsRunEnd, goes_on}
 use Rattle.trace_text.specs.Line.{line_bytes}
 use Rattle.window_core.specs.Full.{HasTooMany}
 use Rattle.window_core.specs.Partition.{groups_of}
@@ -24,18 +19,17 @@ use Rattle.window_engine.specs.declared.run_state.RunState.{RunState}
 use Rattle.window_engine.specs.declared.run_state.WriteFault.{WriteFault}
 use Rattle.window_engine.specs.declared.run_state.WriteFault.TheVariants.{Workers}
 use Rattle.window_workers.specs.declared.fault.WorkersFault.TheVariants.{CountFull}
-use Rattle.window_engine.specs.declared.granularity.Granularity.{Granularity}
-use Rattle.window_engine.specs.RunStates.{AtRest, HasEnded, IsApart, WindowsRest, RunsIn, Broke, CanTell, Wrote, WroteFirst, fails_after, reported_as}
+use Rattle.window_engine.specs.RunStates.{AtRest, HasEnded, IsApart, WindowsRest, RunsIn, Broke, Wrote, WroteFirst, fails_after, reported_as}
 use Rattle.window_workers.specs.Edges.{IsAtEdge, edge_of, reached_in}
 use Rattle.window_engine.specs.Engines.{GoesOn}
 use Rattle.window_text.specs.Puts.{TakesFirst}
-use Rattle.window_engine.specs.Singly.{CanStop, HasGone, IsBefore, IsGoing, IsPaged, key_of}
+use Rattle.window_engine.specs.Singly.{CanStop, HasGone, IsBefore, IsGoing, key_of}
 use Rattle.window_text.specs.Text.{text_from}
 use Rattle.window_engine.proofs.Called.{broken_at}
 use Rattle.window_engine.proofs.Grouped.{runs_on}
 use Rattle.window_engine.proofs.TooMany.{earlier_full}
 use Rattle.window_engine.proofs.Whole.{below_later, below_more}
-use Rattle.window_engine.proofs.Writing.{broke_batch, broke_later, can_tell, run_more, still_fits, text_more, wrote_batch, wrote_later, wrote_more, wrote_none}
+use Rattle.window_engine.proofs.Writing.{broke_batch, broke_later, run_more, text_more, wrote_later, wrote_more, wrote_none}
 
 -- the line is of the event that was due
 line_before : (s t : State) (line : TraceLine) (until : ℕ) → step s ≡ Some (line, t) → IsBefore until s → line.key.time < until
@@ -91,29 +85,6 @@ no_key : (o : Option (Key × Event)) → key_of o ≡ None → o ≡ None
 no_key None e = refl
 no_key (Some x) e = absurd (not_some (sym e))
 
-soon_due : (o : Option (Key × Event)) (end : ℕ) (key : Key) → key_of (below end o) ≡ Some key → key.time < end
-soon_due None end key is = absurd (not_some is)
-soon_due (Some x) end key is =
-    ⊎_elim
-    (λ (soon : x.0.time < end).
-    let same : x.0 ≡ key = same_some x.0 key (sym (ap (λ b. key_of (cond b (Some x) None)) (lt-ltb x.0.time end soon)) ∙ is) in
-    subst (λ (k : Key). k.time < end) same soon)
-    (λ (past : end ≤ x.0.time). absurd (not_some (sym (ap (λ b. key_of (cond b (Some x) None)) (le-ltb x.0.time end past)) ∙ is)))
-    (cases_lt x.0.time end)
-
--- what is due is before the run's end
-pub before_end : (s : State) (until : ℕ) → s.end ≤ until → IsBefore until s
-before_end s until upto key is = let soon = soon_due (least s.pending) s.end key is in omega (arith, soon, upto)
-
-pub before_at : (s : State) (until : ℕ) (key : Key) → key_of (due s) ≡ Some key → key.time < until → IsBefore until s
-before_at s until key is soon other other_is =
-    let same : key ≡ other = same_some key other (sym is ∙ other_is) in
-    subst (λ (k : Key). k.time < until) same soon
-
--- nothing is due
-pub stops_all : (s : State) (until last : ℕ) → key_of (due s) ≡ None → until ≤ s.end → CanStop until last s
-stops_all s until last none within = record { moment = until; none_left = sooner (least s.pending) s.end until (no_key (due s) none) within; after = inl (omega arith) }
-
 -- what is due is not before the moment
 pub stops_until : (s : State) (until last : ℕ) (key : Key) → key_of (due s) ≡ Some key → until ≤ key.time → CanStop until last s
 stops_until s until last key is late = record { moment = until; none_left = before_due (least s.pending) s.end until key is late; after = inl (omega arith) }
@@ -133,24 +104,12 @@ module _ (until last : ℕ) (old new : Reached) (text : List ℕ) (g : IsGoing u
       stop.after in
       record { lines = g.lines; is_run = g.is_run; position = g.position; early = g.early; whole = (stop.moment, record { early = early; none_left = stop.none_left }); text_is = g.text_is }
 
-  -- its end is that of the run
-  pub going_end : new.state.end ≡ old.state.end
-  going_end = run_end (length g.lines) old.state new.state g.lines g.is_run
-
   -- as many were run as there may be
   pub gone_full : due new.state ≢ None → new.position ≡ 1000000000000000 → HasTooMany old
   gone_full some full =
       let none : 1000000000000000 - new.position ≡ 0 = omega (arith, full) in
       earlier_full old new g.lines g.is_run g.position (omega (arith, full))
       (record { lines = []; last = new.state; is_run = ap (run new.state) none; one_due = some })
-
--- who puts their text was not refused memory, and the run ended there
-pub gone_by : (until last : ℕ) (old new : Reached) (text : List ℕ) (refused : Bool) (end : RunEnd) → IsRunEnd (CanStop until last new.state) old new (Ok end) → IsPaged (goes_on (Ok end)) until last old new text refused → refused ≡ false → until ≤ old.state.end → HasGone until old new text
-gone_by until last old new text refused Stopped stop paged kept within = absurd (false≢true (sym kept ∙ paged))
-gone_by until last old new text refused Held stop paged kept within = gone until last old new text paged.1 stop
-gone_by until last old new text refused Done none paged kept within =
-    let ends = going_end until last old new text paged.1 in
-    gone until last old new text paged.1 (stops_all new.state until last (ap key_of none) (omega (arith, within, ends)))
 
 -- a step keeps the run's end
 pub step_end : (s t : State) (line : TraceLine) → step s ≡ Some (line, t) → t.end ≡ s.end
@@ -166,17 +125,10 @@ pub key_by : (o : Option (Key × Event)) (next : Due) → Some next ≡ option_m
 key_by None next is = absurd (not_some (sym is))
 key_by (Some x) next is = record { key = x.0; is = refl; at = sym (ap (λ (d : Due). d.time) (same_some next (due_of x) is)) }
 
-pub none_by : (o : Option (Key × Event)) → None ≡ option_map due_of o → key_of o ≡ None
-none_by None is = refl
-none_by (Some x) is = absurd (not_some is)
-
 -- their text was taken
 module _ (until : ℕ) (old new : Reached) (text : List ℕ) (count : ℕ) (a b : Option (List ℕ)) (gone : HasGone until old new text) (few : count < 2 ^ 71) where
   goes : GoesOn old (record { first = old.position + 1; lines = gone.lines }) new
   goes = record { first = refl; is_run = gone.is_run; position = gone.position; whole = gone.whole }
-
-  pub wrote_gone : count ≡ length text → Appends a b text → Wrote until old new count a b
-  wrote_gone many took = wrote_batch until old new count (record { first = old.position + 1; lines = gone.lines }) text a b gone.early goes gone.text_is many few took
 
   pub broke_gone : (position : ℕ) → position ≡ new.position → TakesFirst count text a b → WroteFirst until old position count a b
   broke_gone position at took = broke_batch until old new position count (record { first = old.position + 1; lines = gone.lines }) text a b gone.early goes at gone.text_is took few
@@ -234,15 +186,8 @@ module _ (until bound : ℕ) (began old c : RunState) (net : Reached) (written n
       subst (λ (n : ℕ). Wrote until from net n known b) (sym o.written_is)
       (wrote_more until from (reached_in old.window) net written o.count known a b r.wrote (wrote_later bound until (reached_in old.window) net o.count a b upto o.wrote))
 
-  -- the bytes of some events more can be counted
-  pub more_fit : (to : Reached) (more : ℕ) (e : Option (List ℕ)) → Wrote bound net to more b e → to.position ≤ 1000000000000000 → now + more < 2 ^ 128
-  more_fit to more e wrote few = still_fits until from to now more known b e net all_written o.few (wrote_later bound until net to more b e upto wrote) few
-
   later : (workers at : ℕ) (e : Option (List ℕ)) (fault : WriteFault) → 0 < workers → Broke 1 bound net at b e fault → Broke workers until net at b e fault
   later workers at e fault some broke = broke_later 1 workers bound until net at b e fault (omega (arith, some)) upto broke
-
-  pub can_be_reported : (at : ℕ) (e : Option (List ℕ)) (fault : WriteFault) → Broke 1 bound net at b e fault → CanTell now fault
-  can_be_reported at e fault broke = can_tell 1 until from net now at known b e fault all_written o.few (later 1 at e fault (omega arith) broke)
 
   -- the call ends by a fault in those that follow
   pub broken_on : (workers : ℕ) (d : RunState) (e : Option (List ℕ)) (fault : WriteFault) (f g h : ℕ) → 0 < workers → Broke 1 bound net d.position b e fault → (fault ≡ Workers CountFull → HasTooMany net) → g ≡ f → h ≡ fails_after {T = ℕ} (Err fault) g
@@ -291,13 +236,3 @@ module _ (until bound : ℕ) (began old c : RunState) (net : Reached) (written n
         groups = ap (λ (x : RunState). x.groups) same ∙ r.groups;
         ahead = ap (λ (x : RunState). x.ahead) same ∙ r.ahead;
       }
-
--- what a pace says is nothing of what was written
-pub rests_paced : (until : ℕ) (began c : RunState) (granularity : Granularity) (written : ℕ) (known now : Option (List ℕ)) → WindowsRest until began c written known now → WindowsRest until began (record c { granularity = granularity }) written known now
-rests_paced until began c granularity written known now r = record {
-  rest = record { edge = r.rest.edge; committed = r.rest.committed; few = r.rest.few; end = r.rest.end; groups = r.rest.groups };
-  has = record { run = r.has.run; apart = r.has.apart };
-  wrote = r.wrote;
-  groups = r.groups;
-  ahead = r.ahead;
-}

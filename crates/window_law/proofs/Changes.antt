@@ -1,5 +1,5 @@
 -- What a list of changes does at one key.
-use Rattle.std.proofs.Common.{◌≡◌, ◌≢◌, ⊎_elim, List, [], ◌∷◌, ◌++◌, filter, Bool, true, false, cond, T, Option, Some, None, refl, sym, ap, subst, ◌∙◌, true≢false}
+use Rattle.std.proofs.Common.{◌≡◌, ◌≢◌, ⊎_elim, List, [], ◌∷◌, filter, Bool, true, false, cond, T, Option, Some, None, refl, sym, ap, subst, ◌∙◌, true≢false}
 use Rattle.std.specs.Ordering.{eq_by_cmp, is_eq}
 use Rattle.std.specs.declared.cmp.Ordering.TheVariants.{Less}
 use Rattle.std.specs.FinMap.{get, remove, entries, entries_sorted, get-entries, find, is_sorted}
@@ -27,10 +27,6 @@ over (c ∷ cs) k x = over cs k (cond (same k c.0) c.1 x)
 pub get-apply : (cs : List EventChange) (m : Events) (k : Key) → get (apply cs m) k ≡ over cs k (get m k)
 get-apply [] m k = refl
 get-apply (c ∷ cs) m k = get-apply cs (changed m c.0 c.1) k ∙ ap (over cs k) (get-changed m c.0 c.1 k)
-
-pub over-append : (cs ds : List EventChange) (k : Key) (x : Option Event) → over (cs ++ ds) k x ≡ over ds k (over cs k x)
-over-append [] ds k x = refl
-over-append (c ∷ cs) ds k x = over-append cs ds k (cond (same k c.0) c.1 x)
 
 -- changes that put events in, where a map before others has the key
 pub over-or : (cs : List EventChange) (k : Key) (a b : Option Event) → AllByRecursion (λ (c : EventChange). same k c.0 ≡ true → c.1 ≢ None) cs → over cs k (option_or a b) ≡ option_or (over cs k a) b

@@ -1,7 +1,7 @@
 -- What a sink took.
 use Rattle.std.proofs.Common.{◌≡◌, ℕ, ◌+◌, List, [], ◌++◌, length, take, drop, refl, sym, ◌∙◌, ap, append_assoc, subst, zero, suc, ◌∷◌, arith, Option, None, Some}
 use Rattle.std.proofs.lemmas.List.{append-nil}
-use Rattle.std.specs.Io.KnownBytes.{Appends, Keeps}
+use Rattle.std.specs.Io.KnownBytes.{Appends}
 
 -- nothing was taken
 pub appends_nothing : (known : Option (List ℕ)) → Appends known known []
@@ -14,13 +14,6 @@ appends_more None b c xs ys h k = tt
 appends_more (Some before) None c xs ys h k = absurd h
 appends_more (Some before) (Some between) None xs ys h k = absurd k
 appends_more (Some before) (Some between) (Some after) xs ys h k = k ∙ ap (λ l. l ++ ys) h ∙ append_assoc before xs ys
-
--- some bytes were taken, and then nothing
-pub appends_kept : (a b c : Option (List ℕ)) (xs : List ℕ) → Appends a b xs → Keeps b c → Appends a c xs
-appends_kept None b c xs h k = tt
-appends_kept (Some before) None c xs h k = absurd h
-appends_kept (Some before) (Some between) None xs h k = absurd k
-appends_kept (Some before) (Some between) (Some after) xs h k = k ∙ h
 
 take_nil : (n : ℕ) → take {A = ℕ} n [] ≡ []
 take_nil zero = refl

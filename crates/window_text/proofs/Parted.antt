@@ -1,8 +1,8 @@
 -- A text that is made in parts, and written part by part.
-use Rattle.std.proofs.Common.{◌≡◌, ◌≤◌, ◌<◌, ◌+◌, ◌-◌, ℕ, zero, suc, List, [], ◌∷◌, ◌++◌, All, length, set, take, drop, get_or, Option, refl, sym, ap, subst, ◌∙◌, arith, append_assoc, append-nil, length-append}
-use Rattle.std.proofs.lemmas.List.{take_more, take_more_set, take_all, take-append-drop, take-append-le, drop_more, drop-append-le, drop_at, length-take, length-drop}
+use Rattle.std.proofs.Common.{◌≡◌, ◌<◌, ◌+◌, ◌-◌, ℕ, zero, suc, List, [], ◌∷◌, ◌++◌, All, length, set, take, drop, get_or, Option, refl, sym, ap, subst, ◌∙◌, arith, append_assoc, append-nil, length-append}
+use Rattle.std.proofs.lemmas.List.{take_more, take_more_set, take_all, take-append-drop, take-append-le, drop_more, length-take}
 use lib.Seq.{take-add}
-use Rattle.std.proofs.lemmas.List.Elements.{All-cons, All-nil, All-push, All-weaker}
+use Rattle.std.proofs.lemmas.List.Elements.{All-cons, All-nil, All-push}
 use Rattle.std.specs.Io.KnownBytes.{Appends}
 use Rattle.line_merge.specs.Sheaves.{SheafValue, merged}
 use Rattle.window_text.specs.declared.formatter.TextPart.{TextPart}
@@ -13,46 +13,6 @@ use Rattle.window_text.specs.Puts.{TakesFirst}
 use Rattle.window_text.specs.Text.{text_from}
 use Rattle.window_text.proofs.Bytes.{appends_more, take_past}
 use Rattle.window_text.proofs.Numbered.{text_both}
-
--- a part's bytes stay where text is appended
-bytes_kept : (text more : List ℕ) (part : TextPart) → IsIn text part → bytes_in (text ++ more) part ≡ bytes_in text part
-bytes_kept text more part is =
-    let start = is.start in
-    let end = is.end in
-    ap (take (part.end - part.start)) (drop-append-le part.start text more (omega (arith, start, end)))
-    ∙ take-append-le (part.end - part.start) (drop part.start text) more (omega (arith, start, end, length-drop part.start text))
-
-has_kept : (s : SheafValue) (old more new : List ℕ) → new ≡ old ++ more → (part : TextPart) → HasText s old part → HasText s new part
-has_kept s old more new is part has =
-    let end = has.inside.end in
-    let long : length new ≡ length old + length more = ap length is ∙ length-append old more in
-    record {
-      inside = record { start = has.inside.start; end = omega (arith, end, long) };
-      within = has.within;
-      is = ap (λ (l : List ℕ). bytes_in l part) is ∙ bytes_kept old more part has.inside ∙ has.is;
-    }
-
--- so do those of all parts
-pub right_kept : (s : SheafValue) (old more new : List ℕ) (parts : List TextPart) → new ≡ old ++ more → All (HasText s old) parts → All (HasText s new) parts
-right_kept s old more new parts is all = All-weaker (HasText s old) (HasText s new) (has_kept s old more new is) parts all
-
--- what is appended is the last part's
-pub has_appended : (s : SheafValue) (old new : List ℕ) (part : TextPart) → part.start ≡ length old → part.end ≡ length new → part.from + part.count ≤ length (merged s).lines
-    → new ≡ old ++ text_from (s.first + part.from) (take part.count (drop part.from (merged s).lines)) → HasText s new part
-has_appended s old new part start end within is =
-    let more = text_from (s.first + part.from) (take part.count (drop part.from (merged s).lines)) in
-    let long : length new ≡ length old + length more = ap length is ∙ length-append old more in
-    let count : part.end - part.start ≡ length more = omega (arith, start, end, long) in
-    record {
-      inside = record { start = omega (arith, start, end, long); end = omega (arith, end) };
-      within = within;
-      is =
-          ap (λ n. take n (drop part.start new)) count
-          ∙ ap (λ n. take (length more) (drop n new)) start
-          ∙ ap (λ (l : List ℕ). take (length more) (drop (length old) l)) is
-          ∙ ap (take (length more)) (drop_at old more (length old) refl)
-          ∙ take_all (length more) more (omega arith);
-    }
 
 -- a thread that made no part
 right_none : (s : SheafValue) (formatter : TextFormatter) → formatter.parts.items ≡ [] → IsRight s formatter
@@ -128,10 +88,6 @@ is_place s ss at i d part l has from some =
           ∙ has.is
           ∙ ap (λ n. text_from (s.first + n) (take part.count (drop n lines))) from;
     }
-
--- no line is before the first
-pub text_of_none : (s : SheafValue) → [] ≡ text_from s.first (take 0 (merged s).lines)
-text_of_none s = refl
 
 -- the text up to a line, and the part that begins there
 pub text_up_to : (s : SheafValue) (ss : List TextFormatter) (ps : List TextPlace) (at : ℕ) (p : TextPlace) → text_of ss ps ≡ text_from s.first (take at (merged s).lines) → IsPlaceAt s ss at p

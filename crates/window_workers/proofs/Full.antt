@@ -1,5 +1,5 @@
 -- Pieces that are refused since there are as many events as there may be.
-use Rattle.std.proofs.Common.{◌≡◌, ℕ, suc, List, ◌∷◌, slice_get, Option, Some, None, Result, Ok, Err, IfErr, IfSome, refl, ap, sym, subst, ◌∙◌}
+use Rattle.std.proofs.Common.{◌≡◌, ℕ, suc, List, ◌∷◌, slice_get, Option, Some, None, Result, Ok, Err, IfErr, IfSome, refl, ap, subst, ◌∙◌}
 use Rattle.std.specs.Option.{option_or}
 use Rattle.node_group.specs.declared.group.GroupFault.{GroupFault}
 use Rattle.node_group.specs.declared.group.GroupFault.TheVariants as group
@@ -40,10 +40,6 @@ full_more all rest more x refusal q is kind among was reported after = full_or a
 count_of : (f : GroupFault) → as_fault f ≡ CountFull → f ≡ group.CountFull
 count_of group.NoMemory e = let x : ⊥ = cc in absurd x
 count_of group.CountFull e = refl
-
--- the engine's fault is the group's
-pub full_reported : (all : List Slot) (refusal : Option GroupFault) (f : GroupFault) (e : WorkersFault) → refusal ≡ Some f → e ≡ as_fault f → IsOfFull refusal all → e ≡ CountFull → SomeFull all
-full_reported all refusal f e is reported was full = was (is ∙ ap (λ (g : GroupFault). Some g) (count_of f (sym reported ∙ full)))
 
 -- where a finished piece is full, the piece laid in its place was
 laid_full : (laid : List PieceState) (v : View) (slots : List Slot) → v.laid ≡ laid → ((i : ℕ) (x : Slot) → slice_get slots i ≡ Some x → Tells v i x) → SomeFull slots → SomeLaidFull laid

@@ -1,30 +1,18 @@
 -- Pieces that are laid out for groups, and groups that come back.
-use Rattle.std.proofs.Common.{◌≡◌, ◌≤◌, ◌<◌, ◌&&◌, is_none, true, ℕ, zero, suc, List, [], ◌∷◌, ◌++◌, length, map, get_or, All, Option, Some, None, refl, sym, ap, subst, ◌∙◌, arith, slice_get, append_assoc}
-use Rattle.std.proofs.lemmas.List.Elements.{All-map}
+use Rattle.std.proofs.Common.{◌≡◌, ◌<◌, ◌&&◌, is_none, true, ℕ, zero, suc, List, [], ◌∷◌, ◌++◌, length, map, get_or, All, Option, Some, None, refl, sym, ap, subst, ◌∙◌, arith, slice_get, append_assoc}
 use Rattle.std.proofs.lemmas.List.{length-map}
 use Rattle.std.proofs.Math.ListN.{get_or-map}
 use Rattle.std.proofs.lemmas.Option.{slice_get-get_or, get_or_from_slice_get}
 use Rattle.sim_time.specs.declared.key.Key.{Key}
 use Rattle.node_core.specs.declared.event.Event.{Event}
 use Rattle.table_run.specs.State.{due}
-use Rattle.window_core.specs.Groups.{GroupState, up_to as group_up_to}
+use Rattle.window_core.specs.Groups.{up_to as group_up_to}
 use Rattle.window_core.specs.Windows.{all_done}
 use Rattle.window_core.specs.Group.{GroupValue, AfterFirings, state_of}
 use Rattle.window_core.specs.Window.{states_of, value_at, no_value}
 use Rattle.work_board.specs.Pieces.{PieceState}
 use Rattle.window_workers.specs.WindowOutcomes.{AllDone}
 use Rattle.window_workers.specs.Laid.{laid_for}
-
--- the groups with another end
-abbrev pub ended_by : ℕ → GroupValue → GroupValue
-ended_by until g = record g { until = until }
-
-pub states_ended_by : (until : ℕ) (groups : List GroupValue) → states_of (map (ended_by until) groups) ≡ states_of groups
-states_ended_by until [] = refl
-states_ended_by until (g ∷ groups) = ap (λ (l : List GroupState). state_of g ∷ l) (states_ended_by until groups)
-
-pub within_ended_by : (until : ℕ) (groups : List GroupValue) → All (λ (g : GroupValue). until ≤ g.until) (map (ended_by until) groups)
-within_ended_by until groups = All-map (λ (g : GroupValue). until ≤ g.until) (ended_by until) groups (λ i d l. omega arith)
 
 -- what holds of a list holds of its rest, and of its first element
 pub All-rest : {X : Type 0} (P : X → Type 0) (xs more : List X) (x : X) → xs ≡ x ∷ more → All P xs → All P more
@@ -43,13 +31,6 @@ All-more {X} P xs more x is one all = subst (All P) (sym is) at
 -- a piece's group was added
 pub map_step : {X Y : Type 0} (f : X → Y) (done all : List Y) (rest more : List X) (x : X) → rest ≡ x ∷ more → done ++ map f rest ≡ all → (done ++ f x ∷ []) ++ map f more ≡ all
 map_step f done all rest more x is e = append_assoc done (f x ∷ []) (map f more) ∙ sym (ap (λ l. done ++ map f l) is) ∙ e
-
--- the groups may run to their end
-pub may_run : (until end : ℕ) (groups lent : List GroupValue) → lent ≡ map (ended_by until) groups → end ≡ until → All (λ (g : GroupValue). end ≤ g.until) lent
-may_run until end groups lent is ends =
-    let P : List GroupValue → Type 0 = All (λ (g : GroupValue). end ≤ g.until) in
-    let Q : ℕ → Type 0 = λ e. All (λ (g : GroupValue). e ≤ g.until) (map (ended_by until) groups) in
-    subst P (sym is) (subst Q (sym ends) (within_ended_by until groups))
 
 pub all_done_of : (end : ℕ) (groups : List GroupValue) → ((n : ℕ) → n < length groups → due (group_up_to end (state_of (value_at groups n))) ≡ None) → all_done end (states_of groups) ≡ true
 all_done_of end [] each = refl

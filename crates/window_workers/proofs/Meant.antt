@@ -1,13 +1,9 @@
 -- What a fault means: of a group, of pieces, and of workers.
-use Rattle.std.proofs.Common.{◌≡◌, ◌<◌, ◌≤◌, ℕ, Bool, Result, Ok, Err, refl, arith}
+use Rattle.std.proofs.Common.{◌≡◌, ◌<◌, ◌≤◌, ℕ, refl, arith}
 use Rattle.node_group.specs.declared.group.GroupFault.{GroupFault}
 use Rattle.node_group.specs.declared.group.GroupFault.TheVariants as group
 use Rattle.window_workers.specs.declared.fault.WorkersFault.{WorkersFault}
 use Rattle.window_workers.specs.declared.fault.WorkersFault.TheVariants.{NoMemory, CountFull, Failed}
-use Rattle.window_core.specs.Full.{HasTooMany}
-use Rattle.window_core.specs.Window.{WindowValue}
-use Rattle.window_workers.specs.Edges.{reached_in}
-use Rattle.window_workers.specs.Laid.{HasRunBy}
 use Rattle.window_workers.specs.WindowOutcomes.{IsWorkersFault, as_fault}
 
 -- a group's, as the workers tell it
@@ -26,8 +22,3 @@ pub pieces_meant : (workers : ℕ) (Full : Type 0) (fault : WorkersFault) → 1 
 pieces_meant workers Full NoMemory several full = tt
 pieces_meant workers Full CountFull several full = full refl
 pieces_meant workers Full Failed several full = several
-
--- and what some workers leave of a window, more may leave of it
-pub ran_by_more : (v w until : ℕ) (old new : WindowValue) (r : Result Bool WorkersFault) → v ≤ w → HasRunBy v until old r new → HasRunBy w until old r new
-ran_by_more v w until old new (Ok ran) few by = record { ran = by.ran; stays = by.stays; fault = tt }
-ran_by_more v w until old new (Err fault) few by = record { ran = tt; stays = by.stays; fault = meant_more v w (HasTooMany (reached_in old)) (HasTooMany (reached_in old)) fault few (λ full. full) by.fault }

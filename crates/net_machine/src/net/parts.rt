@@ -3,10 +3,11 @@ ghost use Rattle.std.specs.Prelude.{◌≡◌, ◌≤◌, ◌^◌, IfOk, length}
 ghost use Rattle.net_machine.specs.Nodes.{reached};
 ghost use Rattle.net_machine.specs.NetOf.{AreNetParts};
 
-use super::{MOST_LINKS, Net};
+use super::Net;
 use crate::nodes::Nodes;
 use crate::places::LinkEnds;
 use node_core::{Node, Outbox};
+use scenario_image::limits::MOST_ROUTER_LINKS;
 use sim_time::Time;
 use std::alloc::{AllocError, Global};
 use std::marker::Model;
@@ -39,7 +40,7 @@ impl Spare {
     {
         Ok(Spare {
             timetable: Timetable::new(alloc, nodes)?,
-            out: Outbox::new(alloc, MOST_LINKS)?,
+            out: Outbox::new(alloc, MOST_ROUTER_LINKS)?,
             alloc,
         })
     }

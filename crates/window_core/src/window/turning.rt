@@ -12,10 +12,8 @@ ghost use Rattle.window_law.specs.Windows.{AreBelow, none_fired};
 use super::Window;
 use crate::ahead::window_end;
 use line_merge::{Batch, Sheaf};
+use net_machine::net::MOST_EVENTS;
 use std::mem::{replace, swap};
-
-/// The most events of a run.
-const MOST_EVENTS: u64 = 1_000_000_000_000_000;
 
 /// Why no turn was taken.
 #[derive(Clone, Copy, Debug, PartialEq, Eq)]

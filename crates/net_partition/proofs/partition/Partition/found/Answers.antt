@@ -1,5 +1,4 @@
 use Rattle.std.proofs.Common.{◌≡◌, ◌≤◌, take, length, arith, ap, ◌∙◌}
-use Rattle.std.proofs.lemmas.List.{length-take-le}
 use Rattle.scenario_image.specs.declared.parts.ScenarioParts.{ScenarioParts}
 use Rattle.net_partition.specs.Partition.{groups_of}
 use Rattle.net_partition.proofs.Partitions.{below_is, few_below}
@@ -11,13 +10,6 @@ invariant_of-result c =
     let count : c.len.result ≡ length c.args.scenario.now.nodes = c.len.ensures ∙ ap (λ (parts : ScenarioParts). length parts.nodes) c.parts-parts.ensures.value in
     let size : length c.found_groups.result ≡ 256 = c.found_groups.ensures.size in
     (omega (arith, count, range.1), below_is c.clamp.result c.len.result c.found_groups.result (omega (arith, c.clamp.ensures)) (omega (arith, count, range.0)) (omega (arith, count, range.1)) size c.found_groups.ensures.each)
-
-pub returns-clause-nodes : goal.returns-clause-nodes
-returns-clause-nodes c =
-    let range = c.parts-parts.ensures.scenario.in_limits.counts.node_count in
-    let count : c.len.result ≡ length c.args.scenario.now.nodes = c.len.ensures ∙ ap (λ (parts : ScenarioParts). length parts.nodes) c.parts-parts.ensures.value in
-    let size : length c.found_groups.result ≡ 256 = c.found_groups.ensures.size in
-    length-take-le c.len.result c.found_groups.result (omega (arith, count, range.1, size)) ∙ count
 
 pub returns-clause-few : goal.returns-clause-few
 returns-clause-few c =
