@@ -1,5 +1,5 @@
 -- The figures along a run.
-use Rattle.std.proofs.Common.{◌≡◌, ◌≢◌, ℕ, zero, suc, ◌+◌, ◌<◌, ◌≤◌, List, [], ◌∷◌, ◌++◌, length, length-append, get_or, refl, sym, ap, subst, ◌∙◌, Option, Some, None, arith}
+use Rattle.std.proofs.Common.{◌≡◌, ℕ, zero, suc, ◌+◌, ◌<◌, ◌≤◌, List, [], ◌∷◌, ◌++◌, length, length-append, get_or, refl, sym, ap, subst, ◌∙◌, Option, Some, None, arith}
 use Rattle.std.proofs.lemmas.List.{append-nil, append_assoc}
 use Rattle.std.proofs.lemmas.List.Elements.{filter_map-append}
 use Rattle.std.proofs.lemmas.Option.{option_and_then_some, slice_get-get_or}
@@ -154,7 +154,3 @@ none_earlier p old new line lines is_scenario comes stepped k v is =
     let last = line_more 0 lines line in
     let later = sound.sound.not_past k v (is_due new.state k v is).pending in
     omega (arith, most, last, later)
-
--- an event that was run was due
-pub was_due : (s : State) (line : TraceLine) (t : State) → step s ≡ Some (line, t) → due s ≢ None
-was_due s line t is none = not_some (sym (ap (option_map (step_at s)) none) ∙ is)

@@ -33,9 +33,9 @@ least_of_bound bound x (y ∷ ys) within = let rest = least_of_bound bound x ys 
 pub test_no : (a b : ℕ) → a ≢ b → (a == b) ≡ false
 test_no a b apart = ⊎_elim (λ (e : (a == b) ≡ true). absurd (apart (eqb-true a b e))) (λ (e : (a == b) ≡ false). e) (cases_Bool (a == b))
 
--- the counts of the classes, one value more, by each count and what is added to it
-pub class_more : (xs : List ℕ) (old new added v class c : ℕ) → class ≡ class_of v → (c ≡ class → new ≡ old + 1) → (c ≢ class → new ≡ old) → old + added ≡ in_class xs c → new + added ≡ in_class (xs ++ v ∷ []) c
-class_more xs old new added v class c class_is here others at =
+-- the counts of the classes, one value more
+pub class_more : (xs : List ℕ) (old new v class c : ℕ) → class ≡ class_of v → (c ≡ class → new ≡ old + 1) → (c ≢ class → new ≡ old) → old ≡ in_class xs c → new ≡ in_class (xs ++ v ∷ []) c
+class_more xs old new v class c class_is here others at =
     let more = count_more (λ x. class_of x == c) xs v in
     ⊎_elim
     (λ (same : c ≡ class).
@@ -47,23 +47,6 @@ class_more xs old new added v class c class_is here others at =
     let now_is = others other in
     omega (arith, more, none, now_is, at))
     (cases_eq c class)
-
--- one more value that is 0 and in no count
-pub zero_more : (xs : List ℕ) (count zeros c : ℕ) → count + cond (c == 0) zeros 0 ≡ in_class xs c → class_of 0 ≡ 0 → count + cond (c == 0) (zeros + 1) 0 ≡ in_class (xs ++ 0 ∷ []) c
-zero_more xs count zeros c at zero_is =
-    let more = count_more (λ x. class_of x == c) xs 0 in
-    ⊎_elim
-    (λ (same : c ≡ 0).
-    let one : cond {A = ℕ} (class_of 0 == c) 1 0 ≡ 1 = ap (λ b. cond {A = ℕ} b 1 0) (eq-eqb (class_of 0) c (zero_is ∙ sym same)) in
-    let was : cond {A = ℕ} (c == 0) zeros 0 ≡ zeros = ap (λ b. cond {A = ℕ} b zeros 0) (eq-eqb c 0 same) in
-    let now_is : cond {A = ℕ} (c == 0) (zeros + 1) 0 ≡ zeros + 1 = ap (λ b. cond {A = ℕ} b (zeros + 1) 0) (eq-eqb c 0 same) in
-    omega (arith, more, one, was, now_is, at))
-    (λ (other : c ≢ 0).
-    let none : cond {A = ℕ} (class_of 0 == c) 1 0 ≡ 0 = ap (λ b. cond {A = ℕ} b 1 0) (test_no (class_of 0) c (λ e. other (sym e ∙ zero_is))) in
-    let was : cond {A = ℕ} (c == 0) zeros 0 ≡ 0 = ap (λ b. cond {A = ℕ} b zeros 0) (test_no c 0 other) in
-    let now_is : cond {A = ℕ} (c == 0) (zeros + 1) 0 ≡ 0 = ap (λ b. cond {A = ℕ} b (zeros + 1) 0) (test_no c 0 other) in
-    omega (arith, more, none, was, now_is, at))
-    (cases_eq c 0)
 
 -- how many values are of a class before one
 abbrev pub before : List ℕ → ℕ → ℕ
@@ -82,13 +65,6 @@ upto_is (x ∷ xs) c =
     let e = one_class (class_of x) c in
     let rest = upto_is xs c in
     omega (arith, a, b, d, e, rest)
-
-none_before : (k : ℕ) → cond {A = ℕ} (nat_lt k 0) 1 0 ≡ 0
-none_before k = grind (arith, nat_tests)
-
-pub before_first : (xs : List ℕ) → before xs 0 ≡ 0
-before_first [] = refl
-before_first (x ∷ xs) = let a = sum_by-cons (λ (y : ℕ). cond (nat_lt (class_of y) 0) 1 0) x xs in let e = none_before (class_of x) in let rest = before_first xs in omega (arith, a, e, rest)
 
 same_test : (k c : ℕ) → cond {A = ℕ} (nat_lt k (c + 1)) 1 0 ≡ cond {A = ℕ} (nat_le k c) 1 0
 same_test k c = grind (arith, nat_tests)

@@ -1,12 +1,15 @@
 -- A link of the event's node that the event does not free, and to which it offers nothing, is as it was.
-use Rattle.std.proofs.Common.{◌≡◌, ◌≢◌, ℕ, ◌-◌, ◌<◌, ◌==◌, Bool, true, false, cond, not, List, [], ◌∷◌, length, refl, sym, ap, ◌∙◌, Some, arith, eq-eqb, eqb-true, true≢false}
+use Rattle.std.proofs.Common.{◌≡◌, ◌≢◌, ℕ, ◌-◌, ◌<◌, ◌==◌, Bool, true, false, cond, not, List, [], ◌∷◌, length, refl, sym, ap, ◌∙◌, Option, None, Some, arith, eq-eqb, eqb-true, true≢false, ⊎_elim}
+use Rattle.std.proofs.lemmas.Bool.{cases_eq}
 use Rattle.packet_chain.specs.declared.packet.Packet.{Packet}
-use Rattle.port.specs.Port.{PortState, offered_all}
+use Rattle.packet_chain.specs.Stamped.{Stamped}
+use Rattle.aqm.specs.Queue.{taken_from}
+use Rattle.port.specs.Port.{PortState, begun, taken, offered_all}
 use Rattle.scenario_image.specs.declared.parts.ScenarioParts.{ScenarioParts}
 use Rattle.scenario_image.specs.Scenario.{IsScenario}
 use Rattle.node_core.specs.declared.event.Event.{Event}
 use Rattle.node_core.specs.declared.event.Event.TheVariants.{Start, Rto, DelAck, Free, Arrive}
-use Rattle.node_core.specs.Part.{PartState}
+use Rattle.node_core.specs.Part.{PartState, link_at}
 use Rattle.node_core.specs.Row.{row}
 use Rattle.node_core.specs.TraceLine.{TraceLine}
 use Rattle.table_run.specs.State.{State, part_at, step}
@@ -17,7 +20,7 @@ use Rattle.figures.specs.declared.figures.Figures.{Figures}
 use Rattle.figures.specs.Figures.{AreOfSomeRun}
 use Rattle.figures.proofs.Freed.{freed}
 use Rattle.figures.proofs.Offerings.{Offering, start_offers, rto_offers, delack_offers, arrival_offers}
-use Rattle.figures.proofs.Passages.{grows, changed_elsewhere, offering, free_links}
+use Rattle.figures.proofs.Passages.{grows, changed_here, changed_elsewhere, offering, free_links}
 
 -- where as many were offered, nothing was done
 pub none_offered : (now : ℕ) (old new : PortState) (packets : List Packet) → new ≡ (offered_all now old packets).port → new.offered ≡ old.offered → new ≡ old
@@ -27,6 +30,14 @@ none_offered now old new (packet ∷ packets) is same =
     let at = ap (λ (q : PortState). q.offered) is in
     let long : length (packet ∷ packets) ≢ 0 = λ none. omega (arith, none) in
     absurd (omega (arith, more, at, same, long))
+
+-- a link that takes from its queue is offered nothing
+begun_offers : (now : ℕ) (port : PortState) (given : Option Stamped) → (begun now port given).port.offered ≡ port.offered
+begun_offers now port None = refl
+begun_offers now port (Some cell) = refl
+
+taken_offers : (now : ℕ) (port : PortState) → (taken now port).port.offered ≡ port.offered
+taken_offers now port = let take = taken_from port.queue now in begun_offers now (record port { queue = take.queue }) take.given
 
 not_false : (b : Bool) → not b ≡ false → b ≡ true
 not_false true is = refl
@@ -64,6 +75,20 @@ module _ (p : ScenarioParts) (is_scenario : IsScenario p) (n : ℕ) (lines : Lis
         changed_elsewhere line.key.time part.links (part_at t line.key.node).links line.acts i inside (line.key.number - 3) _ apart (free_links p is_scenario n lines s comes line t next i inside number event),
         unfreed apart (frees now_is.link (Free number)) (ap (frees now_is.link) event),
       )
+
+  -- where one is freed, no packet is offered to any
+  pub none_offered_where : (v : Event) → line.event ≡ v → is_free v ≡ true → now_is.offered ≡ was.offered
+  none_offered_where (Start flow) event free = absurd (true≢false (sym free))
+  none_offered_where (Rto flow) event free = absurd (true≢false (sym free))
+  none_offered_where (DelAck flow) event free = absurd (true≢false (sym free))
+  none_offered_where (Arrive packet) event free = absurd (true≢false (sym free))
+  none_offered_where (Free number) event free =
+      let links = free_links p is_scenario n lines s comes line t next i inside number event in
+      let index = line.key.number - 3 in
+      ⊎_elim
+      (λ (at : i ≡ index). ap (λ (q : PortState). q.offered) (changed_here line.key.time part.links (part_at t line.key.node).links line.acts i inside index _ at links) ∙ taken_offers line.key.time (link_at part.links index).port ∙ ap (λ j. (link_at part.links j).port.offered) (sym at))
+      (λ (apart : i ≢ index). ap (λ (q : PortState). q.offered) (changed_elsewhere line.key.time part.links (part_at t line.key.node).links line.acts i inside index _ apart links))
+      (cases_eq i index)
 
   pub keeps_link : counts_link i was.offered now_is line ≡ false → Keeps line.event
   keeps_link test = by_event line.event refl test

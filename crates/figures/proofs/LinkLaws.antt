@@ -27,7 +27,7 @@ use Rattle.table_run.proofs.Initial.{opened_part}
 use Rattle.table_run.proofs.RunLaws.{sound_run}
 use Rattle.table_run.proofs.Runs.{of_one_more}
 use Rattle.figures.specs.Moments.{Moment, moments, following}
-use Rattle.figures.specs.Links.{port_at, waiting_at, frees, acts_between, acts_at, dropped_in, tx_in, dropped_of, tx_of, wait_of_given, wait_in, wait_at, waits_of, SendsOne}
+use Rattle.figures.specs.Links.{port_at, waiting_at, frees, acts_between, acts_at, dropped_in, tx_in, dropped_of, tx_of, wait_of_given, wait_in, wait_at, waits_of, EachFreedOrOffered}
 use Rattle.net_machine.specs.Run.{Reached}
 use Rattle.figures.specs.declared.figures.Figures.{Figures}
 use Rattle.figures.specs.Figures.{AreOfSomeRun}
@@ -36,6 +36,7 @@ use Rattle.figures.proofs.Counts.{test_no}
 use Rattle.figures.proofs.Turns.{sum_more, given_more}
 use Rattle.figures.proofs.Steps.{IsStep, is_step, size_stays, part_elsewhere, links_stay}
 use Rattle.figures.proofs.Passages.{Passage, passage}
+use Rattle.figures.proofs.Kept.{none_offered_where}
 use Rattle.figures.proofs.Balance.{reported_once, Balanced, taken_balances, all_balance, offerings_send_one, taken_sends_given}
 
 -- what an event counts of a link
@@ -168,14 +169,17 @@ at_most_one : (wait : Option ℕ) (n : ℕ) → length (option_to_list wait) ≡
 at_most_one None n is = omega (arith, is)
 at_most_one (Some wait) n is = omega (arith, is)
 
-pub sends_one : (p : ScenarioParts) (n : ℕ) (lines : List TraceLine) (s : State) → IsScenario p → ComesTo p n lines s → (line : TraceLine) (t : State) → step s ≡ Some (line, t) → SendsOne s line t
-sends_one p n lines s is_scenario comes line t next i inside =
+freed_or_offered : (p : ScenarioParts) (n : ℕ) (lines : List TraceLine) (s : State) → IsScenario p → ComesTo p n lines s → (line : TraceLine) (t : State) → step s ≡ Some (line, t) → EachFreedOrOffered s line t
+freed_or_offered p n lines s is_scenario comes line t next i inside =
     let was = port_at s line.key.node i in
     let now_is = port_at t line.key.node i in
     let freed = frees now_is.link line.event in
     let acts = acts_between was.offered now_is line in
-    at_most_one (cond freed (wait_of_given line.key.time was) (cond (nat_lt 0 (tx_in acts)) (Some 0) None)) (tx_in acts)
-    (passes line.key.time was now_is freed acts (passage p is_scenario n lines s comes line t next i inside)).waits
+    record {
+      sends = at_most_one (cond freed (wait_of_given line.key.time was) (cond (nat_lt 0 (tx_in acts)) (Some 0) None)) (tx_in acts)
+          (passes line.key.time was now_is freed acts (passage p is_scenario n lines s comes line t next i inside)).waits;
+      offers = none_offered_where p is_scenario n lines s comes line t next i inside line.event refl;
+    }
 
-pub sends_in_run : (f : Figures) (r : Reached) (line : TraceLine) (t : State) → AreOfSomeRun f r → step r.state ≡ Some (line, t) → SendsOne r.state line t
-sends_in_run f r line t some next = sends_one some.scenario r.position some.of.lines r.state some.is_scenario some.of.comes line t next
+pub freed_or_offered_in_run : (f : Figures) (r : Reached) (line : TraceLine) (t : State) → AreOfSomeRun f r → step r.state ≡ Some (line, t) → EachFreedOrOffered r.state line t
+freed_or_offered_in_run f r line t some next = freed_or_offered some.scenario r.position some.of.lines r.state some.is_scenario some.of.comes line t next

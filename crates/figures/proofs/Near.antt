@@ -1,13 +1,13 @@
 -- A percentile that is answered is near the exact one.
-use Rattle.std.proofs.Common.{◌≡◌, ◌<◌, ◌≤◌, ◌+◌, ◌*◌, ◌^◌, ℕ, zero, suc, Bool, true, false, cond, List, [], ◌∷◌, length, sym, ap, subst, ◌∙◌, arith, ⊎_elim, All}
+use Rattle.std.proofs.Common.{◌≡◌, ◌<◌, ◌≤◌, ◌+◌, ◌-◌, ◌*◌, ◌^◌, ℕ, zero, suc, Bool, true, false, cond, List, [], ◌∷◌, length, refl, sym, ap, subst, ◌∙◌, arith, ⊎_elim, All}
 use Rattle.std.specs.Prelude.{count_by, min, nat_le, nat_lt, Contains}
 use Rattle.std.proofs.lemmas.Bool.{cases_lt, cases_Bool, leb-true, le-leb, lt-leb}
 use Rattle.std.proofs.lemmas.List.Sums.{sum_by-cons}
 use Rattle.std.proofs.lemmas.List.Elements.{All-head, All-tail, All-nil, All-cons, All-contains}
-use Rattle.figures.specs.Classes.{class_of, top_of, greatest, upto, class_from, class_at, rank_of}
+use Rattle.figures.specs.Classes.{class_of, top_of, greatest, in_class, upto, class_from, class_at, rank_of}
 use Rattle.figures.specs.Laws.{PercentilesAreNear}
 use Rattle.figures.proofs.ClassBounds.{class_rises, class_within, near_top}
-use Rattle.figures.proofs.Counts.{class_on, class_here, class_end, class_begin}
+use Rattle.figures.proofs.Counts.{upto_is, before_next, class_on, class_here, class_end, class_begin}
 
 -- a class that is lower than a value's has lower values alone
 lower_one : (x v e : ℕ) → x < 2 ^ 50 → e < class_of v → cond {A = ℕ} (nat_le (class_of x) e) 1 0 ≤ cond {A = ℕ} (nat_lt x v) 1 0
@@ -60,6 +60,56 @@ found xs rank d c (suc n) low high few enough =
     (λ (less : c < d). class_on xs rank c n (few c less) ∙ found xs rank d (c + 1) n (omega (arith, less)) (omega (arith, high)) few enough)
     (λ (last : d ≤ c). let same : c ≡ d = omega (arith, last, low) in class_here xs rank c (suc n) (subst (λ i. rank ≤ upto xs i) (sym same) enough) ∙ same)
     (cases_lt c d)
+
+-- no fewer values are up to a higher class
+upto_next : (xs : List ℕ) (c : ℕ) → upto xs (c + 1) ≡ upto xs c + in_class xs (c + 1)
+upto_next xs c = upto_is xs (c + 1) ∙ ap (λ n. n + in_class xs (c + 1)) (before_next xs c)
+
+pub upto_before : (xs : List ℕ) (c : ℕ) → 1 ≤ c → upto xs c ≡ upto xs (c - 1) + in_class xs c
+upto_before xs c some =
+    let next = upto_next xs (c - 1) in
+    let here : upto xs (c - 1 + 1) ≡ upto xs c = ap (upto xs) (omega (arith, some)) in
+    let of_it : in_class xs (c - 1 + 1) ≡ in_class xs c = ap (in_class xs) (omega (arith, some)) in
+    omega (arith, next, here, of_it)
+
+upto_rises : (xs : List ℕ) (c n : ℕ) → upto xs c ≤ upto xs (c + n)
+upto_rises xs c zero = let same : upto xs (c + 0) ≡ upto xs c = ap (upto xs) (omega arith) in omega (arith, same)
+upto_rises xs c (suc n) =
+    let rest = upto_rises xs c n in
+    let next = upto_next xs (c + n) in
+    let same : upto xs (c + suc n) ≡ upto xs (c + n + 1) = ap (upto xs) (omega arith) in
+    omega (arith, rest, next, same)
+
+-- the class is the first up to which there are enough
+pub first_enough : (xs : List ℕ) (rank c : ℕ) → c < 1472 → (1 ≤ c → upto xs (c - 1) < rank) → rank ≤ upto xs c → class_at xs rank ≡ c
+first_enough xs rank c within few enough =
+    class_begin xs rank
+    ∙ found xs rank c 0 1471 (omega arith) (omega (arith, within)) (λ e under.
+    let rises = upto_rises xs e (c - 1 - e) in
+    let same : upto xs (e + (c - 1 - e)) ≡ upto xs (c - 1) = ap (upto xs) (omega (arith, under)) in
+    let less = few (omega (arith, under)) in
+    omega (arith, rises, same, less)) enough
+
+-- all values are up to the highest class, and up to a lower one above which there is none
+all_upto : (xs : List ℕ) → All (λ x. x < 2 ^ 50) xs → upto xs 1471 ≡ length xs
+all_upto [] all = refl
+all_upto (x ∷ xs) all =
+    let a = sum_by-cons (λ (y : ℕ). cond {A = ℕ} (nat_le (class_of y) 1471) 1 0) x xs in
+    let within = class_within x (All-head (λ y. y < 2 ^ 50) x xs all) in
+    let one : cond {A = ℕ} (nat_le (class_of x) 1471) 1 0 ≡ 1 = ap (λ b. cond {A = ℕ} b 1 0) (le-leb (class_of x) 1471 (omega (arith, within))) in
+    let rest = all_upto xs (All-tail (λ y. y < 2 ^ 50) x xs all) in
+    omega (arith, a, one, rest)
+
+none_above : (xs : List ℕ) (c n : ℕ) → c + n ≡ 1471 → ((e : ℕ) → c < e → e < 1472 → 0 ≡ in_class xs e) → upto xs c ≡ upto xs 1471
+none_above xs c zero at none = ap (upto xs) (omega (arith, at))
+none_above xs c (suc n) at none =
+    let next = upto_next xs c in
+    let here = none (c + 1) (omega arith) (omega (arith, at)) in
+    let rest = none_above xs (c + 1) n (omega (arith, at)) (λ e above within. none e (omega (arith, above)) within) in
+    omega (arith, next, here, rest)
+
+pub all_below : (xs : List ℕ) (c : ℕ) → c < 1472 → All (λ x. x < 2 ^ 50) xs → ((e : ℕ) → c < e → e < 1472 → 0 ≡ in_class xs e) → upto xs c ≡ length xs
+all_below xs c within all none = none_above xs c (1471 - c) (omega (arith, within)) none ∙ all_upto xs all
 
 pub class_is : (xs : List ℕ) (rank v : ℕ) → v < 2 ^ 50 → All (λ x. x < 2 ^ 50) xs → count_by (λ x. nat_lt x v) xs < rank → rank ≤ count_by (λ x. nat_le x v) xs → class_at xs rank ≡ class_of v
 class_is xs rank v fits all below enough =

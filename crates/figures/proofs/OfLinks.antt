@@ -1,5 +1,5 @@
 -- The figures of a link, one event on.
-use Rattle.std.proofs.Common.{◌≡◌, ◌≢◌, ℕ, ◌+◌, ◌-◌, ◌*◌, ◌≤◌, Bool, true, false, cond, not, ◌||◌, ◌==◌, nat_lt, max, List, [], ◌∷◌, ◌++◌, length-append, map, refl, sym, ap, subst, ◌∙◌, arith, eq-eqb, is_some, Option, Some, None}
+use Rattle.std.proofs.Common.{◌≡◌, ◌≢◌, ℕ, ◌+◌, ◌-◌, ◌*◌, ◌≤◌, Bool, true, false, cond, not, ◌||◌, ◌==◌, nat_lt, max, List, [], ◌∷◌, ◌++◌, length, length-append, map, refl, sym, ap, subst, ◌∙◌, arith, eq-eqb, is_some, Option, Some, None}
 use Rattle.std.specs.Prelude.{option_to_list}
 use Rattle.std.proofs.Math.Nat.{mul-add, zero-mul, one-mul, mul-zero}
 use Rattle.std.proofs.lemmas.List.{map-append, append-nil}
@@ -14,7 +14,7 @@ use Rattle.figures.specs.declared.link.LinkFigures.{LinkFigures}
 use Rattle.figures.specs.Classes.{greatest}
 use Rattle.figures.specs.Moments.{Moment, Base}
 use Rattle.figures.specs.Tallied.{IsTallyOf}
-use Rattle.figures.specs.Links.{port_at, waiting_at, busy_at, frees, acts_between, wait_of_given, wait_in, wait_by, IsNextEntry, wait_at, waits_of, acts_at, dropped_in, tx_in, bytes_in, dropped_of, tx_of, bytes_of_moments, last_from, summed_over, waited_of, busy_of, IsLinkBegun, AreOfLink, IsLinkAfter}
+use Rattle.figures.specs.Links.{port_at, waiting_at, busy_at, frees, acts_between, wait_of_given, wait_in, wait_by, IsNextEntry, wait_at, waits_of, acts_at, dropped_in, tx_in, bytes_in, dropped_of, tx_of, bytes_of_moments, last_from, summed_over, waited_of, busy_of, waited_so_far, IsFew, IsLinkBegun, AreOfLink, IsLinkAfter}
 use Rattle.figures.proofs.Counts.{greatest_more, test_no}
 use Rattle.figures.proofs.Turns.{sum_more, given_more}
 
@@ -51,6 +51,16 @@ greatest_before node index ms m =
     ap greatest (map-append (λ (n : Moment). waiting_at (port_at n.before node index)) ms (m ∷ []))
     ∙ greatest_more (map (λ (n : Moment). waiting_at (port_at n.before node index)) ms) (waiting_at (port_at m.before node index))
 
+-- what so many events count at most more events do
+pub few_more : (n k : ℕ) (f : LinkFigures) → n ≤ k → IsFew n f → IsFew k f
+few_more n k f most is =
+    let lost = is.lost in
+    let full = is.full in
+    let codel = is.codel in
+    let bytes = is.bytes in
+    let waits = is.waits in
+    record { lost = omega (arith, most, lost); full = omega (arith, most, full); codel = omega (arith, most, codel); bytes = omega (arith, most, bytes); waits = omega (arith, most, waits) }
+
 -- the figures of a link before any event
 pub link_begun : (since before : ℕ) (s : State) (earlier : List Moment) (node index : ℕ) (f : LinkFigures) → IsLinkBegun since (port_at s node index) f → AreOfLink (record { since = since; state = s; before = before; earlier = earlier }) [] s node index f
 link_begun since before s earlier node index f is = record {
@@ -74,7 +84,8 @@ link_begun since before s earlier node index f is = record {
   longest = let long = is.longest in omega (arith, long);
   next_entry_is = is.next_entry_is;
   waits = is.waits;
-  turns = let none = is.turns in omega (arith, none);
+  few = (let lost = is.lost in let full = is.full in let codel = is.codel in let bytes = is.bytes in let waits = is.waits.count_is in
+      record { lost = omega (arith, lost); full = omega (arith, full); codel = omega (arith, codel); bytes = omega (arith, bytes); waits = omega (arith, waits) });
 }
   where
     nothing : (b : Bool) (n : ℕ) → n ≡ since → 0 + cond b (since - n) 0 ≡ 0
@@ -86,9 +97,9 @@ module _ (base : Base) (ms : List Moment) (s : State) (line : TraceLine) (t : St
   m = record { before = s; line = line; after = t }
 
   -- the integrals of a link's numbers
-  waited_more : (f : LinkFigures) → AreOfLink base ms s node index f → f.waited + f.waiting * (line.key.time - f.since) ≡ waited_of node index base.since (ms ++ m ∷ [])
+  waited_more : (f : LinkFigures) → AreOfLink base ms s node index f → waited_so_far f + f.waiting * (line.key.time - f.since) ≡ waited_of node index base.since (ms ++ m ∷ [])
   waited_more f is =
-      passed_on f.waited f.waiting f.since (last_from base.since ms) line.key.time is.since order
+      passed_on (waited_so_far f) f.waiting f.since (last_from base.since ms) line.key.time is.since order
       ∙ ap (λ n. n + f.waiting * (line.key.time - last_from base.since ms)) is.waited
       ∙ ap (λ w. waited_of node index base.since ms + w * (line.key.time - last_from base.since ms)) is.waiting
       ∙ sym (summed_more (λ (u : State). waiting_at (port_at u node index)) base.since ms m)
@@ -137,12 +148,12 @@ module _ (base : Base) (ms : List Moment) (s : State) (line : TraceLine) (t : St
           ∙ ap (λ list. tx_of node index ms + tx_in list) (sym acts) ∙ sym (sum_more (λ (n : Moment). tx_in (acts_at node index n)) ms m);
       bytes = after.bytes ∙ ap (λ n. n + bytes_in (acts_between f.offered (port_at t node index) line)) is.bytes
           ∙ ap (λ list. bytes_of_moments node index ms + bytes_in list) (sym acts) ∙ sym (sum_more (λ (n : Moment). bytes_in (acts_at node index n)) ms m);
-      waited = ap (λ n. g.waited + g.waiting * n) {x = last_from base.since (ms ++ m ∷ []) - g.since} {y = 0} (let at = nothing_since in omega (arith, at)) ∙ ap (λ n. g.waited + n) (mul-zero g.waiting) ∙ plus_none g.waited ∙ after.waited ∙ waited_more f is;
+      waited = ap (λ n. waited_so_far g + g.waiting * n) {x = last_from base.since (ms ++ m ∷ []) - g.since} {y = 0} (let at = nothing_since in omega (arith, at)) ∙ ap (λ n. waited_so_far g + n) (mul-zero g.waiting) ∙ plus_none (waited_so_far g) ∙ after.waited ∙ waited_more f is;
       busy_for = ap (λ n. g.busy_for + cond g.busy n 0) {x = last_from base.since (ms ++ m ∷ []) - g.since} {y = 0} (let at = nothing_since in omega (arith, at)) ∙ ap (λ n. g.busy_for + n) (either g.busy) ∙ plus_none g.busy_for ∙ after.busy_for ∙ busy_more f is;
       longest = after.longest ∙ ap (λ n. max n (waiting_at (port_at t node index))) (is.longest ∙ sym (greatest_before node index ms m));
       next_entry_is = after.next_entry_is;
       waits = subst (λ xs. IsTallyOf xs g.waits) (sym (given_more (wait_at node index) ms m ∙ ap (λ o. waits_of node index ms ++ option_to_list o) wait)) (after.waits (waits_of node index ms) is.waits);
-      turns = let count = length-append ms (m ∷ []) in let before = is.turns in let more = after.turns in omega (arith, count, before, more);
+      few = subst (λ n. IsFew n g) (sym (length-append ms (m ∷ []))) (after.few (length ms) is.few);
     }
       where
         plus_none : (n : ℕ) → n + 0 ≡ n
@@ -172,13 +183,13 @@ module _ (base : Base) (ms : List Moment) (s : State) (line : TraceLine) (t : St
       codel = none_dropped (Take Codel) f.codel is.codel;
       sent = (let more = sum_more (λ (n : Moment). tx_in (acts_at node index n)) ms m in let none : tx_in (acts_at node index m) ≡ 0 = ap tx_in no_acts in let before = is.sent in omega (arith, before, more, none));
       bytes = (let more = sum_more (λ (n : Moment). bytes_in (acts_at node index n)) ms m in let none : bytes_in (acts_at node index m) ≡ 0 = ap bytes_in no_acts in let before = is.bytes in omega (arith, before, more, none));
-      waited = ap (λ n. f.waited + f.waiting * (n - f.since)) (last_more base.since ms m) ∙ waited_more f is;
+      waited = ap (λ n. waited_so_far f + f.waiting * (n - f.since)) (last_more base.since ms m) ∙ waited_more f is;
       busy_for = ap (λ n. f.busy_for + cond f.busy (n - f.since) 0) (last_more base.since ms m) ∙ busy_more f is;
       longest = (let before = greatest_before node index ms m in let long = is.longest in let still : waiting_at (port_at t node index) ≡ waiting_at (port_at s node index) = ap (λ (p : PortState). waiting_at p) port_same in omega (arith, before, long, still));
       next_entry_is = subst (λ (p : PortState). IsNextEntry p f.next_entry) (sym port_same) is.next_entry_is;
       waits = subst (λ xs. IsTallyOf xs f.waits)
           (sym (given_more (wait_at node index) ms m ∙ ap (λ o. waits_of node index ms ++ option_to_list o) no_wait ∙ append-nil (waits_of node index ms))) is.waits;
-      turns = let count = length-append ms (m ∷ []) in let before = is.turns in omega (arith, count, before);
+      few = few_more (length ms) (length (ms ++ m ∷ [])) f (let count = length-append ms (m ∷ []) in omega (arith, count)) is.few;
     }
 
   -- an event at another node

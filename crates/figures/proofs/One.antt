@@ -11,12 +11,14 @@ use Rattle.node_core.specs.TraceLine.{TraceLine}
 use Rattle.table_run.specs.State.{State, part_at, step}
 use Rattle.table_run.proofs.Moved.{node_there}
 use Rattle.net_machine.specs.Nodes.{parts_of, node_at}
+use Rattle.figures.specs.declared.link.LinkFigures.{LinkFigures}
 use Rattle.figures.specs.declared.links.NodeLinks.{NodeLinks}
 use Rattle.figures.specs.Figures.{AreOfLinks}
-use Rattle.figures.specs.Links.{port_at, is_free, acts_between, tx_in, AreOfNode, OffersToOne, SendsOne, SendOneEach}
+use Rattle.figures.specs.Links.{port_at, is_free, IsFew, AreOfNode, OffersToOne, FreesOrOffers, EachFreedOrOffered, AllFreedOrOffered}
 use Rattle.figures.specs.Moments.{Moment, Base}
 use Rattle.figures.proofs.Begun.{part_is}
 use Rattle.figures.proofs.Offerings.{OffersTo, Offering, start_offers, rto_offers, delack_offers, arrival_offers}
+use Rattle.figures.proofs.OfLinks.{few_more}
 use Rattle.figures.proofs.Passages.{changed_elsewhere}
 use Rattle.figures.proofs.Steps.{is_step, part_here}
 
@@ -63,14 +65,20 @@ module _ (s : State) (line : TraceLine) (t : State) (next : step s ≡ Some (lin
       (λ same. one (now_is i ∙ same ∙ sym (all.each i f first).offered))
       (λ same. another (now_is j ∙ same ∙ sym (all.each j g second).offered))
 
-  -- at most one packet begins to be sent at each link, also by what was counted before
-  pub sends_each : (b : Base) (ms : List Moment) (nodes : List NodeState) → parts_of nodes ≡ t.parts → (fs old : List NodeLinks) → old ≡ fs → AreOfLinks b ms s fs → SendsOne s line t →
-      (other : NodeLinks) → line.key.node < length old → SendOneEach (get_or old line.key.node other).figures.items (node_at nodes line.key.node).part.links line
-  sends_each b ms nodes parts fs old old_is is sends other within i link inside =
+  -- a link is freed or offered packets, also by what was counted before
+  pub each_freed_or_offered : (b : Base) (ms : List Moment) (nodes : List NodeState) → parts_of nodes ≡ t.parts → (fs old : List NodeLinks) → old ≡ fs → AreOfLinks b ms s fs → EachFreedOrOffered s line t →
+      (other : NodeLinks) → line.key.node < length old → AllFreedOrOffered (get_or old line.key.node other).figures.items (node_at nodes line.key.node).part.links line
+  each_freed_or_offered b ms nodes parts fs old old_is is sends other within i link inside =
       let node = line.key.node in
       let figures = (get_or old node other).figures.items in
       let all : AreOfNode b ms s node figures =
       subst (λ (xs : List NodeLinks). AreOfNode b ms s node (get_or xs node other).figures.items) (sym old_is) (is.each node other (let same = ap length old_is in omega (arith, within, same, is.count))) in
       let now_is : port_at t node i ≡ (link_at (node_at nodes node).part.links i).port = ap (λ (p : PartState). (link_at p.links i).port) (sym (part_is nodes t node parts)) in
-      subst (λ (q : PortState). tx_in (acts_between (get_or figures i link).offered q line) ≤ 1) now_is
-      (subst (λ n. tx_in (acts_between n (port_at t node i) line) ≤ 1) (sym (all.each i link inside).offered) (sends i (omega (arith, inside, all.size))))
+      subst (λ (q : PortState). FreesOrOffers (get_or figures i link).offered q line) now_is
+      (subst (λ n. FreesOrOffers n (port_at t node i) line) (sym (all.each i link inside).offered) (sends i (omega (arith, inside, all.size))))
+
+-- what is counted of each link is no more than what 10^15 events count
+pub few_each : (b : Base) (ms : List Moment) (s : State) (fs : List NodeLinks) → AreOfLinks b ms s fs → length ms ≤ 1000000000000000 →
+    (node : ℕ) (other : NodeLinks) (i : ℕ) (link : LinkFigures) → node < length fs → i < length (get_or fs node other).figures.items → IsFew 1000000000000000 (get_or (get_or fs node other).figures.items i link)
+few_each b ms s fs is most node other i link within inside =
+    few_more (length ms) 1000000000000000 (get_or (get_or fs node other).figures.items i link) most ((is.each node other (omega (arith, within, is.count))).each i link inside).few

@@ -75,7 +75,7 @@ module _ (now : ℕ) (links links' : List LinkState) (acts : List Act) (i : ℕ)
   abbrev new : PortState
   new = (link_at links' i).port
 
-  changed_here : (index : ℕ) (port : PortState) → i ≡ index → links' ≡ set links index (record (link_at links index) { port = port }) → new ≡ port
+  pub changed_here : (index : ℕ) (port : PortState) → i ≡ index → links' ≡ set links index (record (link_at links index) { port = port }) → new ≡ port
   changed_here index port at are =
       ap (λ (ls : List LinkState). (link_at ls i).port) are ∙ ap (λ j. (link_at (set links index (record (link_at links index) { port = port })) j).port) at
       ∙ ap (λ (l : LinkState). l.port) (get_or-set_same links index (record (link_at links index) { port = port }) no_link (subst (λ j. j < length links) at inside))

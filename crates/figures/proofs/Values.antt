@@ -1,8 +1,7 @@
 -- What a tally tells of its values.
 use Rattle.std.proofs.Common.{◌≡◌, ◌<◌, ◌-◌, ◌^◌, ℕ, List, [], ◌∷◌, length, refl, ap, ◌∙◌, Some, None, arith, All}
-use Rattle.std.specs.Prelude.{min}
 use Rattle.std.proofs.lemmas.List.Elements.{All-head}
-use Rattle.figures.specs.Classes.{least_from, least_of, greatest, greatest_of, percentile, top_of, class_at, rank_of}
+use Rattle.figures.specs.Classes.{least_from, least_of, greatest, greatest_of}
 use Rattle.figures.proofs.Counts.{least_of_bound}
 
 pub none_least : (xs : List ℕ) → length xs ≡ 0 → None ≡ least_of xs
@@ -13,10 +12,6 @@ pub none_greatest : (xs : List ℕ) → length xs ≡ 0 → None ≡ greatest_of
 none_greatest [] e = refl
 none_greatest (x ∷ xs) e = absurd (omega (arith, e))
 
-pub none_percentile : (percent : ℕ) (xs : List ℕ) → length xs ≡ 0 → None ≡ percentile percent xs
-none_percentile percent [] e = refl
-none_percentile percent (x ∷ xs) e = absurd (omega (arith, e))
-
 pub some_least : (xs : List ℕ) (least : ℕ) → (length xs ≡ 0 → ⊥) → All (λ x. x < 2 ^ 50) xs → least ≡ least_from (2 ^ 64 - 1) xs → Some least ≡ least_of xs
 some_least [] least some below is = absurd (some refl)
 some_least (x ∷ xs) least some below is = let under = All-head (λ y. y < 2 ^ 50) x xs below in ap Some (is ∙ least_of_bound (2 ^ 64 - 1) x xs (omega (arith, under)))
@@ -24,7 +19,3 @@ some_least (x ∷ xs) least some below is = let under = All-head (λ y. y < 2 ^ 
 pub some_greatest : (xs : List ℕ) (most : ℕ) → (length xs ≡ 0 → ⊥) → most ≡ greatest xs → Some most ≡ greatest_of xs
 some_greatest [] most some is = absurd (some refl)
 some_greatest (x ∷ xs) most some is = ap Some is
-
-pub some_percentile : (percent : ℕ) (xs : List ℕ) (class top most rank count answer : ℕ) → (length xs ≡ 0 → ⊥) → count ≡ length xs → rank ≡ rank_of percent count → class ≡ class_at xs rank → top ≡ top_of class → most ≡ greatest xs → answer ≡ min top most → Some answer ≡ percentile percent xs
-some_percentile percent [] class top most rank count answer some a b c d e f = absurd (some refl)
-some_percentile percent (x ∷ xs) class top most rank count answer some a b c d e f = ap Some (f ∙ ap (λ t. min t most) (d ∙ ap top_of (c ∙ ap (class_at (x ∷ xs)) (b ∙ ap (rank_of percent) a))) ∙ ap (min (top_of (class_at (x ∷ xs) (rank_of percent (length (x ∷ xs)))))) e)

@@ -1,5 +1,5 @@
 -- Percentiles without every value: values are counted in classes, 32 for each doubling.
-use Rattle.std.specs.Prelude.{◌+◌, ◌-◌, ◌*◌, ◌/◌, ◌^◌, ◌==◌, ℕ, zero, suc, min, max, nat_le, if◌then◌else◌, List, [], ◌∷◌, length, slice_index, count_by, Option, Some, None}
+use Rattle.std.specs.Prelude.{◌+◌, ◌-◌, ◌*◌, ◌/◌, ◌^◌, ◌==◌, ℕ, zero, suc, min, max, nat_le, if◌then◌else◌, List, [], ◌∷◌, length, count_by, Option, Some, None}
 use Rattle.std.specs.Int.{div_ceil}
 use Rattle.std.specs.Int.Count.{count_leading_zeros}
 
@@ -18,10 +18,6 @@ top_of c = (c - 32 * (c / 32 - 1) + 1) * 2 ^ (c / 32 - 1) - 1
 -- how many values are of a class
 abbrev pub in_class : List ℕ → ℕ → ℕ
 in_class xs c = count_by (λ x. class_of x == c) xs
-
--- the same by the counts of the classes, beside which so many more values are 0
-abbrev pub count_in : ℕ → List ℕ → ℕ → ℕ
-count_in zeros counts c = slice_index counts c + (if c == 0 then zeros else 0)
 
 -- how many values are of a class up to this one
 abbrev pub upto : List ℕ → ℕ → ℕ

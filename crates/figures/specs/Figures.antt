@@ -16,7 +16,7 @@ use Rattle.figures.specs.Moments.{Moment, Base, moments, turns_at}
 use Rattle.figures.specs.declared.links.NodeLinks.{NodeLinks}
 use Rattle.figures.specs.Turns.{Keeps}
 use Rattle.figures.specs.Senders.{AreOfTurns}
-use Rattle.figures.specs.Links.{last_from, SendsOne, AreOfNode}
+use Rattle.figures.specs.Links.{last_from, EachFreedOrOffered, AreOfNode}
 
 -- what is counted of a node's sender, and the sender's fields now
 pub record IsOfNode (b : Base) (ms : List Moment) (s : State) (node : ℕ) (f : SenderFigures) : Type 0 where
@@ -53,7 +53,7 @@ pub record Follows (f : Figures) (line : TraceLine) (after : State) : Type 0 whe
   pub before : State
   pub figures : AreFigures base so_far before f
   pub next : step before ≡ Some (line, after)
-  pub sends : SendsOne before line after
+  pub sends : EachFreedOrOffered before line after
 
 -- where a run is counted from a moment on that has come here
 abbrev pub base_at : ScenarioParts → ℕ → Reached → Base

@@ -1,5 +1,5 @@
 -- What is counted of a link, over the events of a run.
-use Rattle.std.specs.Prelude.{◌≡◌, ◌≢◌, ◌+◌, ◌-◌, ◌*◌, ◌==◌, ◌||◌, ◌≤◌, ◌<◌, ℕ, Bool, true, false, not, max, nat_lt, if◌then◌else◌, List, [], ◌∷◌, ◌++◌, length, map, count_by, is_some, slice_index_or, Option, Some, None, IfSome, option_to_list}
+use Rattle.std.specs.Prelude.{◌≡◌, ◌≢◌, ◌+◌, ◌-◌, ◌*◌, ◌^◌, ◌==◌, ◌||◌, ◌≤◌, ◌<◌, ℕ, Bool, true, false, not, max, nat_lt, if◌then◌else◌, List, [], ◌∷◌, ◌++◌, length, map, count_by, is_some, slice_index_or, Option, Some, None, IfSome, option_to_list}
 use Rattle.std.specs.List.{sum_by, filter_map}
 use Rattle.std.specs.Option.{option_map}
 use Rattle.sim_time.specs.Moment.{IsMoment}
@@ -138,10 +138,14 @@ KeepsLinks before line after =
     (i : ℕ) → i < length (part_at before line.key.node).links → counts_link i (port_at before line.key.node i).offered (port_at after line.key.node i) line ≡ false →
     (port_at after line.key.node i ≡ port_at before line.key.node i) × (frees (port_at after line.key.node i).link line.event ≡ false)
 
--- at each link of an event's node at most one packet begins to be sent
-abbrev pub SendsOne : State → TraceLine → State → Type 0
-SendsOne before line after =
-    (i : ℕ) → i < length (part_at before line.key.node).links → tx_in (acts_between (port_at before line.key.node i).offered (port_at after line.key.node i) line) ≤ 1
+-- at most one packet begins to be sent at a link of an event's node, and where the event frees one none is offered to any
+pub record FreesOrOffers (offered : ℕ) (after : PortState) (line : TraceLine) : Type 0 where
+  pub sends : tx_in (acts_between offered after line) ≤ 1
+  pub offers : is_free line.event ≡ true → after.offered ≡ offered
+
+abbrev pub EachFreedOrOffered : State → TraceLine → State → Type 0
+EachFreedOrOffered before line after =
+    (i : ℕ) → i < length (part_at before line.key.node).links → FreesOrOffers (port_at before line.key.node i).offered (port_at after line.key.node i) line
 
 -- when the last event was run; an earlier moment before the first
 abbrev pub last_from : ℕ → List Moment → ℕ
@@ -164,6 +168,18 @@ busy_of node index since ms = summed_over (λ s. busy_at (port_at s node index))
 abbrev pub longest_of : ℕ → ℕ → List Moment → State → ℕ
 longest_of node index ms s = max (greatest (map (λ m. waiting_at (port_at m.before node index)) ms)) (waiting_at (port_at s node index))
 
+-- what so many events count of a link at most
+pub record IsFew (n : ℕ) (f : LinkFigures) : Type 0 where
+  pub lost : f.lost ≤ n * 2 ^ 64
+  pub full : f.full ≤ n * 2 ^ 64
+  pub codel : f.codel ≤ n * 2 ^ 64
+  pub bytes : f.bytes ≤ n * 9040
+  pub waits : f.waits.count ≤ n
+
+-- how many packets waited, times how long, by both parts of that count
+abbrev pub waited_so_far : LinkFigures → ℕ
+waited_so_far f = f.waited_before + f.waited
+
 -- nothing is counted yet of a link, from a moment on
 pub record IsLinkBegun (from : ℕ) (port : PortState) (f : LinkFigures) : Type 0 where
   pub first : f.first ≡ port.offered
@@ -175,12 +191,11 @@ pub record IsLinkBegun (from : ℕ) (port : PortState) (f : LinkFigures) : Type 
   pub full : f.full ≡ 0
   pub codel : f.codel ≡ 0
   pub bytes : f.bytes ≡ 0
-  pub waited : f.waited ≡ 0
+  pub waited : waited_so_far f ≡ 0
   pub busy_for : f.busy_for ≡ 0
   pub longest : f.longest ≡ waiting_at port
   pub next_entry_is : IsNextEntry port f.next_entry
   pub waits : IsTallyOf [] f.waits
-  pub turns : f.turns ≡ 0
 
 -- the figures are those of a link after these events from a base on, the last state being s; what has passed since they were read last is added to the two that count time
 pub record AreOfLink (b : Base) (ms : List Moment) (s : State) (node index : ℕ) (f : LinkFigures) : Type 0 where
@@ -192,14 +207,14 @@ pub record AreOfLink (b : Base) (ms : List Moment) (s : State) (node index : ℕ
   pub lost : f.lost ≡ dropped_of Lost node index ms
   pub full : f.full ≡ dropped_of Full node index ms
   pub codel : f.codel ≡ dropped_of (Take Codel) node index ms
-  pub sent : f.waits.zeros + f.waits.count ≡ tx_of node index ms
+  pub sent : f.waits.count ≡ tx_of node index ms
   pub bytes : f.bytes ≡ bytes_of_moments node index ms
-  pub waited : f.waited + f.waiting * (last_from b.since ms - f.since) ≡ waited_of node index b.since ms
+  pub waited : waited_so_far f + f.waiting * (last_from b.since ms - f.since) ≡ waited_of node index b.since ms
   pub busy_for : f.busy_for + (if f.busy then last_from b.since ms - f.since else 0) ≡ busy_of node index b.since ms
   pub longest : f.longest ≡ longest_of node index ms s
   pub next_entry_is : IsNextEntry (port_at s node index) f.next_entry
   pub waits : IsTallyOf (waits_of node index ms) f.waits
-  pub turns : f.turns ≤ length ms
+  pub few : IsFew (length ms) f
 
 -- a moment has come, and the link is now as it is
 pub record IsPassed (f : LinkFigures) (port : PortState) (now : ℕ) (g : LinkFigures) : Type 0 where
@@ -208,7 +223,7 @@ pub record IsPassed (f : LinkFigures) (port : PortState) (now : ℕ) (g : LinkFi
   pub waiting : g.waiting ≡ waiting_at port
   pub busy : g.busy ≡ is_some port.next_free
   pub since : g.since ≡ now
-  pub waited : g.waited ≡ f.waited + f.waiting * (now - f.since)
+  pub waited : waited_so_far g ≡ waited_so_far f + f.waiting * (now - f.since)
   pub busy_for : g.busy_for ≡ f.busy_for + (if f.busy then now - f.since else 0)
   pub longest : g.longest ≡ max f.longest (waiting_at port)
   pub next_entry_is : IsNextEntry port g.next_entry
@@ -217,7 +232,6 @@ pub record IsPassed (f : LinkFigures) (port : PortState) (now : ℕ) (g : LinkFi
   pub codel : g.codel ≡ f.codel
   pub bytes : g.bytes ≡ f.bytes
   pub waits : g.waits ≡ f.waits
-  pub turns : g.turns ≡ f.turns
 
 -- an event at its node with these acts at the link is counted, and no time
 pub record IsCountedOf (f : LinkFigures) (acts : List Act) (g : LinkFigures) : Type 0 where
@@ -226,12 +240,12 @@ pub record IsCountedOf (f : LinkFigures) (acts : List Act) (g : LinkFigures) : T
   pub full : g.full ≡ f.full + dropped_in Full acts
   pub codel : g.codel ≡ f.codel + dropped_in (Take Codel) acts
   pub bytes : g.bytes ≡ f.bytes + bytes_in acts
-  pub turns : g.turns ≡ f.turns + 1
+  pub few : (n : ℕ) → IsFew n f → IsFew (n + 1) g
   pub offered : g.offered ≡ f.offered
   pub waiting : g.waiting ≡ f.waiting
   pub busy : g.busy ≡ f.busy
   pub since : g.since ≡ f.since
-  pub waited : g.waited ≡ f.waited
+  pub waited : waited_so_far g ≡ waited_so_far f
   pub busy_for : g.busy_for ≡ f.busy_for
   pub longest : g.longest ≡ f.longest
   pub next_entry_is : g.next_entry ≡ f.next_entry
@@ -247,14 +261,14 @@ pub record IsLinkCounted (f : LinkFigures) (port : PortState) (now : ℕ) (acts 
   pub lost : g.lost ≡ f.lost + dropped_in Lost acts
   pub full : g.full ≡ f.full + dropped_in Full acts
   pub codel : g.codel ≡ f.codel + dropped_in (Take Codel) acts
-  pub sent : g.waits.zeros + g.waits.count ≡ f.waits.zeros + f.waits.count + tx_in acts
+  pub sent : g.waits.count ≡ f.waits.count + tx_in acts
   pub bytes : g.bytes ≡ f.bytes + bytes_in acts
-  pub waited : g.waited ≡ f.waited + f.waiting * (now - f.since)
+  pub waited : waited_so_far g ≡ waited_so_far f + f.waiting * (now - f.since)
   pub busy_for : g.busy_for ≡ f.busy_for + (if f.busy then now - f.since else 0)
   pub longest : g.longest ≡ max f.longest (waiting_at port)
   pub next_entry_is : IsNextEntry port g.next_entry
   pub waits : (xs : List ℕ) → IsTallyOf xs f.waits → IsTallyOf (xs ++ option_to_list wait) g.waits
-  pub turns : g.turns ≡ f.turns + 1
+  pub few : (n : ℕ) → IsFew n f → IsFew (n + 1) g
 
 -- what a link's figures are after an event at its node
 abbrev pub IsLinkAfter : LinkFigures → PortState → TraceLine → LinkFigures → Type 0
@@ -286,8 +300,8 @@ AreOffersCounted old links line new =
     (i : ℕ) (other : LinkFigures) → i < length old → IsLinkAfterIf (not ((link_at links i).port.offered == (slice_index_or old i other).offered)) (slice_index_or old i other) (link_at links i).port line (slice_index_or new i other)
 
 -- the same by what was counted of the links before
-abbrev pub SendOneEach : List LinkFigures → List LinkState → TraceLine → Type 0
-SendOneEach figures links line = (i : ℕ) (other : LinkFigures) → i < length figures → tx_in (acts_between (slice_index_or figures i other).offered (link_at links i).port line) ≤ 1
+abbrev pub AllFreedOrOffered : List LinkFigures → List LinkState → TraceLine → Type 0
+AllFreedOrOffered figures links line = (i : ℕ) (other : LinkFigures) → i < length figures → FreesOrOffers (slice_index_or figures i other).offered (link_at links i).port line
 
 -- to the link of a node of this index as many packets were offered as was counted before, or others
 abbrev pub IsUnoffered : List LinkFigures → List LinkState → ℕ → Type 0

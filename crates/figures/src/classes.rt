@@ -1,9 +1,6 @@
 //! Classes of values: one for each value below 64, and 32 for each doubling from there on.
-ghost use Rattle.std.specs.Prelude.{◌≡◌, ◌+◌, ◌<◌, ◌^◌, ℕ, List, slice_index};
-ghost use Rattle.figures.specs.Classes.{class_of as class_is, top_of as top_is, class_at as class_at_rank, in_class, count_in};
-
-/// How many classes there are of values below 2^50.
-pub const CLASSES: usize = 1472;
+ghost use Rattle.std.specs.Prelude.{◌≡◌, ◌<◌, ◌≤◌, ◌^◌, ℕ, List, length, slice_index, All};
+ghost use Rattle.figures.specs.Classes.{class_of as class_is, top_of as top_is, class_at as class_at_rank, in_class};
 
 /// The class of a value below 2^50.
 #[inline(always)]
@@ -25,39 +22,20 @@ pub fn top_of(class: usize) -> u64
     (((class - 32 * halvings + 1) as u64) << halvings) - 1
 }
 
-// How many values are of a class by its count: none of one past those that are counted.
-fn counted(counts: &[u64], class: usize) -> u64
-    ensures { result ≡ slice_index counts.now class }
-{
-    match counts.get(class) {
-        Some(count) => *count,
-        None => 0,
-    }
-}
-
-// How many values are of a class, beside whose counts so many more are 0.
-fn count_of(zeros: u64, counts: &[u64], class: usize) -> u64
-    requires { zeros + slice_index counts.now class < 2 ^ 63 }
-    ensures { result ≡ count_in zeros counts.now class }
-{
-    let count = counted(counts, class);
-    if class == 0 { count + zeros } else { count }
-}
-
-/// The class in which the value of a rank lies, counted from 1, by how many values are of each class and how many
-/// more are 0.
-pub fn class_at(zeros: u64, counts: &[u64], rank: u64) -> usize
-    requires few { (c : ℕ) → zeros + slice_index counts.now c < 2 ^ 63 }
-    ensures class { (xs : List ℕ) → ((c : ℕ) → c < 1472 → count_in zeros counts.now c ≡ in_class xs c) → result ≡ class_at_rank xs rank }
+/// The class in which the value of a rank lies, counted from 1, by how many values there are and how many of them are of
+/// each class but the lowest. The search goes down, since most ranks that are asked for lie near the greatest value.
+pub fn class_at(count: u64, counts: &[u64], rank: u64) -> usize
+    requires size { length counts.now ≤ 1472 }
+    requires rank { rank ≤ count }
+    ensures class { (xs : List ℕ) → count ≡ length xs → All (λ x. x < 2 ^ 50) xs → ((c : ℕ) → 1 ≤ c → c < 1472 → slice_index counts.now c ≡ in_class xs c) → result ≡ class_at_rank xs rank }
     ensures within { result < 1472 }
 {
-    let mut left = rank;
-    for class in 0..CLASSES - 1 {
-        let count = count_of(zeros, counts, class);
-        if left <= count {
+    let mut upto = count;
+    for class in (1..counts.len()).rev() {
+        upto = upto.saturating_sub(counts[class]);
+        if upto < rank {
             return class;
         }
-        left -= count;
     }
-    CLASSES - 1
+    0
 }

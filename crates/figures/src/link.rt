@@ -9,22 +9,21 @@ use port::Port;
 use sim_time::Time;
 use std::alloc::Global;
 
-/// What is counted of a link. Its fields lie in memory as here: `waited`, which is written where packets wait, then what
-/// each event writes, then what is written where a packet is sent, and at the end what few events write.
+/// What is counted of a link. Its fields lie in memory as here: `offered`, which is written where packets are offered,
+/// then what each event writes, then what is written where a packet is sent, and at the end what few events write. What
+/// one event writes lies in 80 bytes.
 #[derive(Drop)]
 pub struct LinkFigures {
-    /// How many packets waited, times for how many nanoseconds, up to when that was read last.
-    pub waited: u128,
     /// How many packets were offered to it.
     pub offered: u128,
+    /// How many packets waited, times for how many nanoseconds, up to when that was read last, behind `waited_before`.
+    pub waited: u64,
+    /// For how many nanoseconds it was busy, up to then.
+    pub busy_for: u64,
     /// When these were read last, in nanoseconds.
     pub since: Time,
     /// When the packet entered its queue, in nanoseconds, that it is given once it is free, if it is given one.
     pub next_entry: Time,
-    /// For how many nanoseconds it was busy, up to then.
-    pub busy_for: u64,
-    /// How many events were run at its node.
-    pub turns: u64,
     /// The bytes of the packets that began to be sent.
     pub bytes: u64,
     /// How many packets wait at it.
@@ -36,6 +35,8 @@ pub struct LinkFigures {
     /// For how long each packet waited that began to be sent, in nanoseconds: 0 where it was sent
     /// as it was offered.
     pub waits: Tally,
+    /// How many packets waited, times for how long, before the rest would have passed 2^64.
+    pub waited_before: u128,
     /// How many packets were offered to it before it was counted.
     pub first: u128,
     /// How many packets were dropped, as the list of lost packets names them.
@@ -44,13 +45,8 @@ pub struct LinkFigures {
     pub full: u128,
     /// How many packets CoDel dropped.
     pub codel: u128,
-    ghost lost_most: { lost ≤ turns * 2 ^ 64 },
-    ghost full_most: { full ≤ turns * 2 ^ 64 },
-    ghost codel_most: { codel ≤ turns * 2 ^ 64 },
-    ghost bytes_most: { bytes ≤ turns * 9040 },
-    ghost waited_most: { waited ≤ since * 2 ^ 64 },
+    ghost waited_most: { waited_before + waited ≤ since * 2 ^ 64 },
     ghost busy_most: { busy_for ≤ since },
-    ghost waits_most: { waits.zeros + waits.count ≤ turns },
 }
 
 // For how long a link was busy of so many nanoseconds: for all of them, or not at all.
@@ -94,13 +90,20 @@ fn note_busy(busy_for: &mut u64, busy: bool, passed: Time)
 // How many packets waited, times for how many nanoseconds, with so many more for so many more. Most often
 // none waits.
 #[inline(always)]
-fn note_waiting(waited: &mut u128, waiting: u16, passed: Time)
-    requires { waited.old + passed * 2 ^ 64 < 2 ^ 127 }
-    ensures value { waited.new ≡ waited.old + waiting * passed }
-    ensures most { waited.new ≤ waited.old + passed * 2 ^ 64 }
+fn note_waiting(waited: &mut u64, before: &mut u128, waiting: u16, passed: Time)
+    requires { before.old + waited.old + passed * 2 ^ 64 < 2 ^ 127 }
+    ensures value { before.new + waited.new ≡ before.old + waited.old + waiting * passed }
+    ensures most { before.new + waited.new ≤ before.old + waited.old + passed * 2 ^ 64 }
 {
     if waiting != 0 {
-        *waited += area(waiting, passed);
+        let sum = u128::from(*waited) + area(waiting, passed);
+        match u64::try_from(sum) {
+            Ok(sum) => *waited = sum,
+            Err(_) => {
+                *before += sum;
+                *waited = 0;
+            }
+        }
     }
 }
 
@@ -109,24 +112,24 @@ impl LinkFigures {
     ghost use Rattle.node_core.specs.TraceLine.{shown};
     ghost use Rattle.port.specs.declared.acts.Act.{Act};
     ghost use Rattle.figures.specs.Classes.{class_of};
-    ghost use Rattle.figures.specs.Links.{acts_between, is_free, tx_in, IsSentAlone, IsCountedOf, IsPassed, IsLinkCounted, IsLinkBegun, IsLinkAfter};
+    ghost use Rattle.figures.specs.Links.{acts_between, is_free, tx_in, waited_so_far, IsSentAlone, IsFew, IsCountedOf, IsPassed, IsLinkCounted, IsLinkBegun, IsLinkAfter};
 
     /// Nothing is counted yet of a link, which is from a moment on.
     pub fn new(alloc: Global, port: &Port, since: Time) -> LinkFigures
         ensures { IsLinkBegun since port.now result }
     {
         LinkFigures {
-            waited: 0,
             offered: port.offered(),
+            waited: 0,
+            busy_for: 0,
             since,
             next_entry: next_entry(port),
-            busy_for: 0,
-            turns: 0,
             bytes: 0,
             waiting: waiting_at(port),
             longest: waiting_at(port),
             busy: port.next_free().is_some(),
             waits: Tally::new(alloc),
+            waited_before: 0,
             first: port.offered(),
             lost: 0,
             full: 0,
@@ -136,13 +139,12 @@ impl LinkFigures {
 
     // One more event was run at its node, with these acts at it; answers how many packets began to be sent.
     fn count(&mut self, acts: &[Act]) -> u64
-        requires few { self.old.turns < 1000000000000000 }
+        requires few { IsFew 1000000000000000 self.old }
         requires one { tx_in acts.now ≤ 1 }
         ensures sent { result ≡ tx_in acts.now }
         ensures counted { IsCountedOf self.old acts.now self.new }
     {
         let reported = reported_by(acts);
-        self.turns += 1;
         self.lost += u128::from(reported.lost);
         self.full += u128::from(reported.full);
         self.codel += u128::from(reported.codel);
@@ -152,7 +154,7 @@ impl LinkFigures {
 
     // One more event was run at its node, of which the line tells.
     fn count_at(&mut self, port: &Port, line: &Line) -> u64
-        requires few { self.old.turns < 1000000000000000 }
+        requires few { IsFew 1000000000000000 self.old }
         requires one { tx_in (acts_between self.old.offered port.now (shown line.now)) ≤ 1 }
         ensures sent { result ≡ tx_in (acts_between self.old.offered port.now (shown line.now)) }
         ensures counted { IsCountedOf self.old (acts_between self.old.offered port.now (shown line.now)) self.new }
@@ -164,48 +166,53 @@ impl LinkFigures {
         }
     }
 
-    // A moment has come, and it is `port` now.
+    // A moment has come, and it is `port` now, to which as many packets were offered.
     #[inline(always)]
     fn pass(&mut self, port: &Port, now: Time)
         requires moment { IsMoment now }
         requires order { self.old.since ≤ now }
+        requires offered { port.now.offered ≡ self.old.offered }
         ensures { IsPassed self.old port.now now self.new }
     {
         let passed = now - self.since;
         self.since = now;
-        note_waiting(&mut self.waited, self.waiting, passed);
+        note_waiting(
+            &mut self.waited,
+            &mut self.waited_before,
+            self.waiting,
+            passed,
+        );
         note_busy(&mut self.busy_for, self.busy, passed);
-        self.offered = port.offered();
         self.waiting = waiting_at(port);
         self.busy = port.next_free().is_some();
         note_longest(&mut self.longest, self.waiting);
         note_entry(&mut self.next_entry, port);
     }
 
-    // One more event was run at its node at a moment, which did nothing at it, and it is `port` now.
+    // One more event was run at its node at a moment, which sent and dropped nothing at it, and it is `port` now.
     #[inline(always)]
     fn count_none(&mut self, port: &Port, now: Time)
-        requires few { self.old.turns < 1000000000000000 }
         requires moment { IsMoment now }
         requires order { self.old.since ≤ now }
         ensures { IsLinkCounted self.old port.now now [] None self.new }
     {
-        self.turns += 1;
+        self.offered = port.offered();
         self.pass(port, now);
     }
 
-    // The same of an event at which a packet of so many bytes began to be sent, which is all that it did at it.
+    // The same of an event at which a packet of so many bytes began to be sent from the queue, which is all that it did
+    // at it.
     #[inline(always)]
     fn count_sent(&mut self, port: &Port, now: Time, bytes: u64, wait: Time)
-        requires few { self.old.turns < 1000000000000000 }
+        requires few { IsFew 1000000000000000 self.old }
         requires moment { IsMoment now }
         requires order { self.old.since ≤ now }
+        requires offered { port.now.offered ≡ self.old.offered }
         requires bytes { bytes ≤ 9040 }
         requires wait { wait < 2 ^ 50 }
         requires known { class_of wait < length self.old.waits.counts.items }
         ensures { (acts : List Act) → IsSentAlone acts bytes → IsLinkCounted self.old port.now now acts (Some wait) self.new }
     {
-        self.turns += 1;
         self.bytes += bytes;
         self.waits.note_known(wait);
         self.pass(port, now);
@@ -214,15 +221,15 @@ impl LinkFigures {
     // The same, where the packet is sent as it was offered.
     #[inline(always)]
     fn count_at_once(&mut self, port: &Port, now: Time, bytes: u64)
-        requires few { self.old.turns < 1000000000000000 }
+        requires few { IsFew 1000000000000000 self.old }
         requires moment { IsMoment now }
         requires order { self.old.since ≤ now }
         requires bytes { bytes ≤ 9040 }
         ensures { (acts : List Act) → IsSentAlone acts bytes → IsLinkCounted self.old port.now now acts (Some 0) self.new }
     {
-        self.turns += 1;
         self.bytes += bytes;
         self.waits.note_zero();
+        self.offered = port.offered();
         self.pass(port, now);
     }
 
@@ -230,7 +237,7 @@ impl LinkFigures {
     #[cold]
     #[inline(never)]
     pub fn after(&mut self, port: &Port, line: &Line)
-        requires few { self.old.turns < 1000000000000000 }
+        requires few { IsFew 1000000000000000 self.old }
         requires moment { IsMoment line.now.key.time }
         requires order { self.old.since ≤ line.now.key.time }
         requires one { tx_in (acts_between self.old.offered port.now (shown line.now)) ≤ 1 }
@@ -239,6 +246,7 @@ impl LinkFigures {
         let sent = self.count_at(port, line);
         let wait = wait_by(port, line, sent, self.next_entry);
         self.waits.note_some(wait);
+        self.offered = port.offered();
         self.pass(port, line.key.time);
     }
 
@@ -246,9 +254,10 @@ impl LinkFigures {
     /// begins to be sent.
     #[inline(never)]
     pub fn after_free(&mut self, port: &Port, line: &Line)
-        requires few { self.old.turns < 1000000000000000 }
+        requires few { IsFew 1000000000000000 self.old }
         requires moment { IsMoment line.now.key.time }
         requires order { self.old.since ≤ line.now.key.time }
+        requires offered { port.now.offered ≡ self.old.offered }
         requires one { tx_in (acts_between self.old.offered port.now (shown line.now)) ≤ 1 }
         ensures { IsLinkAfter self.old port.now (shown line.now) self.new }
     {
@@ -272,7 +281,7 @@ impl LinkFigures {
     /// The same where the event frees no link and has offered packets to this one.
     #[inline(never)]
     pub fn after_offers(&mut self, port: &Port, line: &Line)
-        requires few { self.old.turns < 1000000000000000 }
+        requires few { IsFew 1000000000000000 self.old }
         requires moment { IsMoment line.now.key.time }
         requires order { self.old.since ≤ line.now.key.time }
         requires other { is_free line.now.event ≡ false }
@@ -296,9 +305,9 @@ impl LinkFigures {
     pub fn waited_by(&self, end: Time) -> u128
         requires moment { IsMoment end }
         requires order { self.now.since ≤ end }
-        ensures { result ≡ self.now.waited + self.now.waiting * (end - self.now.since) }
+        ensures { result ≡ waited_so_far self.now + self.now.waiting * (end - self.now.since) }
     {
-        self.waited + area(self.waiting, end - self.since)
+        self.waited_before + u128::from(self.waited) + area(self.waiting, end - self.since)
     }
 
     /// For how many nanoseconds it was busy, up to a moment.

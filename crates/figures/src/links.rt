@@ -6,7 +6,7 @@ ghost use Rattle.node_core.specs.TraceLine.{shown};
 ghost use Rattle.net_machine.specs.Nodes.{node_at};
 ghost use Rattle.figures.specs.declared.link.LinkFigures.{LinkFigures};
 ghost use Rattle.figures.specs.declared.links.NodeLinks.{NodeLinks};
-ghost use Rattle.figures.specs.Links.{is_free as free_is, IsLinkAfterIf, AreLinksBegun, AreLinksAfter, OffersToOne, AreOffersCounted, IsOffered, IsUnoffered, IsFound, SendOneEach};
+ghost use Rattle.figures.specs.Links.{is_free as free_is, IsFew, IsLinkAfterIf, AreLinksBegun, AreLinksAfter, OffersToOne, AreOffersCounted, IsOffered, IsUnoffered, IsFound, AllFreedOrOffered};
 
 use crate::exits::LastLinks;
 use crate::link::LinkFigures;
@@ -49,10 +49,11 @@ pub(crate) fn is_free(event: &Event) -> bool
 #[inline(always)]
 fn freed_after(figures: &mut [LinkFigures], links: &[Link], line: &Line)
     requires size { length figures.old ≡ length links.now }
-    requires few { (i : ℕ) (other : LinkFigures) → i < length figures.old → (slice_index_or figures.old i other).turns < 1000000000000000 }
+    requires few { (i : ℕ) (other : LinkFigures) → i < length figures.old → IsFew 1000000000000000 (slice_index_or figures.old i other) }
     requires moment { IsMoment line.now.key.time }
     requires order { (i : ℕ) (other : LinkFigures) → i < length figures.old → (slice_index_or figures.old i other).since ≤ line.now.key.time }
-    requires sends { SendOneEach figures.old links.now (shown line.now) }
+    requires sends { AllFreedOrOffered figures.old links.now (shown line.now) }
+    requires free { free_is line.now.event ≡ true }
     ensures size_stays { length figures.new ≡ length figures.old }
     ensures figures { (i : ℕ) (other : LinkFigures) → i < length figures.old → IsLinkAfterIf (i == line.now.key.number - 3) (slice_index_or figures.old i other) (link_at links.now i).port (shown line.now) (slice_index_or figures.new i other) }
 {
@@ -139,10 +140,10 @@ impl NodeLinks {
     #[inline(always)]
     fn after_offers(&mut self, links: &[Link], line: &Line)
         requires size { length self.old.figures.items ≡ length links.now }
-        requires few { (i : ℕ) (other : LinkFigures) → i < length self.old.figures.items → (slice_index_or self.old.figures.items i other).turns < 1000000000000000 }
+        requires few { (i : ℕ) (other : LinkFigures) → i < length self.old.figures.items → IsFew 1000000000000000 (slice_index_or self.old.figures.items i other) }
         requires moment { IsMoment line.now.key.time }
         requires order { (i : ℕ) (other : LinkFigures) → i < length self.old.figures.items → (slice_index_or self.old.figures.items i other).since ≤ line.now.key.time }
-        requires sends { SendOneEach self.old.figures.items links.now (shown line.now) }
+        requires sends { AllFreedOrOffered self.old.figures.items links.now (shown line.now) }
         requires other { free_is line.now.event ≡ false }
         requires one { OffersToOne self.old.figures.items links.now }
         ensures size_stays { length self.new.figures.items ≡ length self.old.figures.items }
@@ -159,10 +160,10 @@ impl NodeLinks {
     #[inline(always)]
     pub(crate) fn after(&mut self, links: &[Link], line: &Line)
         requires size { length self.old.figures.items ≡ length links.now }
-        requires few { (i : ℕ) (other : LinkFigures) → i < length self.old.figures.items → (slice_index_or self.old.figures.items i other).turns < 1000000000000000 }
+        requires few { (i : ℕ) (other : LinkFigures) → i < length self.old.figures.items → IsFew 1000000000000000 (slice_index_or self.old.figures.items i other) }
         requires moment { IsMoment line.now.key.time }
         requires order { (i : ℕ) (other : LinkFigures) → i < length self.old.figures.items → (slice_index_or self.old.figures.items i other).since ≤ line.now.key.time }
-        requires sends { SendOneEach self.old.figures.items links.now (shown line.now) }
+        requires sends { AllFreedOrOffered self.old.figures.items links.now (shown line.now) }
         requires one { free_is line.now.event ≡ false → OffersToOne self.old.figures.items links.now }
         ensures size_stays { length self.new.figures.items ≡ length self.old.figures.items }
         ensures figures { AreLinksAfter self.old.figures.items links.now (shown line.now) self.new.figures.items }
@@ -180,11 +181,11 @@ impl NodeLinks {
 pub fn count_links(all: &mut Vec<NodeLinks>, nodes: &[Node], line: &Line)
     requires size { length all.old.items ≡ length nodes.now }
     requires sizes { (node : ℕ) (other : NodeLinks) → node < length all.old.items → length (slice_index_or all.old.items node other).figures.items ≡ length (node_at nodes.now node).part.links }
-    requires few { (node : ℕ) (other : NodeLinks) (i : ℕ) (link : LinkFigures) → node < length all.old.items → i < length (slice_index_or all.old.items node other).figures.items → (slice_index_or (slice_index_or all.old.items node other).figures.items i link).turns < 1000000000000000 }
+    requires few { (node : ℕ) (other : NodeLinks) (i : ℕ) (link : LinkFigures) → node < length all.old.items → i < length (slice_index_or all.old.items node other).figures.items → IsFew 1000000000000000 (slice_index_or (slice_index_or all.old.items node other).figures.items i link) }
     requires moment { IsMoment line.now.key.time }
     requires order { (node : ℕ) (other : NodeLinks) (i : ℕ) (link : LinkFigures) → node < length all.old.items → i < length (slice_index_or all.old.items node other).figures.items → (slice_index_or (slice_index_or all.old.items node other).figures.items i link).since ≤ line.now.key.time }
     requires one { free_is line.now.event ≡ false → (other : NodeLinks) → line.now.key.node < length all.old.items → OffersToOne (slice_index_or all.old.items line.now.key.node other).figures.items (node_at nodes.now line.now.key.node).part.links }
-    requires sends { (other : NodeLinks) → line.now.key.node < length all.old.items → SendOneEach (slice_index_or all.old.items line.now.key.node other).figures.items (node_at nodes.now line.now.key.node).part.links (shown line.now) }
+    requires sends { (other : NodeLinks) → line.now.key.node < length all.old.items → AllFreedOrOffered (slice_index_or all.old.items line.now.key.node other).figures.items (node_at nodes.now line.now.key.node).part.links (shown line.now) }
     ensures size { length all.new.items ≡ length all.old.items }
     ensures sizes { (other : NodeLinks) → length (slice_index_or all.new.items line.now.key.node other).figures.items ≡ length (slice_index_or all.old.items line.now.key.node other).figures.items }
     ensures here { (other : NodeLinks) → line.now.key.node < length all.old.items → AreLinksAfter (slice_index_or all.old.items line.now.key.node other).figures.items (node_at nodes.now line.now.key.node).part.links (shown line.now) (slice_index_or all.new.items line.now.key.node other).figures.items }

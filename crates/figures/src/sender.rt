@@ -11,32 +11,32 @@ use reno_sender::{Sender, SenderFields, Timing};
 use sim_time::Time;
 use std::alloc::Global;
 
-/// What is counted of a sender.
+/// What is counted of a sender. Its fields lie in memory as here: first what each acknowledgement reads or writes.
 #[derive(Drop)]
 pub struct SenderFigures {
-    /// What is kept of it from before it acts next.
-    pub kept: KeptSender,
-    /// When all bytes of its flow were acknowledged; none before.
-    pub completed: Option<Time>,
     /// The segments that it has sent, new or again.
     pub sent: u128,
-    /// Those that it has sent again in recovery: by fast retransmit (RFC 5681 section 3.2).
+    /// What is kept of it from before it acts next.
+    pub kept: KeptSender,
+    /// How often it has acted.
+    pub turns: u64,
+    /// The least sample of the round trip, in nanoseconds; 2^64 - 1 where there was none.
+    pub least: u64,
+    /// The samples of the round trip, in nanoseconds (RFC 6298 section 3).
+    pub trips: Tally,
+    /// How often its retransmission timer ended.
+    pub timeouts: u64,
+    /// When all bytes of its flow were acknowledged; none before.
+    pub completed: Option<Time>,
+    /// The segments that it has sent again in recovery: by fast retransmit (RFC 5681 section 3.2).
     pub again_in_recovery: u128,
     /// The others that it has sent again: by timeout.
     pub again_otherwise: u128,
-    /// How often its retransmission timer ended.
-    pub timeouts: u64,
-    /// The samples of the round trip, in nanoseconds (RFC 6298 section 3).
-    pub trips: Tally,
-    /// The least of them; 2^64 - 1 where there was none.
-    pub least: u64,
-    /// How often it has acted.
-    pub turns: u64,
     ghost sent_most: { sent ≤ turns * 2 ^ 64 },
     ghost recovery_most: { again_in_recovery ≤ turns * 2 ^ 64 },
     ghost otherwise_most: { again_otherwise ≤ turns * 2 ^ 64 },
     ghost timeouts_most: { timeouts ≤ turns },
-    ghost trips_most: { trips.zeros + trips.count ≤ turns },
+    ghost trips_most: { trips.count ≤ turns },
 }
 
 // The sample that an acknowledgement gives, where it gives one.
@@ -192,7 +192,7 @@ impl SenderFigures {
     pub fn least_trip(&self) -> Option<u64>
         ensures { (before ts : List Turn) → AreOfTurns before ts self.now → result ≡ least_of (trips_of ts) }
     {
-        if self.trips.many() == 0 {
+        if self.trips.count == 0 {
             None
         } else {
             Some(self.least)

@@ -7,19 +7,17 @@ use std::alloc::{AllocError, Global};
 /// How many values were of each class, and the greatest.
 #[derive(Drop)]
 pub struct Tally {
-    /// How many values there were that were noted as 0, and are in no count of a class.
-    pub zeros: u64,
-    /// How many others there were.
+    /// How many values there were.
     pub count: u64,
-    /// The greatest of all; 0 where there was none.
+    /// The greatest of them; 0 where there was none.
     pub greatest: u64,
-    /// For each class up to the highest doubling so far how many values were of it.
+    /// For each class up to the highest doubling so far how many values were of it; of the lowest, any count.
     pub counts: Vec<u64>,
     /// Whether memory was refused for the count of a class: some value is then in no count.
     pub refused: bool,
     ghost sized: { length counts.items ≤ 1472 },
     ghost parts: { (c : ℕ) → slice_index counts.items c ≤ count },
-    ghost few: { zeros + count < 2 ^ 63 },
+    ghost few: { count < 2 ^ 63 },
 }
 
 // Counts of more classes, up to the end of the doubling of one that is past them: so far no value is of these.
@@ -72,7 +70,6 @@ impl Tally {
         ensures { IsTallyOf [] result }
     {
         Tally {
-            zeros: 0,
             count: 0,
             greatest: 0,
             counts: Vec::new(alloc),
@@ -80,21 +77,14 @@ impl Tally {
         }
     }
 
-    /// How many values there were.
-    pub fn many(&self) -> u64
-        ensures { result ≡ self.now.zeros + self.now.count }
-    {
-        self.zeros + self.count
-    }
-
     /// One more value, which is 0: the counts of the classes are not read.
     #[inline(always)]
     pub fn note_zero(&mut self)
-        requires few { self.old.zeros + self.old.count < 2 ^ 62 }
+        requires few { self.old.count < 2 ^ 62 }
         ensures tally { (xs : List ℕ) → IsTallyOf xs self.old → IsTallyOf (xs ++ 0 ∷ []) self.new }
-        ensures count { self.new.zeros + self.new.count ≡ self.old.zeros + self.old.count + 1 }
+        ensures count { self.new.count ≡ self.old.count + 1 }
     {
-        self.zeros += 1;
+        self.count += 1;
     }
 
     /// Whether there is a count of a value's class.
@@ -111,10 +101,10 @@ impl Tally {
     #[inline(always)]
     pub fn note_known(&mut self, value: u64)
         requires value { value < 2 ^ 50 }
-        requires few { self.old.zeros + self.old.count < 2 ^ 62 }
+        requires few { self.old.count < 2 ^ 62 }
         requires known { class_is value < length self.old.counts.items }
         ensures tally { (xs : List ℕ) → IsTallyOf xs self.old → IsTallyOf (xs ++ value ∷ []) self.new }
-        ensures count { self.new.zeros + self.new.count ≡ self.old.zeros + self.old.count + 1 }
+        ensures count { self.new.count ≡ self.old.count + 1 }
     {
         let class = class_of(value);
         let counts = &mut self.counts;
@@ -128,10 +118,10 @@ impl Tally {
     #[inline(never)]
     fn note_first(&mut self, value: u64)
         requires value { value < 2 ^ 50 }
-        requires few { self.old.zeros + self.old.count < 2 ^ 62 }
+        requires few { self.old.count < 2 ^ 62 }
         requires past { length self.old.counts.items ≤ class_is value }
         ensures tally { (xs : List ℕ) → IsTallyOf xs self.old → IsTallyOf (xs ++ value ∷ []) self.new }
-        ensures count { self.new.zeros + self.new.count ≡ self.old.zeros + self.old.count + 1 }
+        ensures count { self.new.count ≡ self.old.count + 1 }
     {
         let class = class_of(value);
         self.count += 1;
@@ -143,9 +133,9 @@ impl Tally {
     #[inline(always)]
     pub fn note(&mut self, value: u64)
         requires value { value < 2 ^ 50 }
-        requires few { self.old.zeros + self.old.count < 2 ^ 62 }
+        requires few { self.old.count < 2 ^ 62 }
         ensures tally { (xs : List ℕ) → IsTallyOf xs self.old → IsTallyOf (xs ++ value ∷ []) self.new }
-        ensures count { self.new.zeros + self.new.count ≡ self.old.zeros + self.old.count + 1 }
+        ensures count { self.new.count ≡ self.old.count + 1 }
     {
         if self.has_count(value) {
             self.note_known(value);
@@ -158,10 +148,10 @@ impl Tally {
     #[inline(always)]
     pub fn note_some(&mut self, value: Option<u64>)
         requires value { IfSome value (λ v. v < 2 ^ 50) }
-        requires few { self.old.zeros + self.old.count < 2 ^ 62 }
+        requires few { self.old.count < 2 ^ 62 }
         ensures tally { (xs : List ℕ) → IsTallyOf xs self.old → IsTallyOf (xs ++ option_to_list value) self.new }
-        ensures count { self.new.zeros + self.new.count ≡ self.old.zeros + self.old.count + length (option_to_list value) }
-        ensures most { self.new.zeros + self.new.count ≤ self.old.zeros + self.old.count + 1 }
+        ensures count { self.new.count ≡ self.old.count + length (option_to_list value) }
+        ensures most { self.new.count ≤ self.old.count + 1 }
     {
         if let Some(value) = value {
             self.note(value);
@@ -183,7 +173,7 @@ impl Tally {
     pub fn greatest(&self) -> Option<u64>
         ensures { (xs : List ℕ) → IsTallyOf xs self.now → result ≡ greatest_of xs }
     {
-        if self.many() == 0 {
+        if self.count == 0 {
             None
         } else {
             Some(self.greatest)
@@ -194,15 +184,15 @@ impl Tally {
     /// greatest value there was; none where there was none.
     pub fn percentile(&self, percent: u64) -> Option<u64>
         requires percent { percent ≤ 100 }
-        requires few { self.now.zeros + self.now.count < 2 ^ 57 }
+        requires few { self.now.count < 2 ^ 57 }
         requires whole { self.now.refused ≡ false }
         ensures { (xs : List ℕ) → IsTallyOf xs self.now → result ≡ percentile percent xs }
     {
-        if self.many() == 0 {
+        if self.count == 0 {
             return None;
         }
-        let rank = (percent * self.many()).div_ceil(100);
-        let class = class_at(self.zeros, &self.counts, rank);
+        let rank = (percent * self.count).div_ceil(100);
+        let class = class_at(self.count, &self.counts, rank);
         Some(top_of(class).min(self.greatest))
     }
 }
@@ -231,12 +221,12 @@ mod tests {
             let mut tally = Tally::new(rt.alloc());
             for value in values {
                 assert!(rt; *value < 1 << 50);
-                assert!(rt; tally.many() < 1 << 40);
+                assert!(rt; tally.count < 1 << 40);
                 tally.note(*value);
             }
             assert!(rt; !tally.refused);
             assert!(rt; percent <= 100);
-            assert!(rt; tally.many() < 1 << 40);
+            assert!(rt; tally.count < 1 << 40);
             assert_eq!(rt; tally.percentile(percent), reported);
             assert_eq!(rt; tally.greatest(), values.iter().max().copied());
         }

@@ -1,8 +1,6 @@
 //! What a line of the table tells.
-ghost use Rattle.std.specs.Prelude.{◌≡◌, ◌++◌, OnOk};
-ghost use Rattle.figures_text.specs.Table.{label_of, figure_text};
-
-use std::alloc::AllocError;
+ghost use Rattle.std.specs.Prelude.{◌≡◌};
+ghost use Rattle.figures_text.specs.Table.{figure_text};
 
 /// What a line of the table tells.
 #[derive(Clone, Copy, Debug, PartialEq, Eq)]
@@ -69,49 +67,40 @@ pub enum Figure {
     End,
 }
 
-/// Its name and its unit, with a comma between them.
-fn label(figure: Figure) -> &'static [u8]
-    ensures { result.now ≡ label_of figure }
+/// Its name and its unit, between commas.
+pub(crate) fn figure_text(figure: Figure) -> &'static [u8]
+    ensures { result.now ≡ figure_text figure }
 {
     match figure {
-        Figure::Start => b"start,ns",
-        Figure::Delivered => b"delivered,bytes",
-        Figure::Completed => b"completed,ns",
-        Figure::SentSegments => b"sent,segments",
-        Figure::AgainInRecovery => b"sent again by fast retransmit,segments",
-        Figure::AgainOtherwise => b"sent again by timeout,segments",
-        Figure::Timeouts => b"timeouts,times",
-        Figure::Cwnd => b"cwnd,bytes",
-        Figure::InFlight => b"in flight,bytes",
-        Figure::RoundTrips => b"round trips,times",
-        Figure::LeastTrip => b"least round trip,ns",
-        Figure::MedianTrip => b"median round trip,ns",
-        Figure::HighTrip => b"95th percentile of round trips,ns",
-        Figure::HighestTrip => b"99th percentile of round trips,ns",
-        Figure::GreatestTrip => b"greatest round trip,ns",
-        Figure::Offered => b"offered,packets",
-        Figure::Lost => b"dropped as lost,packets",
-        Figure::Full => b"dropped as full,packets",
-        Figure::Codel => b"dropped by CoDel,packets",
-        Figure::SentPackets => b"sent packets,packets",
-        Figure::SentBytes => b"sent bytes,bytes",
-        Figure::Busy => b"busy,ns",
-        Figure::GreatestQueue => b"greatest queue,packets",
-        Figure::Waited => b"waited,packet-ns",
-        Figure::MedianDelay => b"median delay in the queue,ns",
-        Figure::HighDelay => b"95th percentile of delay in the queue,ns",
-        Figure::HighestDelay => b"99th percentile of delay in the queue,ns",
-        Figure::GreatestDelay => b"greatest delay in the queue,ns",
-        Figure::Events => b"events,events",
-        Figure::End => b"end,ns",
+        Figure::Start => b",start,ns,",
+        Figure::Delivered => b",delivered,bytes,",
+        Figure::Completed => b",completed,ns,",
+        Figure::SentSegments => b",sent,segments,",
+        Figure::AgainInRecovery => b",sent again by fast retransmit,segments,",
+        Figure::AgainOtherwise => b",sent again by timeout,segments,",
+        Figure::Timeouts => b",timeouts,times,",
+        Figure::Cwnd => b",cwnd,bytes,",
+        Figure::InFlight => b",in flight,bytes,",
+        Figure::RoundTrips => b",round trips,times,",
+        Figure::LeastTrip => b",least round trip,ns,",
+        Figure::MedianTrip => b",median round trip,ns,",
+        Figure::HighTrip => b",95th percentile of round trips,ns,",
+        Figure::HighestTrip => b",99th percentile of round trips,ns,",
+        Figure::GreatestTrip => b",greatest round trip,ns,",
+        Figure::Offered => b",offered,packets,",
+        Figure::Lost => b",dropped as lost,packets,",
+        Figure::Full => b",dropped as full,packets,",
+        Figure::Codel => b",dropped by CoDel,packets,",
+        Figure::SentPackets => b",sent packets,packets,",
+        Figure::SentBytes => b",sent bytes,bytes,",
+        Figure::Busy => b",busy,ns,",
+        Figure::GreatestQueue => b",greatest queue,packets,",
+        Figure::Waited => b",waited,packet-ns,",
+        Figure::MedianDelay => b",median delay in the queue,ns,",
+        Figure::HighDelay => b",95th percentile of delay in the queue,ns,",
+        Figure::HighestDelay => b",99th percentile of delay in the queue,ns,",
+        Figure::GreatestDelay => b",greatest delay in the queue,ns,",
+        Figure::Events => b",events,events,",
+        Figure::End => b",end,ns,",
     }
-}
-
-/// Appends its name and unit between commas. After an `Err` a part of them may stand there.
-pub(crate) fn append_figure(figure: Figure, text: &mut Vec<u8>) -> Result<(), AllocError>
-    ensures { OnOk result (text.new.items ≡ text.old.items ++ figure_text figure) }
-{
-    text.extend_from_slice(b",")?;
-    text.extend_from_slice(label(figure))?;
-    text.extend_from_slice(b",")
 }

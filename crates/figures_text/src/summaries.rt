@@ -19,7 +19,7 @@ ghost use Rattle.figures_text.specs.Summaries.{summary_of_turns, summary_of_exit
 
 use crate::column::NameColumn;
 use crate::summary::{FlowSummary, LinkSummary, RunSummary};
-use crate::table::figures_text;
+use crate::table::append_table;
 use figures::{Figures, LinkFigures, SenderFigures};
 use net_machine::Net;
 use node_core::Node;
@@ -58,7 +58,7 @@ fn of_sender(
     delivered: u64,
     counted: &SenderFigures,
 ) -> Result<FlowSummary, AllocError>
-    requires few { counted.now.trips.zeros + counted.now.trips.count < 2 ^ 57 }
+    requires few { counted.now.trips.count < 2 ^ 57 }
     ensures { (before ts : List Turn) → AreOfTurns before ts counted.now → IfOk result (λ said. said ≡ summary_of_turns start delivered before ts) }
 {
     let trips = &counted.trips;
@@ -71,7 +71,7 @@ fn of_sender(
         again_in_recovery: counted.again_in_recovery,
         again_otherwise: counted.again_otherwise,
         timeouts: counted.timeouts,
-        round_trips: trips.many(),
+        round_trips: trips.count,
         least: counted.least_trip(),
         median: trips.percentile(50),
         high: trips.percentile(95),
@@ -132,7 +132,7 @@ struct Delays {
 
 /// The delays in the queue of a link of which this was counted.
 fn delays_of(counted: &LinkFigures) -> Result<Delays, AllocError>
-    requires few { counted.now.turns ≤ 1000000000000000 }
+    requires few { counted.now.waits.count ≤ 1000000000000000 }
     ensures median { (b : Base) (ms : List Moment) (s : State) (node index : ℕ) → AreOfLink b ms s node index counted.now → IfOk result (λ delays. delays.median ≡ percentile 50 (waits_of node index ms)) }
     ensures high { (b : Base) (ms : List Moment) (s : State) (node index : ℕ) → AreOfLink b ms s node index counted.now → IfOk result (λ delays. delays.high ≡ percentile 95 (waits_of node index ms)) }
     ensures highest { (b : Base) (ms : List Moment) (s : State) (node index : ℕ) → AreOfLink b ms s node index counted.now → IfOk result (λ delays. delays.highest ≡ percentile 99 (waits_of node index ms)) }
@@ -176,7 +176,7 @@ fn waited_to_end(counted: &LinkFigures, last: Time, end: Time) -> u128
 
 /// What is said of a link of which this was counted, of a run whose last event was at a moment.
 fn of_exit(counted: &LinkFigures, last: Time, end: Time) -> Result<LinkSummary, AllocError>
-    requires few { counted.now.turns ≤ 1000000000000000 }
+    requires few { counted.now.waits.count ≤ 1000000000000000 }
     requires moment { IsMoment last }
     requires order { counted.now.since ≤ last }
     requires end { IsMoment end }
@@ -188,7 +188,7 @@ fn of_exit(counted: &LinkFigures, last: Time, end: Time) -> Result<LinkSummary, 
         lost: counted.lost,
         full: counted.full,
         codel: counted.codel,
-        sent: u128::from(counted.waits.many()),
+        sent: u128::from(counted.waits.count),
         bytes: u128::from(counted.bytes),
         busy: busy_to_end(counted, last, end),
         longest: u64::from(counted.longest),
@@ -225,7 +225,7 @@ fn link_summary(
     requires number { number < length links.now }
     requires node { from_of links.now number < length figures.now.links.items }
     requires index { (other : NodeLinks) → exit_is links.now number < length (slice_index_or figures.now.links.items (from_of links.now number) other).figures.items }
-    requires few { (other : NodeLinks) (link : LinkFigures) → (slice_index_or (slice_index_or figures.now.links.items (from_of links.now number) other).figures.items (exit_is links.now number) link).turns ≤ 1000000000000000 }
+    requires few { (other : NodeLinks) (link : LinkFigures) → (slice_index_or (slice_index_or figures.now.links.items (from_of links.now number) other).figures.items (exit_is links.now number) link).waits.count ≤ 1000000000000000 }
     requires moment { IsMoment figures.now.last }
     requires order { (other : NodeLinks) (link : LinkFigures) → (slice_index_or (slice_index_or figures.now.links.items (from_of links.now number) other).figures.items (exit_is links.now number) link).since ≤ figures.now.last }
     requires end { IsMoment end }
@@ -289,6 +289,6 @@ pub fn run_text(
         end: last_event(figures),
     };
     let mut text = Vec::new(alloc);
-    figures_text(column, &flows, &links, run, &mut text)?;
+    append_table(column, &flows, &links, run, &mut text)?;
     Ok(text)
 }

@@ -30,7 +30,7 @@ pub fn figures_text(
 }
 
 /// Appends the table. Where memory is refused, a part of it may have been appended.
-fn append_table(
+pub(crate) fn append_table(
     column: &NameColumn,
     flows: &[FlowSummary],
     links: &[LinkSummary],

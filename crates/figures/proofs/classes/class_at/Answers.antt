@@ -1,39 +1,43 @@
-use Rattle.std.proofs.Common.{◌≡◌, ◌<◌, ◌+◌, ◌-◌, ℕ, suc, List, sym, ap, ◌∙◌, arith}
-use Rattle.figures.specs.Classes.{class_from}
-use Rattle.figures.proofs.Counts.{before_first, before_next, upto_is, class_on, class_here, class_end, class_begin}
+use Rattle.std.proofs.Common.{◌≡◌, ◌<◌, ◌≤◌, ◌-◌, length, sym, ap, ◌∙◌, arith}
+use Rattle.std.proofs.lemmas.List.{get_or_past}
+use Rattle.figures.specs.Classes.{upto}
+use Rattle.figures.proofs.Near.{upto_before, first_enough, all_below}
 use Rattle.figures.proofs.classes.class_at.Goals as goal
 
--- the fuel that is left, one class on
-fuel : (xs : List ℕ) (rank c : ℕ) → c < 1471 → class_from xs rank c (1471 - c) ≡ class_from xs rank c (suc (1471 - (c + 1)))
-fuel xs rank c under = ap (class_from xs rank c) (omega (arith, under))
-
 pub loop-class-init : goal.loop-class-init
-loop-class-init c = λ xs counted. ((let none = before_first xs in omega (arith, none)), class_begin xs c.args.rank)
+loop-class-init c = (
+  c.requires.rank,
+  λ xs count all each. count
+      ∙ sym (all_below xs (length c.args.counts.now - 1) (omega (arith, c.requires.size)) all
+      (λ e above within. sym (get_or_past c.args.counts.now e 0 (omega (arith, above))) ∙ each e (omega (arith, above)) within)),
+)
 
 pub loop-class-preserved : goal.loop-class-preserved
-loop-class-preserved c = λ xs counted.
-    let i = c.loop-class.class in
-    let is = c.loop-class.invariant xs counted in
-    let next = before_next xs i in
-    let upto = upto_is xs i in
-    let here = counted i (omega (arith, c.loop-class-test.true)) in
-    let left = is.0 in
-    let less = c.if-left-count.false in
-    (omega (arith, next, upto, here, left, less), is.1 ∙ fuel xs c.args.rank i c.loop-class-test.true ∙ class_on xs c.args.rank i (1471 - (i + 1)) (omega (arith, upto, here, left, less)))
+loop-class-preserved c = (
+  omega (arith, c.if-upto-rank.false),
+  λ xs count all each.
+      let i = c.loop-class.class - 1 in
+      let some : 1 ≤ i = omega (arith, c.loop-class-test.true) in
+      let is = c.loop-class.invariant.1 xs count all each in
+      let here = each i some (omega (arith, c.loop-class.auto.class, c.requires.size, some)) in
+      let before = upto_before xs i some in
+      omega (arith, c.saturating_sub-upto.ensures, is, here, before),
+)
 
-pub returns-then-left-count-clause-class : goal.returns-then-left-count-clause-class
-returns-then-left-count-clause-class c = λ xs counted.
-    let i = c.loop-class.class in
-    let is = c.loop-class.invariant xs counted in
-    let upto = upto_is xs i in
-    let here = counted i (omega (arith, c.loop-class-test.true)) in
-    let left = is.0 in
-    let enough = c.if-left-count.true in
-    sym (is.1 ∙ class_here xs c.args.rank i (1471 - i) (omega (arith, upto, here, left, enough)))
+pub returns-then-upto-rank-clause-class : goal.returns-then-upto-rank-clause-class
+returns-then-upto-rank-clause-class c = λ xs count all each.
+    let i = c.loop-class.class - 1 in
+    let some : 1 ≤ i = omega (arith, c.loop-class-test.true) in
+    let within : i < 1472 = omega (arith, c.loop-class.auto.class, c.requires.size, some) in
+    let is = c.loop-class.invariant.1 xs count all each in
+    let enough = c.loop-class.invariant.0 in
+    let here = each i some within in
+    let before = upto_before xs i some in
+    sym (first_enough xs c.args.rank i within (λ _. omega (arith, c.saturating_sub-upto.ensures, is, here, before, c.if-upto-rank.true)) (omega (arith, is, enough)))
 
 pub returns-clause-class : goal.returns-clause-class
-returns-clause-class c = λ xs counted.
-    let i = c.loop-class.class in
-    let is = c.loop-class.invariant xs counted in
-    let last : i ≡ 1471 = omega (arith, c.loop-class-test.false, c.loop-class.auto.class-end) in
-    sym (is.1 ∙ ap (λ j. class_from xs c.args.rank j (1471 - j)) last ∙ class_end xs c.args.rank 1471)
+returns-clause-class c = λ xs count all each.
+    let is = c.loop-class.invariant.1 xs count all each in
+    let enough = c.loop-class.invariant.0 in
+    let last : upto xs (c.loop-class.class - 1) ≡ upto xs 0 = ap (upto xs) (omega (arith, c.loop-class-test.false)) in
+    sym (first_enough xs c.args.rank 0 (omega arith) (λ one. absurd (omega (arith, one))) (omega (arith, is, enough, last)))

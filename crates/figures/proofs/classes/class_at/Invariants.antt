@@ -1,7 +1,9 @@
-use Rattle.std.proofs.Common.{◌≡◌, ◌<◌, ◌+◌, ◌-◌, ℕ, List}
-use Rattle.figures.specs.Classes.{in_class, count_in, class_from, class_at as class_at_rank}
-use Rattle.figures.proofs.Counts.{before}
+-- so many values are up to the classes that are left, and that is enough
+use Rattle.std.proofs.Common.{◌≡◌, ◌<◌, ◌≤◌, ◌-◌, ◌^◌, ℕ, List, length, All}
+use Rattle.std.specs.Prelude.{slice_index}
+use Rattle.figures.specs.Classes.{in_class, upto}
 use Rattle.figures.proofs.classes.class_at.Given as goal
 
 abbrev pub invariant-loop-class : goal.invariant-loop-class
-invariant-loop-class l = (xs : List ℕ) → ((c : ℕ) → c < 1472 → count_in l.zeros l.counts c ≡ in_class xs c) → (l.left + before xs l.class ≡ l.rank) × (class_at_rank xs l.rank ≡ class_from xs l.rank l.class (1471 - l.class))
+invariant-loop-class l =
+    (l.rank ≤ l.upto) × ((xs : List ℕ) → l.count ≡ length xs → All (λ x. x < 2 ^ 50) xs → ((c : ℕ) → 1 ≤ c → c < 1472 → slice_index l.counts c ≡ in_class xs c) → l.upto ≡ upto xs (l.class - 1))

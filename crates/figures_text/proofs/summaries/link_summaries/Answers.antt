@@ -40,10 +40,10 @@ link_summary-requires-clause-few c other link =
     let same : c.as_slice-links.result.now ≡ p.links = search rules in
     let size = ap (λ (l : List LinkPart). length l) same in
     let under : i < length p.links = omega (arith, c.loop-number-test.true, size) in
-    let turns = ((link_counted p c.requires.run.base f c.args.net.now c.requires.scenario c.requires.run.of i under).link other link).turns in
+    let waits = ((link_counted p c.requires.run.base f c.args.net.now c.requires.scenario c.requires.run.of i under).link other link).few.waits in
     let events = c.requires.run.of.figures.events in
-    let few : (get_or (get_or f.links.items (from_of p.links i) other).figures.items (exit_of p.links i) link).turns ≤ 1000000000000000 = omega (arith, turns, events, c.requires.few) in
-    subst (λ (l : List LinkPart). (get_or (get_or f.links.items (from_of l i) other).figures.items (exit_of l i) link).turns ≤ 1000000000000000) (sym same) few
+    let few : (get_or (get_or f.links.items (from_of p.links i) other).figures.items (exit_of p.links i) link).waits.count ≤ 1000000000000000 = omega (arith, waits, events, c.requires.few) in
+    subst (λ (l : List LinkPart). (get_or (get_or f.links.items (from_of l i) other).figures.items (exit_of l i) link).waits.count ≤ 1000000000000000) (sym same) few
 
 pub link_summary-requires-clause-moment : goal.link_summary-requires-clause-moment
 link_summary-requires-clause-moment c =

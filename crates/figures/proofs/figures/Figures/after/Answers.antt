@@ -5,7 +5,7 @@ use Rattle.figures.specs.Figures.{IsOfNode}
 use Rattle.figures.specs.Moments.{cause_of}
 use Rattle.figures.proofs.Steps.{is_step, size_stays}
 use Rattle.figures.proofs.AllLinks.{links_counted, sizes_are}
-use Rattle.figures.proofs.One.{one_link, sends_each}
+use Rattle.figures.proofs.One.{one_link, each_freed_or_offered, few_each}
 use Rattle.figures.proofs.After.{quiet, quiet_sender, acted_from, one_acted, reported, within_parts, none_where_free}
 use Rattle.figures.proofs.figures.Figures.after.Goals as goal
 
@@ -49,6 +49,11 @@ count_links-requires-clause-sizes c =
     let R = c.requires.follows in
     sizes_are R.base R.so_far R.before (shown c.args.line.now) c.args.net.now.state R.next c.nodes-nodes.result.now c.nodes-nodes.ensures.parts c.args.self.now.links.items c.args.self.now.links.items refl R.figures.links
 
+pub count_links-requires-clause-few : goal.count_links-requires-clause-few
+count_links-requires-clause-few c =
+    let R = c.requires.follows in
+    few_each R.base R.so_far R.before c.args.self.now.links.items R.figures.links (omega (arith, R.figures.events, c.requires.few))
+
 pub count_links-requires-clause-one : goal.count_links-requires-clause-one
 count_links-requires-clause-one c = λ none other within.
     let R = c.requires.follows in
@@ -81,4 +86,4 @@ returns-then-freed-clause-links c = λ b ms s is next tells keeps.
 pub count_links-requires-clause-sends : goal.count_links-requires-clause-sends
 count_links-requires-clause-sends c =
     let R = c.requires.follows in
-    sends_each R.before (shown c.args.line.now) c.args.net.now.state R.next R.base R.so_far c.nodes-nodes.result.now c.nodes-nodes.ensures.parts c.args.self.now.links.items c.args.self.now.links.items refl R.figures.links R.sends
+    each_freed_or_offered R.before (shown c.args.line.now) c.args.net.now.state R.next R.base R.so_far c.nodes-nodes.result.now c.nodes-nodes.ensures.parts c.args.self.now.links.items c.args.self.now.links.items refl R.figures.links R.sends

@@ -3,8 +3,8 @@ use Rattle.figures.specs.Senders.{trips_of}
 use Rattle.figures.proofs.Values.{none_least, some_least}
 use Rattle.figures.proofs.sender.SenderFigures.least_trip.Goals as goal
 
-pub returns-then-many-eq0 : goal.returns-then-many-eq0
-returns-then-many-eq0 c = λ before ts is. none_least (trips_of ts) (sym is.trips.count_is ∙ sym c.many.ensures ∙ c.if-many-eq0.true)
+pub returns-then-self-eq0 : goal.returns-then-self-eq0
+returns-then-self-eq0 c = λ before ts is. none_least (trips_of ts) (sym is.trips.count_is ∙ c.if-self-eq0.true)
 
-pub returns-else-many-eq0 : goal.returns-else-many-eq0
-returns-else-many-eq0 c = λ before ts is. some_least (trips_of ts) c.args.self.now.least (λ none. c.if-many-eq0.false (c.many.ensures ∙ is.trips.count_is ∙ none)) is.trips.below is.least
+pub returns-else-self-eq0 : goal.returns-else-self-eq0
+returns-else-self-eq0 c = λ before ts is. some_least (trips_of ts) c.args.self.now.least (λ none. c.if-self-eq0.false (is.trips.count_is ∙ none)) is.trips.below is.least

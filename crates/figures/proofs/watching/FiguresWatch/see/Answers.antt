@@ -9,7 +9,7 @@ use Rattle.figures.specs.Figures.{AreFigures}
 use Rattle.figures.proofs.Along.{step_run, together, is_moment, is_later, none_earlier}
 use Rattle.figures.proofs.Entries.{tells_in_run}
 use Rattle.figures.proofs.Kept.{keeps_in_run}
-use Rattle.figures.proofs.LinkLaws.{sends_in_run}
+use Rattle.figures.proofs.LinkLaws.{freed_or_offered_in_run}
 use Rattle.figures.proofs.watching.FiguresWatch.see.Goals as goal
 
 pub after-requires-clause-few : goal.after-requires-clause-few
@@ -28,7 +28,7 @@ after-requires-clause-follows c = record {
   before = c.args._before.now.value.state;
   figures = c.requires.fits.of.figures;
   next = c.requires.stepped.0;
-  sends = sends_in_run c.args.self.now c.args._before.now.value (shown c.args.line.now) c.args.after.now.state c.requires.fits c.requires.stepped.0;
+  sends = freed_or_offered_in_run c.args.self.now c.args._before.now.value (shown c.args.line.now) c.args.after.now.state c.requires.fits c.requires.stepped.0;
 }
 
 pub returns-clause-has : goal.returns-clause-has
