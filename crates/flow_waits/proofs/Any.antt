@@ -1,5 +1,7 @@
 -- Lists of which one element passes a test, and the entries of what is pending.
 use Rattle.std.proofs.Common.{◌≡◌, ◌≢◌, ℕ, zero, suc, ◌<◌, Bool, true, false, cond, T, ◌||◌, List, [], ◌∷◌, ◌++◌, map as each, length, get_or, refl, sym, ap, ◌∙◌, Option, Some, None, is_none, not, arith, inl, inr, ◌⊎◌, true≢false}
+use Rattle.std.proofs.lemmas.Bool.{or_right}
+use Rattle.std.proofs.lemmas.List.Folds.{list_any-append}
 use Rattle.std.specs.List.{list_any}
 use Rattle.std.specs.Option.{option_or}
 use Rattle.std.specs.FinMap as map
@@ -22,10 +24,6 @@ pub or_first : (a b : Bool) → a ≡ true → (a || b) ≡ true
 or_first true b e = refl
 or_first false b e = absurd (true≢false (sym e))
 
-pub or_second : (a b : Bool) → b ≡ true → (a || b) ≡ true
-or_second true b e = refl
-or_second false b e = e
-
 module _ {A : Type 0} (f : A → Bool) where
   -- an element that passes
   pub record Place (xs : List A) (d : A) : Type 0 where
@@ -46,29 +44,16 @@ module _ {A : Type 0} (f : A → Bool) where
   pub any_at : (xs : List A) (d : A) (i : ℕ) → i < length xs → f (get_or xs i d) ≡ true → list_any f xs ≡ true
   any_at [] d i within e = absurd (omega (arith, within))
   any_at (x ∷ xs) d zero within e = or_first (f x) (list_any f xs) e
-  any_at (x ∷ xs) d (suc i) within e = or_second (f x) (list_any f xs) (any_at xs d i (omega (arith, within)) e)
+  any_at (x ∷ xs) d (suc i) within e = or_right (f x) (list_any f xs) (any_at xs d i (omega (arith, within)) e)
 
   pub any_append : (xs ys : List A) → list_any f (xs ++ ys) ≡ true → (list_any f xs ≡ true) ⊎ (list_any f ys ≡ true)
-  any_append [] ys e = inr e
-  any_append (x ∷ xs) ys e = elim (or_cases (f x) (list_any f (xs ++ ys)) e) [
-    | inl here ↦ inl (or_first (f x) (list_any f xs) here)
-    | inr there ↦ later (any_append xs ys there)
-  ]
-    where
-      later : (list_any f xs ≡ true) ⊎ (list_any f ys ≡ true) → (list_any f (x ∷ xs) ≡ true) ⊎ (list_any f ys ≡ true)
-      later (inl a) = inl (or_second (f x) (list_any f xs) a)
-      later (inr b) = inr b
+  any_append xs ys e = or_cases _ _ (sym (list_any-append f xs ys) ∙ e)
 
   pub any_left : (xs ys : List A) → list_any f xs ≡ true → list_any f (xs ++ ys) ≡ true
-  any_left [] ys e = absurd (true≢false (sym e))
-  any_left (x ∷ xs) ys e = elim (or_cases (f x) (list_any f xs) e) [
-    | inl here ↦ or_first (f x) (list_any f (xs ++ ys)) here
-    | inr there ↦ or_second (f x) (list_any f (xs ++ ys)) (any_left xs ys there)
-  ]
+  any_left xs ys e = list_any-append f xs ys ∙ or_first _ _ e
 
   pub any_right : (xs ys : List A) → list_any f ys ≡ true → list_any f (xs ++ ys) ≡ true
-  any_right [] ys e = e
-  any_right (x ∷ xs) ys e = or_second (f x) (list_any f (xs ++ ys)) (any_right xs ys e)
+  any_right xs ys e = list_any-append f xs ys ∙ or_right _ _ e
 
 pub any_each : {A B : Type 0} (f : B → Bool) (g : A → B) (xs : List A) → list_any f (each g xs) ≡ list_any (λ x. f (g x)) xs
 any_each f g [] = refl
@@ -118,7 +103,7 @@ module _ (f : Event → Bool) where
   of_find k v (x ∷ es) e passes =
       elim (eq_by_cmp key_cmp k x.0) as (λ b. cond b (Some x.1) (find key_cmp k es) ≡ Some v → list_any on_entry (x ∷ es) ≡ true) [
         | true ↦ λ h. or_first (f x.1) (list_any on_entry es) (ap f (same_some x.1 v h) ∙ passes)
-        | false ↦ λ h. or_second (f x.1) (list_any on_entry es) (of_find k v es h passes)
+        | false ↦ λ h. or_right (f x.1) (list_any on_entry es) (of_find k v es h passes)
       ] e
 
   -- and what is pending is an entry

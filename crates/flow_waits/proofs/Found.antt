@@ -1,6 +1,6 @@
 -- Where a flow becomes stalled in a run.
 use Rattle.std.proofs.Common.{◌≡◌, ◌≢◌, ℕ, ◌+◌, ◌-◌, ◌<◌, ◌≤◌, ◌==◌, ◌&&◌, ◌||◌, Bool, true, false, not, List, [], ◌∷◌, length, get_or, refl, sym, ap, subst, ◌∙◌, Option, Some, None, is_none, arith, inl, inr, ◌⊎◌, ⊎_elim, true≢false, eqb-true, eq-eqb}
-use Rattle.std.proofs.lemmas.Bool.{cases_eq, cases_lt}
+use Rattle.std.proofs.lemmas.Bool.{cases_eq, cases_lt, not-false, and_from, and_parts}
 use Rattle.std.proofs.lemmas.List.{get_or-set_same, get_or-set_other, length-set}
 use Rattle.std.proofs.Math.ListN.{get_or-eq_default}
 use Rattle.std.specs.Prelude.{◌↔◌, if◌then◌else◌, IsNone}
@@ -16,7 +16,7 @@ use Rattle.port.specs.declared.acts.Act.{Act}
 use Rattle.port.specs.declared.acts.Act.TheVariants.{Tx, Dropped}
 use Rattle.port.specs.Port.{taken}
 use Rattle.node_core.specs.declared.event.Event.{Event}
-use Rattle.node_core.specs.declared.event.Event.TheVariants.{Start, Rto, DelAck, Free, Arrive}
+use Rattle.node_core.specs.declared.event.Event.TheVariants.{Start, Free, Arrive}
 use Rattle.node_core.specs.Part.{LinkState, PartState, link_at, no_link}
 use Rattle.node_core.specs.Row.{Effect}
 use Rattle.node_core.specs.TraceLine.{TraceLine}
@@ -46,10 +46,6 @@ any_start flow [] = refl
 any_start flow (e ∷ es) =
     elim (is_start_of flow e.1) as (λ b. is_none (if b then Some e.0.time else start_due flow es) ≡ not (b || list_any (λ (entry : Key × Event). is_start_of flow entry.1) es)) [ true ↦ refl | false ↦ any_start flow es ]
 
-started_not : (b : Bool) → not b ≡ false → b ≡ true
-started_not true e = refl
-started_not false e = absurd (true≢false e)
-
 -- a packet of a flow waits at a link of a node
 pub record IsWaitingAt (flow : ℕ) (s : State) : Type 0 where
   pub node : ℕ
@@ -75,15 +71,12 @@ one_waits true w n c e = ap (λ x. not x && (n && not c)) e
 one_waits false w n c e = refl
 
 one_starts : (u w n c : Bool) → n ≡ false → ((u && not w) && (n && not c)) ≡ false
-one_starts true true n c e = refl
 one_starts true false n c e = ap (λ x. x && not c) e
-one_starts false w n c e = refl
+one_starts _ _ n c e = refl
 
 one_comes : (u w n c : Bool) → c ≡ true → ((u && not w) && (n && not c)) ≡ false
-one_comes true true n c e = refl
 one_comes true false true c e = ap not e
-one_comes true false false c e = refl
-one_comes false w n c e = refl
+one_comes _ _ _ c e = refl
 
 by_facts : (u w n c u' w' n' c' : Bool) → (u ≡ false → u' ≡ false) → (w ≡ true → (w' ≡ true) ⊎ (c' ≡ true)) → (n ≡ false → n' ≡ false) → (c ≡ true → c' ≡ true)
     → ((u && not w) && (n && not c)) ≡ false → ((u' && not w') && (n' && not c')) ≡ false
@@ -133,6 +126,10 @@ module _ (p : ScenarioParts) (is_scenario : IsScenario p) (lines : List TraceLin
   idle : IdleEmpty part
   idle index within none = (sound_link p is_scenario lines now s S k.node index nodes within).idle_empty (subst IsNone (sym none) refl)
 
+  -- a packet that is under way is so until it arrives
+  under_way_on : (q : Key) (x : Packet) → map.get s.pending q ≡ Some (Arrive x) → q ≢ k → map.get t.pending q ≡ Some (Arrive x)
+  under_way_on = arrival_stays p is_scenario lines now s t k v has.shape S due nodes M R
+
   comes_on : may_stall flow v effect.acts ≡ false → is_under_way flow (map.entries s.pending) ≡ true → is_under_way flow (map.entries t.pending) ≡ true
   comes_on not_own e =
       let at = any_pends (is_arrival_of flow) s.pending e in
@@ -141,18 +138,15 @@ module _ (p : ScenarioParts) (is_scenario : IsScenario p) (lines : List TraceLin
       let other : at.key ≢ k = λ same.
       let due_is : v ≡ Arrive x = same_some v (Arrive x) (sym due.pending ∙ ap (map.get s.pending) (sym same) ∙ here) in
       true≢false (sym (ap (λ (w : Event). may_stall flow w effect.acts) due_is ∙ its) ∙ not_own) in
-      pends_any (is_arrival_of flow) t.pending at.key (Arrive x) (arrival_stays p is_scenario lines now s t k v has.shape S due nodes M R at.key x here other) its
+      pends_any (is_arrival_of flow) t.pending at.key (Arrive x) (under_way_on at.key x here other) its
     where
       of_arrival : (w : Event) → is_arrival_of flow w ≡ true → (x : Packet) × (w ≡ Arrive x) × ((x.flow == flow) ≡ true)
-      of_arrival (Start own) e = absurd (true≢false (sym e))
-      of_arrival (Rto own) e = absurd (true≢false (sym e))
-      of_arrival (DelAck own) e = absurd (true≢false (sym e))
-      of_arrival (Free link) e = absurd (true≢false (sym e))
       of_arrival (Arrive x) e = (x, refl, e)
+      of_arrival _ e = absurd (true≢false (sym e))
 
   starts_on : may_stall flow v effect.acts ≡ false → is_none (start_due flow (map.entries s.pending)) ≡ false → is_none (start_due flow (map.entries t.pending)) ≡ false
   starts_on not_own e =
-      let at = any_pends (is_start_of flow) s.pending (started_not _ (sym (any_start flow (map.entries s.pending)) ∙ e)) in
+      let at = any_pends (is_start_of flow) s.pending (not-false _ (sym (any_start flow (map.entries s.pending)) ∙ e)) in
       let here : map.get s.pending at.key ≡ Some (Start flow) = at.there ∙ ap (λ (w : Event). Some w) (of_start at.event at.passes) in
       let its : (flow == flow) ≡ true = eq-eqb flow flow refl in
       let other : at.key ≢ k = λ same.
@@ -162,10 +156,7 @@ module _ (p : ScenarioParts) (is_scenario : IsScenario p) (lines : List TraceLin
     where
       of_start : (w : Event) → is_start_of flow w ≡ true → w ≡ Start flow
       of_start (Start own) e = ap Start (eqb-true own flow e)
-      of_start (Rto own) e = absurd (true≢false (sym e))
-      of_start (DelAck own) e = absurd (true≢false (sym e))
-      of_start (Free link) e = absurd (true≢false (sym e))
-      of_start (Arrive x) e = absurd (true≢false (sym e))
+      of_start _ e = absurd (true≢false (sym e))
 
   waits_here : may_stall flow v effect.acts ≡ false → (index : ℕ) → WaitsAt flow part index → (is_waiting flow t.parts ≡ true) ⊎ (is_under_way flow (map.entries t.pending) ≡ true)
   waits_here not_own index W = after (row_keeps flow part index W idle k v)
@@ -227,21 +218,16 @@ module _ (p : ScenarioParts) (is_scenario : IsScenario p) (lines : List TraceLin
       by (Start own) is e =
           one_starts (is_some_unfinished (sender_of flow s.parts)) (is_waiting flow s.parts) (is_none (start_due flow (map.entries s.pending))) (is_under_way flow (map.entries s.pending))
           (any_start flow (map.entries s.pending) ∙ ap not (pends_any (is_start_of flow) s.pending k (Start own) (due.pending ∙ ap (λ (w : Event). Some w) is) e))
-      by (Rto own) is e = absurd (true≢false (sym e))
-      by (DelAck own) is e = absurd (true≢false (sym e))
       by (Free link) is e =
           one_waits (is_some_unfinished (sender_of flow s.parts)) (is_waiting flow s.parts) (is_none (start_due flow (map.entries s.pending))) (is_under_way flow (map.entries s.pending))
           (drop_waits (k.number - 3) (sym (ap (λ (w : Event). list_any (is_drop_of flow) (effect_of s (k, w)).acts) is) ∙ e))
       by (Arrive x) is e =
           one_comes (is_some_unfinished (sender_of flow s.parts)) (is_waiting flow s.parts) (is_none (start_due flow (map.entries s.pending))) (is_under_way flow (map.entries s.pending))
           (pends_any (is_arrival_of flow) s.pending k (Arrive x) (due.pending ∙ ap (λ (w : Event). Some w) is) e)
+      by _ is e = absurd (true≢false (sym e))
 
   found_here : becomes_stalled flow s t ≡ (may_stall flow v effect.acts && is_stalled flow t)
   found_here = by_event (may_stall flow v effect.acts) (is_stalled flow s) (is_stalled flow t) not_stalled_before not_stalled_on
-
-  -- a packet that is under way is so until it arrives
-  under_way_on : (q : Key) (x : Packet) → map.get s.pending q ≡ Some (Arrive x) → q ≢ k → map.get t.pending q ≡ Some (Arrive x)
-  under_way_on q x there other = arrival_stays p is_scenario lines now s t k v has.shape S due nodes M R q x there other
 
 pub stalls_are_found : StallsAreFound
 stalls_are_found p n lines s u line flow is_scenario comes stepped_to =
@@ -293,30 +279,20 @@ drop_is state flow (Dropped link reason packet) its e = ap (λ n. is_stalled n s
 
 some_stalled : (event : Event) (acts : List Act) (state : State) → some_stalls event acts state ≡ true → Stalls event acts state
 some_stalled (Start own) acts state e = record { flow = own; may = eq-eqb own own refl; stalled = e }
-some_stalled (Rto own) acts state e = absurd (true≢false (sym e))
-some_stalled (DelAck own) acts state e = absurd (true≢false (sym e))
 some_stalled (Free link) acts state e =
     let at = any_place (is_stalled_by_drop state) acts no_act e in
     let found = by_drop state (get_or acts at.index no_act) at.passes in
     record { flow = found.0; may = any_at (is_drop_of found.0) acts no_act at.index at.within found.1; stalled = found.2 }
 some_stalled (Arrive x) acts state e = record { flow = x.flow; may = eq-eqb x.flow x.flow refl; stalled = e }
+some_stalled _ acts state e = absurd (true≢false (sym e))
 
 stalls_some : (flow : ℕ) (event : Event) (acts : List Act) (state : State) → may_stall flow event acts ≡ true → is_stalled flow state ≡ true → some_stalls event acts state ≡ true
 stalls_some flow (Start own) acts state its e = ap (λ n. is_stalled n state) (eqb-true own flow its) ∙ e
-stalls_some flow (Rto own) acts state its e = absurd (true≢false (sym its))
-stalls_some flow (DelAck own) acts state its e = absurd (true≢false (sym its))
 stalls_some flow (Free link) acts state its e =
     let at = any_place (is_drop_of flow) acts no_act its in
     any_at (is_stalled_by_drop state) acts no_act at.index at.within (drop_is state flow (get_or acts at.index no_act) at.passes e)
 stalls_some flow (Arrive x) acts state its e = ap (λ n. is_stalled n state) (eqb-true x.flow flow its) ∙ e
-
-both : (a b : Bool) → a ≡ true → b ≡ true → (a && b) ≡ true
-both true b p q = q
-both false b p q = absurd (true≢false (sym p))
-
-parts_of_both : (a b : Bool) → (a && b) ≡ true → (a ≡ true) × (b ≡ true)
-parts_of_both true b e = (refl, e)
-parts_of_both false b e = absurd (true≢false (sym e))
+stalls_some flow _ acts state its e = absurd (true≢false (sym its))
 
 -- some flow becomes stalled
 pub some_found : (before after : Reached) (line : TraceLine) → IsRun before → Stepped before (Some line) after
@@ -324,8 +300,8 @@ pub some_found : (before after : Reached) (line : TraceLine) → IsRun before �
 some_found before after line is stepped_to = (
   λ e.
       let found = some_stalled line.event line.acts after.state e in
-      (found.flow, found_by_step before after line found.flow is stepped_to ∙ both (may_stall found.flow line.event line.acts) (is_stalled found.flow after.state) found.may found.stalled),
+      (found.flow, found_by_step before after line found.flow is stepped_to ∙ and_from (may_stall found.flow line.event line.acts) (is_stalled found.flow after.state) found.may found.stalled),
   λ (one : (flow : ℕ) × (becomes_stalled flow before.state after.state ≡ true)).
-      let two = parts_of_both (may_stall one.0 line.event line.acts) (is_stalled one.0 after.state) (sym (found_by_step before after line one.0 is stepped_to) ∙ one.1) in
+      let two = and_parts (may_stall one.0 line.event line.acts) (is_stalled one.0 after.state) (sym (found_by_step before after line one.0 is stepped_to) ∙ one.1) in
       stalls_some one.0 line.event line.acts after.state two.0 two.1,
 )

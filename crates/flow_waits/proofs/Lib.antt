@@ -1,4 +1,3 @@
-mod Appended
 mod Reported
 pub mod Any
 pub mod Waiting

@@ -1,8 +1,9 @@
 -- A sender that has all bytes acknowledged has so after each row.
-use Rattle.std.proofs.Common.{◌≡◌, ℕ, ◌+◌, ◌-◌, ◌*◌, ◌<◌, ◌≤◌, ◌==◌, Bool, true, false, cond, leb, refl, sym, ap, ◌∙◌, Option, Some, None, arith, true≢false, List, [], ◌∷◌, set, get_or, zero, suc, length}
+use Rattle.std.proofs.Common.{◌≡◌, ℕ, ◌-◌, ◌≤◌, ◌==◌, Bool, true, false, cond, leb, refl, sym, ap, ◌∙◌, Option, Some, None, arith, List, [], ◌∷◌, set, get_or, zero, suc}
 use Rattle.std.specs.Prelude.{nat_lt, is_some}
 use Rattle.std.specs.Option.{option_or}
 use borrow.Author.Tests.{ltb-false}
+use Rattle.std.proofs.lemmas.Bool.{cond_both}
 use Rattle.std.proofs.lemmas.Bool.Decides.{nat_tests}
 use Rattle.sim_time.specs.declared.key.Key.{Key}
 use Rattle.packet_chain.specs.declared.packet.Packet.{Packet}
@@ -29,15 +30,10 @@ use Rattle.flow_waits.specs.Stalled.{sender_if, sender_for, sender_of, is_unfini
 -- the bytes of a sender's flow; 0 at other nodes
 abbrev pub total_at : Role → ℕ
 total_at (Sends flow f) = total f
-total_at (Receives flow b) = 0
-total_at (Routes table) = 0
+total_at _ = 0
 
 abbrev SameTotal : SenderFields → Planned → Type 0
 SameTotal f planned = total planned.fields ≡ total f
-
-either : (f : SenderFields) (b : Bool) (x y : Planned) → SameTotal f x → SameTotal f y → SameTotal f (cond b x y)
-either f true x y p q = p
-either f false x y p q = q
 
 measured : (o : Option Timing) (f : SenderFields) (ack now : ℕ) → total (measured_by o f ack now) ≡ total f
 measured None f ack now = refl
@@ -54,28 +50,22 @@ timeout_total f now = refl
 ack_total : (f : SenderFields) (ack now : ℕ) → SameTotal f (acknowledged f ack now)
 ack_total f ack now =
     by_rows (SameTotal f) f ack now
-    (λ _ _. measured f.timing f ack now) (λ _ _. either f _ _ _ (measured f.timing f ack now) (measured f.timing f ack now)) refl
-    (λ _. either f _ _ _ refl refl) (λ _ _ _. refl) (λ _ _. refl)
-    (λ _ _. either f _ _ _ refl refl) (λ _ _. refl)
+    (λ _ _. measured f.timing f ack now) (λ _ _. cond_both _ _ _ (SameTotal f) (λ _. measured f.timing f ack now) (λ _. measured f.timing f ack now)) refl
+    (λ _. cond_both _ _ _ (SameTotal f) (λ _. refl) (λ _. refl)) (λ _ _ _. refl) (λ _ _. refl)
+    (λ _ _. cond_both _ _ _ (SameTotal f) (λ _. refl) (λ _. refl)) (λ _ _. refl)
 
 module _ (part : PartState) (key : Key) where
-  quiet_total : (ρ : Role) → part.role ≡ ρ → total_at part.role ≡ total_at ρ
-  quiet_total ρ is = ap total_at is
-
   starts : (ρ : Role) → part.role ≡ ρ → total_at (start_row part ρ key).part.role ≡ total_at ρ
   starts (Sends n f) is = start_total f key.time
-  starts (Receives n b) is = ap total_at is
-  starts (Routes table) is = ap total_at is
+  starts _ is = ap total_at is
 
   ends : (ρ : Role) → part.role ≡ ρ → total_at (rto_row part ρ key).part.role ≡ total_at ρ
   ends (Sends n f) is = timeout_total f key.time
-  ends (Receives n b) is = ap total_at is
-  ends (Routes table) is = ap total_at is
+  ends _ is = ap total_at is
 
   answers : (ρ : Role) → part.role ≡ ρ → total_at (delack_row part ρ key).part.role ≡ total_at ρ
-  answers (Sends n f) is = ap total_at is
   answers (Receives n b) is = refl
-  answers (Routes table) is = ap total_at is
+  answers _ is = ap total_at is
 
   to_sender : (n : ℕ) (f : SenderFields) (c : Kind) (number : ℕ) → part.role ≡ Sends n f → total_at (at_sender part key n f c number).part.role ≡ total f
   to_sender n f Data number is = ap total_at is
@@ -125,14 +115,9 @@ goes_on flow (Sends n f) (Sends m g) rises same =
       same = if_same (n == flow) (m == flow) f g its;
       finished = if_finished (n == flow) (m == flow) f g its (not_below f.una (total f) g.una (total g) rises.1.una_rises same);
     }
-goes_on flow (Sends n f) (Receives m b) rises same = absurd rises
-goes_on flow (Sends n f) (Routes table) rises same = absurd rises
-goes_on flow (Receives n a) (Sends m g) rises same = absurd rises
 goes_on flow (Receives n a) (Receives m b) rises same = record { same = refl; finished = λ _. refl }
-goes_on flow (Receives n a) (Routes table) rises same = absurd rises
-goes_on flow (Routes table) (Sends m g) rises same = absurd rises
-goes_on flow (Routes table) (Receives m b) rises same = absurd rises
 goes_on flow (Routes table) (Routes later) rises same = record { same = refl; finished = λ _. refl }
+goes_on flow _ _ rises same = absurd rises
 
 -- the sender of a flow among nodes of which one changes
 first_else : (o rest : Option SenderFields) → is_some_unfinished (option_or o rest) ≡ cond (is_some o) (is_some_unfinished o) (is_some_unfinished rest)

@@ -1,6 +1,7 @@
 -- A packet of a flow that waits at a link: after a row it waits still, or leaves, or a link that became free has dropped it.
-use Rattle.std.proofs.Common.{◌≡◌, ◌≢◌, ℕ, ◌+◌, ◌-◌, ◌<◌, ◌≤◌, ◌==◌, Bool, true, false, cond, List, [], ◌∷◌, ◌++◌, map as each, length, get_or, set, refl, sym, ap, subst, ◌∙◌, Option, Some, None, arith, inl, inr, ◌⊎◌, ⊎_elim, true≢false}
-use Rattle.std.proofs.lemmas.Bool.{cases_eq}
+use Rattle.std.proofs.Common.{◌≡◌, ◌≢◌, ℕ, ◌+◌, ◌-◌, ◌<◌, ◌≤◌, ◌==◌, Bool, true, cond, List, [], ◌∷◌, ◌++◌, map as each, length, get_or, set, refl, sym, ap, subst, ◌∙◌, Option, Some, None, arith, inl, inr, ◌⊎◌, ⊎_elim, true≢false}
+use Rattle.std.proofs.Math.Bool.{or-false}
+use Rattle.std.proofs.lemmas.Bool.{cases_eq, cond_both}
 use Rattle.std.proofs.lemmas.List.{get_or-set_same, get_or-set_other}
 use Rattle.std.specs.Prelude.{is_none}
 use Rattle.std.specs.List.{list_any}
@@ -10,7 +11,6 @@ use Rattle.packet_chain.specs.declared.packet.Kind.{Kind}
 use Rattle.packet_chain.specs.declared.packet.Kind.TheVariants.{Data, Ack}
 use Rattle.packet_chain.specs.Stamped.{Stamped}
 use Rattle.aqm.specs.declared.queue.Queue.{Queue}
-use Rattle.aqm.specs.declared.drop_reason.TakeDrop.{TakeDrop}
 use Rattle.aqm.specs.DropTail.{is_full}
 use Rattle.aqm.specs.Laws.{listed}
 use Rattle.aqm.specs.Queue.{fifo_of, waiting_in, offered_to, take_reason, taken_from}
@@ -49,16 +49,12 @@ module _ (flow now : ℕ) where
     pub holds : Holds flow step.port.queue
     pub busy : step.port.next_free ≡ Some u
 
-  either : (u : ℕ) (b : Bool) (x y : PortStep) → StaysBusy u x → (b ≡ false → StaysBusy u y) → StaysBusy u (cond b x y)
-  either u true x y p q = p
-  either u false x y p q = q refl
-
   pub one_busy : (u : ℕ) (port : PortState) (x : Packet) → port.next_free ≡ Some u → Holds flow port.queue → StaysBusy u (offered_one now port x)
   one_busy u port x busy holds =
       let counted : PortState = record port { offered = port.offered + 1 } in
       let refused : (acts : List Act) → StaysBusy u (only counted acts) = λ acts. record { holds = holds; busy = busy } in
-      either u (is_lost port.lose counted.offered) _ _ (refused _) (λ _.
-      either u (is_full (fifo_of port.queue)) _ _ (refused _) (λ room.
+      cond_both (is_lost port.lose counted.offered) _ _ (StaysBusy u) (λ _. refused _) (λ _.
+      cond_both (is_full (fifo_of port.queue)) _ _ (StaysBusy u) (λ _. refused _) (λ room.
       let last = enters_last port.queue (x, now) now room in
       subst (λ o. StaysBusy u (cond (is_none o) (taken now (with_packet now counted x)) (only (with_packet now counted x) []))) (sym busy)
       (record {
@@ -76,18 +72,11 @@ module _ (flow now : ℕ) where
   -- what a take gives begins to be sent
   given_departs : (port : PortState) (o : Option Stamped) → list_any (is_of flow) (listed o) ≡ true → Departs flow (begun now port o).departure
   given_departs port None e = absurd (true≢false (sym e))
-  given_departs port (Some head) e = (_, refl, only_one (head.0.flow == flow) e)
-    where
-      only_one : (b : Bool) → list_any (λ (x : Bool). x) (b ∷ []) ≡ true → b ≡ true
-      only_one true e = refl
-      only_one false e = e
+  given_departs port (Some head) e = (_, refl, sym (or-false (head.0.flow == flow)) ∙ e)
 
   same_queue : (port : PortState) (o : Option Stamped) → (begun now port o).port.queue ≡ port.queue
   same_queue port None = refl
   same_queue port (Some head) = refl
-
-  drops_reported : (link : ℕ) (reason : TakeDrop) (cells : List Stamped) → list_any (is_drop_of flow) (each (dropped_for link reason) cells) ≡ list_any (is_of flow) cells
-  drops_reported link reason cells = any_each (is_drop_of flow) (dropped_for link reason) cells
 
   -- what waits before a take waits still, is sent, or is dropped
   pub data AfterTake (step : PortStep) : Type 0 where
@@ -104,7 +93,7 @@ module _ (flow now : ℕ) where
       (λ (front : list_any (is_of flow) (t.dropped ++ listed t.given) ≡ true).
       ⊎_elim
       (λ (out : list_any (is_of flow) t.dropped ≡ true).
-      dropped (any_left (is_drop_of flow) (each (dropped_for port.link (take_reason port.queue)) t.dropped) (begun now rest t.given).acts (drops_reported port.link (take_reason port.queue) t.dropped ∙ out)))
+      dropped (any_left (is_drop_of flow) (each (dropped_for port.link (take_reason port.queue)) t.dropped) (begun now rest t.given).acts (any_each (is_drop_of flow) (dropped_for port.link (take_reason port.queue)) t.dropped ∙ out)))
       (λ (on : list_any (is_of flow) (listed t.given) ≡ true). leaves (given_departs rest t.given on))
       (any_append (is_of flow) t.dropped (listed t.given) front))
       (λ (back : list_any (is_of flow) (waiting_in t.queue) ≡ true). waits (ap (λ q. list_any (is_of flow) (waiting_in q)) (same_queue rest t.given) ∙ back))
@@ -122,7 +111,7 @@ module _ (flow now : ℕ) where
       ⊎_elim
       (λ (out : list_any (is_drop_of flow) (each (dropped_for port.link (take_reason port.queue)) t.dropped) ≡ true).
       ap (list_any (is_of flow)) (sym (takes_the_front port.queue now))
-      ∙ any_left (is_of flow) (t.dropped ++ listed t.given) (waiting_in t.queue) (any_left (is_of flow) t.dropped (listed t.given) (sym (drops_reported port.link (take_reason port.queue) t.dropped) ∙ out)))
+      ∙ any_left (is_of flow) (t.dropped ++ listed t.given) (waiting_in t.queue) (any_left (is_of flow) t.dropped (listed t.given) (sym (any_each (is_drop_of flow) (dropped_for port.link (take_reason port.queue)) t.dropped) ∙ out)))
       (λ (sent : list_any (is_drop_of flow) (begun now rest t.given).acts ≡ true). absurd (none_sent rest t.given sent))
       (any_append (is_drop_of flow) (each (dropped_for port.link (take_reason port.queue)) t.dropped) (begun now rest t.given).acts e)
 
@@ -199,18 +188,15 @@ module _ (flow : ℕ) (part : PartState) (index : ℕ) (W : WaitsAt flow part in
   module _ (idle : IdleEmpty part) (key : Key) where
     starts : (own : ℕ) (ρ : Role) → AfterRow flow (Start own) index (start_row part ρ key)
     starts own (Sends n f) = all_keep idle (Start own) _ _ key.time 0 _
-    starts own (Receives n b) = stays_quiet (Start own)
-    starts own (Routes table) = stays_quiet (Start own)
+    starts own _ = stays_quiet (Start own)
 
     ends : (own : ℕ) (ρ : Role) → AfterRow flow (Rto own) index (rto_row part ρ key)
     ends own (Sends n f) = all_keep idle (Rto own) _ _ key.time 0 _
-    ends own (Receives n b) = stays_quiet (Rto own)
-    ends own (Routes table) = stays_quiet (Rto own)
+    ends own _ = stays_quiet (Rto own)
 
     answers : (own : ℕ) (ρ : Role) → AfterRow flow (DelAck own) index (delack_row part ρ key)
-    answers own (Sends n f) = stays_quiet (DelAck own)
     answers own (Receives n b) = all_keep idle (DelAck own) _ _ key.time 0 (ack_of n (timer_came b).reply)
-    answers own (Routes table) = stays_quiet (DelAck own)
+    answers own _ = stays_quiet (DelAck own)
 
     to_sender : (x : Packet) (n : ℕ) (f : SenderFields) (c : Kind) → AfterRow flow (Arrive x) index (at_sender part key n f c x.number)
     to_sender x n f Data = stays_quiet (Arrive x)

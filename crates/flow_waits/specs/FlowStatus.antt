@@ -21,6 +21,10 @@ numbered before n = before ++ decimal n
 abbrev pub between : List ℕ → ℕ → List ℕ → List ℕ
 between before n after = numbered before n ++ after
 
+-- a count between two texts, of which the second is another for a count of one
+abbrev pub count_text : List ℕ → ℕ → List ℕ → List ℕ → List ℕ
+count_text before n one other = between before n (if n == 1 then one else other)
+
 -- a timer, where it is one of a flow that is asked for
 abbrev pub timer_if : Bool → FlowTimer → Option FlowTimer
 timer_if is_own timer = if is_own then Some timer else None
@@ -77,31 +81,46 @@ abbrev pub awaited_text : Option DueTimer → List ℕ
 awaited_text None = codes "nothing goes on with it\n"
 awaited_text (Some due) = timer_pairs due.timer ++ between (codes " is due at ") due.time (codes " ns\n")
 
-abbrev pub stalled_text : SenderFields → Option DueTimer → List ℕ
-stalled_text f timer = between (codes " is stalled: ") f.dups (codes " duplicate acknowledgements, and ") ++ awaited_text timer
+-- of a flow that is stalled: its duplicate acknowledgements
+abbrev pub stalled_text : ℕ → Option DueTimer → List ℕ
+stalled_text dups timer =
+    count_text (codes " is stalled: ") dups (codes " duplicate acknowledgement, and ") (codes " duplicate acknowledgements, and ") ++ awaited_text timer
 
-abbrev pub sent_text : SenderFields → List ℕ
-sent_text f = numbered (codes " has sent all ") (total f) ++ between (codes " bytes: ") f.una (codes " are acknowledged\n")
+-- the bytes of a flow
+abbrev pub complete_text : ℕ → List ℕ
+complete_text total = count_text (codes " is complete: all ") total (codes " byte is acknowledged\n") (codes " bytes are acknowledged\n")
+
+-- and those of them that are acknowledged
+abbrev pub sent_text : ℕ → ℕ → List ℕ
+sent_text total una =
+    count_text (codes " has sent all ") total (codes " byte: ") (codes " bytes: ") ++ count_text [] una (codes " is acknowledged\n") (codes " are acknowledged\n")
 
 -- the bytes that are sent and not acknowledged, and those of one more segment
-abbrev pub flight_text : List ℕ → SenderFields → List ℕ
-flight_text before f = numbered before (flight_size f) ++ numbered (codes " bytes in flight, a segment of ") f.mss
+abbrev pub flight_text : List ℕ → ℕ → ℕ → List ℕ
+flight_text before flight mss = count_text before flight (codes " byte") (codes " bytes") ++ numbered (codes " in flight, a segment of ") mss
 
--- the window that is the least, in bytes: the congestion window, or the receiver's
+abbrev pub begun_text : List ℕ → SenderFields → List ℕ
+begun_text before f = flight_text before (flight_size f) f.mss
+
+-- the congestion window, in bytes
+abbrev pub cwnd_text : SenderFields → List ℕ
+cwnd_text f = between (codes ", cwnd ") f.cwnd (codes "\n")
+
+-- the window that is the least: the congestion window, or the receiver's
 abbrev pub window_text : SenderFields → List ℕ
-window_text f = if nat_le f.cwnd f.rwnd then between (codes ", cwnd ") f.cwnd (codes "\n") else between (codes ", rwnd ") f.rwnd (codes "\n")
+window_text f = if nat_le f.cwnd f.rwnd then cwnd_text f else between (codes ", rwnd ") f.rwnd (codes "\n")
 
 abbrev pub full_text : SenderFields → List ℕ
-full_text f = flight_text (codes " sends no more: ") f ++ window_text f
+full_text f = begun_text (codes " sends no more: ") f ++ window_text f
 
 abbrev pub open_text : SenderFields → List ℕ
-open_text f = flight_text (codes " may send at its next acknowledgement: ") f ++ between (codes ", cwnd ") f.cwnd (codes "\n")
+open_text f = begun_text (codes " may send at its next acknowledgement: ") f ++ cwnd_text f
 
 -- how a flow stands; of one that is stalled also which timer is due first
 abbrev pub flow_status_text : SenderFields → Option DueTimer → FlowStatus → List ℕ
 flow_status_text f timer (NotStarted time) = between (codes " is not started: it starts at ") time (codes " ns\n")
-flow_status_text f timer Complete = between (codes " is complete: all ") (total f) (codes " bytes are acknowledged\n")
-flow_status_text f timer Stalled = stalled_text f timer
-flow_status_text f timer SentAll = sent_text f
+flow_status_text f timer Complete = complete_text (total f)
+flow_status_text f timer Stalled = stalled_text f.dups timer
+flow_status_text f timer SentAll = sent_text (total f) f.una
 flow_status_text f timer SendsNoMore = full_text f
 flow_status_text f timer MaySend = open_text f

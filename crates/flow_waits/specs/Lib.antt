@@ -1,3 +1,4 @@
+pub mod Names
 pub mod Stalled
 pub mod FlowStatus
 pub mod Waits

@@ -13,49 +13,51 @@ use Rattle.node_core.specs.Part.{LinkState, PartState}
 use Rattle.table_run.specs.State.{State}
 use Rattle.trace_text.specs.Line.{kind_name}
 use Rattle.trace_text.specs.Dump.{links_in_order}
+use Rattle.flow_waits.specs.declared.names.ScenarioNames.{ScenarioNames}
 use Rattle.flow_waits.specs.declared.timer.FlowTimer.{FlowTimer}
 use Rattle.flow_waits.specs.declared.timer.FlowTimer.TheVariants.{Starts, Retransmission, DelayedAcknowledgement}
 use Rattle.flow_waits.specs.Stalled.{sender_of, start_due, has_packets}
+use Rattle.flow_waits.specs.Names.{NameList, named}
 use Rattle.flow_waits.specs.FlowStatus.{numbered, between, own_timer, first_timer, flow_status_of, flow_status_text}
 
 -- the first line; none where no node sends the flow
-abbrev pub sender_line : ℕ → Option ℕ → Bool → List (Key × Event) → Option SenderFields → List ℕ
-sender_line flow start packets pending None = []
-sender_line flow start packets pending (Some f) =
-    numbered (codes "flow ") flow ++ flow_status_text f (first_timer flow pending) (flow_status_of start packets f)
+abbrev pub sender_line : NameList → ℕ → Option ℕ → Bool → List (Key × Event) → Option SenderFields → List ℕ
+sender_line flows flow start packets pending None = []
+sender_line flows flow start packets pending (Some f) =
+    named (codes "flow ") flows flow ++ flow_status_text f (first_timer flow pending) (flow_status_of start packets f)
 
-abbrev pub flow_status_line : ℕ → List PartState → List (Key × Event) → List ℕ
-flow_status_line flow parts pending =
-    sender_line flow (start_due flow pending) (has_packets flow parts pending) pending (sender_of flow parts)
+abbrev pub flow_status_line : NameList → ℕ → List PartState → List (Key × Event) → List ℕ
+flow_status_line flows flow parts pending =
+    sender_line flows flow (start_due flow pending) (has_packets flow parts pending) pending (sender_of flow parts)
 
 -- a packet, behind a comma and a space: what it carries, and its number
 abbrev pub next_packet : Packet → List ℕ
 next_packet packet = numbered (codes ", " ++ kind_name packet.kind ++ codes " ") packet.number
 
 -- a packet of the flow that waits at a place of a link's queue
-abbrev pub waiting_one : ℕ → ℕ → ℕ × Stamped → List ℕ
-waiting_one flow link placed =
+abbrev pub waiting_one : NameList → ℕ → ℕ → ℕ × Stamped → List ℕ
+waiting_one links flow link placed =
     if placed.1.0.flow == flow
-    then next_packet placed.1.0 ++ numbered (codes " at place ") placed.0 ++ numbered (codes " of link ") link
+    then next_packet placed.1.0 ++ numbered (codes " at place ") placed.0 ++ named (codes " of link ") links link
     else []
 
 -- those of a link, from the head of its queue on, which is place 1
-abbrev pub places_waiting_at : ℕ → LinkState → List ℕ
-places_waiting_at flow link = flat_map (waiting_one flow link.port.link) (enumerate_from 1 (waiting_in link.port.queue))
+abbrev pub places_waiting_at : NameList → ℕ → LinkState → List ℕ
+places_waiting_at links flow link = flat_map (waiting_one links flow link.port.link) (enumerate_from 1 (waiting_in link.port.queue))
 
 -- a packet of the flow that is under way, with the node and the moment at which it arrives
-abbrev pub arriving : ℕ → Key → Packet → List ℕ
-arriving flow key packet =
+abbrev pub arriving : NameList → ℕ → Key → Packet → List ℕ
+arriving nodes flow key packet =
     if packet.flow == flow
-    then next_packet packet ++ numbered (codes " to node ") key.node ++ between (codes " at ") key.time (codes " ns")
+    then next_packet packet ++ named (codes " to node ") nodes key.node ++ between (codes " at ") key.time (codes " ns")
     else []
 
-abbrev pub under_way_one : ℕ → Key → Event → List ℕ
-under_way_one flow key (Start own) = []
-under_way_one flow key (Rto own) = []
-under_way_one flow key (DelAck own) = []
-under_way_one flow key (Free link) = []
-under_way_one flow key (Arrive packet) = arriving flow key packet
+abbrev pub under_way_one : NameList → ℕ → Key → Event → List ℕ
+under_way_one nodes flow key (Start own) = []
+under_way_one nodes flow key (Rto own) = []
+under_way_one nodes flow key (DelAck own) = []
+under_way_one nodes flow key (Free link) = []
+under_way_one nodes flow key (Arrive packet) = arriving nodes flow key packet
 
 -- a timer, behind a comma and a space
 abbrev pub next_timer : FlowTimer → List ℕ
@@ -74,13 +76,13 @@ list_line heading (comma ∷ []) = []
 list_line heading (comma ∷ space ∷ texts) = heading ++ texts ++ codes "\n"
 
 -- the flow's packets that wait, link by link in rising number
-abbrev pub waiting_line : ℕ → List PartState → List ℕ
-waiting_line flow parts = list_line (codes "waits: ") (flat_map (places_waiting_at flow) (links_in_order parts))
+abbrev pub waiting_line : NameList → ℕ → List PartState → List ℕ
+waiting_line links flow parts = list_line (codes "waits: ") (flat_map (places_waiting_at links flow) (links_in_order parts))
 
 -- the flow's packets under way, in the order of the keys of their arrivals
-abbrev pub under_way_line : ℕ → List (Key × Event) → List ℕ
-under_way_line flow pending =
-    list_line (codes "under way: ") (flat_map (λ (entry : Key × Event). under_way_one flow entry.0 entry.1) pending)
+abbrev pub under_way_line : NameList → ℕ → List (Key × Event) → List ℕ
+under_way_line nodes flow pending =
+    list_line (codes "under way: ") (flat_map (λ (entry : Key × Event). under_way_one nodes flow entry.0 entry.1) pending)
 
 -- the flow's timers, in the order of their keys
 abbrev pub timers_line : ℕ → List (Key × Event) → List ℕ
@@ -88,9 +90,9 @@ timers_line flow pending =
     list_line (codes "alarms: ") (flat_map (λ (entry : Key × Event). timer_one entry.0.time (own_timer flow entry.1)) pending)
 
 -- of the nodes, and what is pending in the order of keys
-abbrev pub waits_in : ℕ → List PartState → List (Key × Event) → List ℕ
-waits_in flow parts pending =
-    flow_status_line flow parts pending ++ waiting_line flow parts ++ under_way_line flow pending ++ timers_line flow pending
+abbrev pub waits_in : ScenarioNames → ℕ → List PartState → List (Key × Event) → List ℕ
+waits_in names flow parts pending =
+    flow_status_line names.flows flow parts pending ++ waiting_line names.links flow parts ++ under_way_line names.nodes flow pending ++ timers_line flow pending
 
-abbrev pub waits_bytes : ℕ → State → List ℕ
-waits_bytes flow state = waits_in flow state.parts (map.entries state.pending)
+abbrev pub waits_bytes : ScenarioNames → ℕ → State → List ℕ
+waits_bytes names flow state = waits_in names flow state.parts (map.entries state.pending)

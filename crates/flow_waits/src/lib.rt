@@ -8,6 +8,7 @@ mod ends;
 mod flow_status;
 pub mod guarantees;
 mod lists;
+mod names;
 mod packets;
 mod queues;
 mod sentence;
@@ -16,5 +17,6 @@ mod timer;
 mod waits;
 
 pub use becomes::{becomes_stalled, some_becomes_stalled};
+pub use names::{PartNames, ScenarioNames};
 pub use stalled::is_stalled;
 pub use waits::waits_text;

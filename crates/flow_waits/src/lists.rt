@@ -6,7 +6,8 @@ ghost use Rattle.node_core.specs.declared.event.Event.{Event};
 ghost use Rattle.flow_waits.specs.FlowStatus.{own_timer as timer_is};
 ghost use Rattle.flow_waits.specs.Waits.{arriving, under_way_one, next_timer, timer_one, list_line};
 
-use crate::append::{append_between, append_numbered};
+use crate::append::{append_between, append_named};
+use crate::names::PartNames;
 use crate::queues::append_packet;
 use crate::timer::{FlowTimer, own_timer};
 use node_core::Event;
@@ -17,38 +18,51 @@ use std::alloc::AllocError;
 /// Appends the packets of a flow that are under way, in the order of keys, each behind a comma. After an `Err`,
 /// as with all functions here, a part of the text may stand there.
 pub(crate) fn append_under_way(
+    names: &PartNames,
     flow: u16,
     pending: &[(Key, Event)],
     out: &mut Vec<u8>,
 ) -> Result<(), AllocError>
     ensures { OnOk result (out.new.items ≡ out.old.items
-        ++ flat_map (λ (entry : Key × Event). under_way_one flow entry.0 entry.1) pending.now) }
+        ++ flat_map (λ (entry : Key × Event). under_way_one names.now flow entry.0 entry.1) pending.now) }
 {
     for (key, event) in pending {
-        append_event(flow, key, event, out)?;
+        append_event(names, flow, key, event, out)?;
     }
     Ok(())
 }
 
 /// A packet, where an event is the arrival of one of the flow.
-fn append_event(flow: u16, key: &Key, event: &Event, out: &mut Vec<u8>) -> Result<(), AllocError>
-    ensures { OnOk result (out.new.items ≡ out.old.items ++ under_way_one flow key.now event.now) }
+fn append_event(
+    names: &PartNames,
+    flow: u16,
+    key: &Key,
+    event: &Event,
+    out: &mut Vec<u8>,
+) -> Result<(), AllocError>
+    ensures { OnOk result (out.new.items ≡ out.old.items ++ under_way_one names.now flow key.now event.now) }
 {
     match event {
-        Event::Arrive(packet) => append_own(flow, key, packet, out),
+        Event::Arrive(packet) => append_own(names, flow, key, packet, out),
         Event::Start(_) | Event::Rto(_) | Event::DelAck(_) | Event::Free(_) => Ok(()),
     }
 }
 
 /// A packet that is under way, where it is one of the flow.
-fn append_own(flow: u16, key: &Key, packet: &Packet, out: &mut Vec<u8>) -> Result<(), AllocError>
-    ensures { OnOk result (out.new.items ≡ out.old.items ++ arriving flow key.now packet.now) }
+fn append_own(
+    names: &PartNames,
+    flow: u16,
+    key: &Key,
+    packet: &Packet,
+    out: &mut Vec<u8>,
+) -> Result<(), AllocError>
+    ensures { OnOk result (out.new.items ≡ out.old.items ++ arriving names.now flow key.now packet.now) }
 {
     if packet.flow != flow {
         return Ok(());
     }
     append_packet(packet, out)?;
-    append_numbered(b" to node ", u64::from(key.node), out)?;
+    append_named(b" to node ", names, key.node, out)?;
     append_between(b" at ", key.time, b" ns", out)
 }
 

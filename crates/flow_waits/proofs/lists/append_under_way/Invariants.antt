@@ -8,5 +8,5 @@ use Rattle.flow_waits.proofs.lists.append_under_way.Given as goal
 
 abbrev pub invariant-loop-key : goal.invariant-loop-key
 invariant-loop-key l =
-    l.out.items ++ flat_map (λ (entry : Key × Event). under_way_one l.flow entry.0 entry.1) (drop l.key-index l.pending)
-    ≡ l.initial.out.items ++ flat_map (λ (entry : Key × Event). under_way_one l.flow entry.0 entry.1) l.pending
+    l.out.items ++ flat_map (λ (entry : Key × Event). under_way_one l.names l.flow entry.0 entry.1) (drop l.key-index l.pending)
+    ≡ l.initial.out.items ++ flat_map (λ (entry : Key × Event). under_way_one l.names l.flow entry.0 entry.1) l.pending

@@ -8,4 +8,4 @@ use Rattle.flow_waits.proofs.queues.append_at_number.Given as goal
 
 abbrev pub invariant-loop-node : goal.invariant-loop-node
 invariant-loop-node l =
-    l.out.items ++ flat_map (places_waiting_at l.flow) (links_numbered (parts_of (drop l.node-index l.nodes)) l.number) ≡ l.initial.out.items ++ flat_map (places_waiting_at l.flow) (links_numbered (parts_of l.nodes) l.number)
+    l.out.items ++ flat_map (places_waiting_at l.names l.flow) (links_numbered (parts_of (drop l.node-index l.nodes)) l.number) ≡ l.initial.out.items ++ flat_map (places_waiting_at l.names l.flow) (links_numbered (parts_of l.nodes) l.number)

@@ -8,5 +8,5 @@ abbrev pub invariant-loop-packet : goal.invariant-loop-packet
 invariant-loop-packet l =
     (goal.iterator-loop-packet).can_next l.packet-iterator × (goal.iterator-loop-packet).is_finite l.packet-iterator
     × (l.place + length l.packet-iterator ≡ 1 + length l.fn.cells)
-    × (l.out.items ++ flat_map (waiting_one l.flow l.link) (enumerate_from l.place l.packet-iterator)
-    ≡ l.initial.out.items ++ flat_map (waiting_one l.flow l.link) (enumerate_from 1 l.fn.cells))
+    × (l.out.items ++ flat_map (waiting_one l.names l.flow l.link) (enumerate_from l.place l.packet-iterator)
+    ≡ l.initial.out.items ++ flat_map (waiting_one l.names l.flow l.link) (enumerate_from 1 l.fn.cells))

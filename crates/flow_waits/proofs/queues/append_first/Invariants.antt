@@ -8,5 +8,5 @@ use Rattle.flow_waits.proofs.queues.append_first.Given as goal
 
 abbrev pub invariant-loop-number : goal.invariant-loop-number
 invariant-loop-number l =
-    l.out.items ++ flat_map (places_waiting_at l.flow) (flat_map (links_numbered (parts_of l.nodes)) (range_with_len l.number (l.count - l.number)))
-    ≡ l.initial.out.items ++ flat_map (places_waiting_at l.flow) (flat_map (links_numbered (parts_of l.nodes)) (range_with_len 0 l.count))
+    l.out.items ++ flat_map (places_waiting_at l.names l.flow) (flat_map (links_numbered (parts_of l.nodes)) (range_with_len l.number (l.count - l.number)))
+    ≡ l.initial.out.items ++ flat_map (places_waiting_at l.names l.flow) (flat_map (links_numbered (parts_of l.nodes)) (range_with_len 0 l.count))
