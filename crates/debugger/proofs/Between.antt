@@ -1,9 +1,9 @@
 -- Lines between two positions of a run, as they are told one after another.
-use Rattle.std.proofs.Common.{◌≡◌, ◌≤◌, ◌+◌, ◌-◌, ◌∙◌, ℕ, suc, List, [], ◌∷◌, ◌++◌, Bool, true, false, true≢false, length, take, drop, reverse, refl, sym, ap, subst, arith, append_assoc, append-nil, length-append, length-drop, Some, Result, Ok, Err, OnOk}
-use Rattle.std.proofs.lemmas.List.{drop_all, drop-append-le, take-append-drop, reverse-append, length-take-le}
+use Rattle.std.proofs.Common.{◌≡◌, ◌≤◌, ◌+◌, ◌-◌, ◌∙◌, ℕ, suc, List, [], ◌∷◌, ◌++◌, length, take, drop, reverse, refl, sym, ap, subst, arith, append_assoc, append-nil, length-append, length-drop, Some, Result, Ok, Err, OnOk}
+use Rattle.std.proofs.lemmas.List.{drop_all, drop-append-le, reverse-append, length-take-le}
 use Rattle.std.specs.List.{concat}
 use Rattle.std.specs.Option.{option_map, option_and_then}
-use lib.Seq.{take_at, drop_at, take-append_seam, drop-append_seam, take-append-le}
+use lib.Seq.{drop_at, take-append_seam, drop-append_seam}
 use Rattle.node_core.specs.TraceLine.{TraceLine}
 use Rattle.table_run.specs.State.{State, one_step_more, run}
 use Rattle.table_run.proofs.Runs.{run_parts, run_length}
@@ -13,7 +13,7 @@ use Rattle.debugger.specs.declared.fault.MoveFault.{MoveFault}
 use Rattle.debugger.specs.declared.passed.LineOrder.{LineOrder}
 use Rattle.debugger.specs.declared.passed.LineOrder.TheVariants.{Rising, Falling}
 use Rattle.debugger.specs.Moves.{Passes}
-use Rattle.debugger.specs.Passed.{lines_of_steps, lines_between, texts_from, texts_between, ordered_texts, beside, AreReportedFrom, AreLinesReported}
+use Rattle.debugger.specs.Passed.{lines_of_steps, lines_between, texts_from, texts_between, ordered_texts, beside, AreReportedFrom}
 
 -- the lines to a state of the run, and how many they are
 pub lines_to : (start : State) (at : Reached) (here : Passes start at) → lines_of_steps (run start at.position) ≡ here.lines
@@ -92,20 +92,6 @@ reported_more start order m n size old new line before out made from at next cou
     ∙ ap (λ l. before ++ l) (sym (reported_beside order texts text))
     ∙ ap (λ ts. before ++ concat (ordered_texts order ts)) (sym (text_next start m old new line from at next))
 
--- what was there is there still
-pub reported_begins : (start : State) (order : LineOrder) (m p : ℕ) (before out : List ℕ) → AreReportedFrom start order m p before out → take (length before) out ≡ before
-reported_begins start order m p before out reported = ap (take (length before)) reported ∙ take-append_seam before (concat (ordered_texts order (texts_between start m p)))
-
--- and so it is by what is told at a run's end
-pub reported_front : (start : State) (order : LineOrder) (m p : ℕ) (before out : List ℕ) (is on : Bool) → AreLinesReported start order m p before out false is on → take (length before) out ≡ before
-reported_front start order m p before out is true reported = reported_begins start order m p before out reported.0
-reported_front start order m p before out is false reported = reported.0
-
--- all is told where memory was not refused
-pub reported_whole : (start : State) (order : LineOrder) (m p : ℕ) (before out : List ℕ) (is on : Bool) → AreLinesReported start order m p before out false is on → is ≡ false → (on ≡ true) × AreReportedFrom start order m p before out
-reported_whole start order m p before out is true reported none = (refl, reported.0)
-reported_whole start order m p before out is false reported none = absurd (true≢false (sym reported.1 ∙ none))
-
 -- a place that stays within what is put from it on
 pub still_within : (out made more : List ℕ) (n : ℕ) → n ≤ length out → made ≡ take n out ++ more → n ≤ length made
 still_within out made more n within is =
@@ -132,18 +118,3 @@ between_parts start a b at low high here =
     let so_many : length (lines_between start a b) ≡ b - a = lines_length start a (record { state = parted.between; position = b }) (record { lines = parted.first; comes = parted.begins }) in
     let number : a + 1 + length (lines_between start a b) ≡ b + 1 = omega (arith, so_many, low) in
     ap (texts_from (a + 1)) both ∙ texts_append (a + 1) (lines_between start a b) (lines_between start b at.position) ∙ ap (λ k. texts_between start a b ++ texts_from k (lines_between start b at.position)) number
-
--- a text that is put behind what stands from a place on, or before it
-pub put_in_place : (order : LineOrder) (out made turned text : List ℕ) (n end : ℕ) → n ≤ length out → end ≡ length out → made ≡ out ++ text
-    → turned ≡ take n made ++ beside order (take (end - n) (drop n made)) (drop (end - n) (drop n made)) → turned ≡ take n out ++ beside order (drop n out) text
-put_in_place order out made turned text n end within last is turn =
-    let front : take n made ≡ take n out = ap (take n) is ∙ take-append-le n out text within in
-    let back : drop n made ≡ drop n out ++ text = ap (drop n) is ∙ drop-append-le n out text within in
-    let gap : length (drop n out) ≡ end - n = omega (arith, length-drop n out, last) in
-    let first : take (end - n) (drop n made) ≡ drop n out = ap (take (end - n)) back ∙ take_at (drop n out) text (end - n) gap in
-    let second : drop (end - n) (drop n made) ≡ text = ap (drop (end - n)) back ∙ drop_at (drop n out) text (end - n) gap in
-    turn ∙ ap (λ l. take n made ++ beside order l (drop (end - n) (drop n made))) first ∙ ap (λ l. take n made ++ beside order (drop n out) l) second ∙ ap (λ l. l ++ beside order (drop n out) text) front
-
--- the bytes as they are
-pub stay_in_place : (bytes : List ℕ) (n k : ℕ) → bytes ≡ take n bytes ++ beside Rising (take k (drop n bytes)) (drop k (drop n bytes))
-stay_in_place bytes n k = sym (take-append-drop n bytes) ∙ ap (λ l. take n bytes ++ l) (sym (take-append-drop k (drop n bytes)))

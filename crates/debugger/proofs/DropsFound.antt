@@ -1,14 +1,12 @@
 -- The drops among the lines of a run, as they are found one line after another.
-use Rattle.std.proofs.Common.{◌≡◌, ◌+◌, ◌∙◌, ℕ, suc, List, [], ◌∷◌, ◌++◌, Bool, true, false, true≢false, length, take, refl, sym, ap, arith, append_assoc, append-nil, Some}
-use Rattle.std.proofs.lemmas.List.{take-take, length-append}
-use lib.Seq.{take-append_seam}
+use Rattle.std.proofs.Common.{◌≡◌, ◌+◌, ◌∙◌, ℕ, suc, List, [], ◌∷◌, ◌++◌, length, sym, ap, arith, append_assoc, append-nil, Some}
 use Rattle.node_core.specs.TraceLine.{TraceLine}
 use Rattle.table_run.specs.State.{State}
 use Rattle.net_machine.specs.Run.{Reached, Stepped}
 use Rattle.debugger.specs.declared.drops.DropsOf.{DropsOf}
 use Rattle.debugger.specs.declared.drops.PastDrop.{PastDrop}
 use Rattle.debugger.specs.Moves.{Passes}
-use Rattle.debugger.specs.Drops.{drops_in, drops_from, past_drops, AreDropsUpto, AreDropsFound}
+use Rattle.debugger.specs.Drops.{drops_in, drops_from, past_drops}
 use Rattle.debugger.proofs.Between.{lines_to, as_many, one_line}
 
 drops_append : (asked : DropsOf) (n : ℕ) (xs ys : List TraceLine) → drops_from asked n (xs ++ ys) ≡ drops_from asked n xs ++ drops_from asked (n + length xs) ys
@@ -31,7 +29,7 @@ drops_next start asked old new line at next =
     ∙ ap (λ ls. drops_from asked 1 ls ++ drops_in asked new.position line.acts) (sym (lines_to start old at))
 
 pub drops_more : (start : State) (asked : DropsOf) (n : ℕ) (old new : Reached) (line : TraceLine) (before out made : List PastDrop) → Passes start old → Stepped old (Some line) new → n ≡ new.position
-    → AreDropsUpto start asked old.position before out → made ≡ out ++ drops_in asked n line.acts → AreDropsUpto start asked new.position before made
+    → out ≡ before ++ past_drops start asked old.position → made ≡ out ++ drops_in asked n line.acts → made ≡ before ++ past_drops start asked new.position
 drops_more start asked n old new line before out made at next count are is =
     is ∙ ap (λ l. l ++ drops_in asked n line.acts) are
     ∙ append_assoc before (past_drops start asked old.position) (drops_in asked n line.acts)
@@ -39,25 +37,5 @@ drops_more start asked n old new line before out made at next count are is =
     ∙ ap (λ l. before ++ l) (sym (drops_next start asked old new line at next))
 
 -- at the run's beginning there is none
-pub drops_none : (start : State) (asked : DropsOf) (p : ℕ) (out : List PastDrop) → p ≡ 0 → AreDropsUpto start asked p out out
+pub drops_none : (start : State) (asked : DropsOf) (p : ℕ) (out : List PastDrop) → p ≡ 0 → out ≡ out ++ past_drops start asked p
 drops_none start asked p out begins = sym (append-nil out) ∙ ap (λ k. out ++ past_drops start asked k) (sym begins)
-
--- what was there before is there still
-pub drops_begin : (start : State) (asked : DropsOf) (p : ℕ) (before out : List PastDrop) → AreDropsUpto start asked p before out → take (length before) out ≡ before
-drops_begin start asked p before out are = ap (take (length before)) are ∙ take-append_seam before (past_drops start asked p)
-
--- and it is where what was found is kept
-pub still_begins : (before more out made : List PastDrop) → out ≡ before ++ more → take (length out) made ≡ out → take (length before) made ≡ before
-still_begins before more out made is same =
-    let all = ap length is in
-    let parts = length-append before more in
-    sym (take-take (length before) (length out) made (omega (arith, all, parts))) ∙ ap (take (length before)) same ∙ ap (take (length before)) is ∙ take-append_seam before more
-
-pub drops_front : (start : State) (asked : DropsOf) (p : ℕ) (before out : List PastDrop) (is on : Bool) → AreDropsFound start asked p before out false is on → take (length before) out ≡ before
-drops_front start asked p before out is true found = drops_begin start asked p before out found.0
-drops_front start asked p before out is false found = found.0
-
--- all are found where memory was not refused
-pub drops_whole : (start : State) (asked : DropsOf) (p : ℕ) (before out : List PastDrop) (is on : Bool) → AreDropsFound start asked p before out false is on → is ≡ false → (on ≡ true) × AreDropsUpto start asked p before out
-drops_whole start asked p before out is true found none = (refl, found.0)
-drops_whole start asked p before out is false found none = absurd (true≢false (sym found.1 ∙ none))

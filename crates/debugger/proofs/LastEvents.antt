@@ -1,15 +1,10 @@
 -- The first breakpoint that matches a line, and whether a run is at its end.
-use Rattle.std.proofs.Common.{◌≡◌, ◌<◌, ◌≤◌, ◌+◌, ◌∙◌, ℕ, List, ◌∷◌, ◌++◌, Bool, true, false, not, cond, length, take, drop, get_or, refl, sym, ap, subst, arith, Option, Some, None, is_none, length-append, true≢false, Result, Ok, Err, IfOk}
-use Rattle.std.specs.Prelude.{◌↔◌, IsTrue, nat_lt, is_some}
+use Rattle.std.proofs.Common.{◌≡◌, ◌<◌, ◌≤◌, ◌+◌, ◌∙◌, ℕ, List, ◌∷◌, ◌++◌, Bool, true, false, length, take, drop, get_or, refl, sym, ap, subst, arith, Option, Some, None, length-append, true≢false, Result, Ok, Err, IfOk}
+use Rattle.std.specs.Prelude.{◌↔◌, IsTrue, is_some}
 use Rattle.std.proofs.Math.Seq.{get_or-append_seam}
-use Rattle.std.specs.Option.{option_map}
 use Rattle.std.proofs.lemmas.List.{drop_more, length-take-le, take-append-drop, get_or-take}
-use Rattle.sim_time.specs.declared.key.Key.{Key}
-use Rattle.tournament.specs.Keyed.{least, next_key}
-use Rattle.tournament.proofs.Maps.{not_some, same_some}
-use Rattle.node_core.specs.declared.event.Event.{Event}
 use Rattle.node_core.specs.TraceLine.{TraceLine}
-use Rattle.table_run.specs.State.{State, below, due}
+use Rattle.table_run.specs.State.{State}
 use Rattle.debugger.specs.declared.breaks.Break.{Break}
 use Rattle.debugger.specs.declared.breaks.Hit.{Hit}
 use Rattle.debugger.specs.declared.seen.Seen.{Seen}
@@ -18,7 +13,7 @@ use Rattle.debugger.specs.Breaks.{Matches, IsHit, HitsFirst, IsFirstHit}
 use Rattle.net_machine.specs.Run.{Reached, Stepped}
 use Rattle.debugger.specs.declared.fault.MoveFault.{MoveFault}
 use Rattle.debugger.specs.declared.passed.LastEvent.{LastEvent}
-use Rattle.debugger.specs.LastEvents.{IsLastEvent, IsReportedOf}
+use Rattle.debugger.specs.LastEvents.{IsOfLine, IsLastEvent, IsReportedOf}
 use Rattle.debugger.specs.Moves.{Passes}
 
 module _ (breaks : List Break) (old : State) (line : TraceLine) (new : State) where
@@ -59,37 +54,16 @@ module _ (breaks : List Break) (old : State) (line : TraceLine) (new : State) wh
   found_any None none = (λ e. absurd (true≢false (sym e)), λ hit. absurd (none hit))
   found_any (Some hit) first = (λ _. hit_first hit first, λ _. refl)
 
--- whether something is due, by the key that is next
-pub none_is_due : (s : State) → next_key s.pending ≡ None → is_none (due s) ≡ true
-none_is_due s e = go (least s.pending) refl
-  where
-    go : (o : Option (Key × Event)) → least s.pending ≡ o → is_none (below s.end o) ≡ true
-    go None is = refl
-    go (Some entry) is = absurd (not_some (sym e ∙ ap (option_map (λ (x : Key × Event). x.0)) is))
-
-pub is_due_below : (s : State) (k : Key) → next_key s.pending ≡ Some k → is_none (due s) ≡ not (nat_lt k.time s.end)
-is_due_below s k e = go (least s.pending) refl
-  where
-    test : (entry : Key × Event) (b : Bool) → is_none (cond {A = Option (Key × Event)} b (Some entry) None) ≡ not b
-    test entry true = refl
-    test entry false = refl
-
-    go : (o : Option (Key × Event)) → least s.pending ≡ o → is_none (below s.end o) ≡ not (nat_lt k.time s.end)
-    go None is = absurd (not_some (sym (ap (option_map (λ (x : Key × Event). x.0)) is) ∙ e))
-    go (Some entry) is =
-        let same : entry.0 ≡ k = same_some entry.0 k (sym (ap (option_map (λ (x : Key × Event). x.0)) is) ∙ e) in
-        test entry (nat_lt entry.0.time s.end) ∙ ap (λ (q : Key). not (nat_lt q.time s.end)) same
-
 -- what is told of the line to a position
 pub last_event : (start : State) (breaks : List Break) (old new : Reached) (line : TraceLine) (p : ℕ) (r : Result LastEvent MoveFault) → Passes start old → Stepped old (Some line) new → p ≡ new.position
-    → IfOk r (λ event. event.time ≡ line.key.time) → IfOk r (λ event. IsFirstHit breaks old.state line new.state event.hit) → IfOk r (IsLastEvent start breaks p)
-last_event start breaks old new line p (Ok event) at next here time first = record {
+    → IfOk r (IsOfLine line) → IfOk r (λ event. IsFirstHit breaks old.state line new.state event.hit) → IfOk r (IsLastEvent start breaks p)
+last_event start breaks old new line p (Ok event) at next here shows first = record {
   line = line;
   given = record { before = old; after = new.state; passes = at; gives = next.0; is_next = here ∙ next.1 };
-  time = time;
+  shows = shows;
   first = first;
 }
-last_event start breaks old new line p (Err fault) at next here time first = tt
+last_event start breaks old new line p (Err fault) at next here shows first = tt
 
 -- what is told of the event that a position is behind
 pub reported_last : (start : State) (breaks : List Break) (m p position : ℕ) (reported : Result LastEvent MoveFault) (on : Bool) → IsReportedOf start breaks m p reported on → m + 1 ≡ position → IfOk reported (IsLastEvent start breaks position)

@@ -9,7 +9,9 @@ pub mod Moments
 pub mod Alone
 pub mod TakenOut
 pub mod Between
+pub mod Found
 pub mod DropsFound
+pub mod StallsFound
 pub mod LastEvents
 mod Backward
 mod Judged

@@ -1,33 +1,20 @@
 -- Going to a moment, from wherever.
-use Rattle.std.proofs.Common.{◌≡◌, ℕ, suc, ◌+◌, ◌-◌, ◌<◌, ◌≤◌, List, [], refl, sym, ap, subst, ◌∙◌, Option, None, Some, ⊎_elim, ◌⊎◌, arith}
+use Rattle.std.proofs.Common.{◌≡◌, ℕ, suc, ◌+◌, ◌-◌, ◌<◌, ◌≤◌, List, [], refl, sym, ap, subst, ◌∙◌, Some, ⊎_elim, ◌⊎◌, arith}
 use Rattle.std.specs.List.{AllByRecursion}
-use Rattle.std.specs.Option.{option_map}
 use Rattle.std.proofs.lemmas.Bool.{cases_lt}
 use Rattle.sim_time.specs.declared.key.Key.{Key}
 use Rattle.node_core.specs.declared.event.Event.{Event}
 use Rattle.node_core.specs.TraceLine.{TraceLine}
-use Rattle.tournament.proofs.Maps.{not_some, same_some}
+use Rattle.tournament.proofs.Maps.{same_some}
 use Rattle.table_run.specs.State.{State, initial, due, run}
 use Rattle.table_run.specs.Sound.{EachEvent}
 use Rattle.table_run.proofs.Due.{is_due}
 use Rattle.table_run.proofs.Lists.{all_right}
 use Rattle.table_run.proofs.Runs.{of_step, of_run, run_parts}
 use Rattle.table_run.proofs.RunLaws.{sound_run}
-use Rattle.net_machine.specs.declared.due.Due.{Due}
-use Rattle.net_machine.specs.Due.{due_of}
 use Rattle.net_machine.specs.Run.{Reached, IsRun}
 use Rattle.debugger.specs.Moves.{Passes, IsDueBefore, SomeUpto, UntilGoesTo}
 use Rattle.debugger.proofs.Walks.{same_state}
-
--- the event that a net tells of is the one that is due
-pub reported_before : (time : ℕ) (s : State) (d : Due) → option_map due_of (due s) ≡ Some d → d.time < time → IsDueBefore time s
-reported_before time s d reported early = go (due s) refl reported
-  where
-    go : (o : Option (Key × Event)) → due s ≡ o → option_map due_of o ≡ Some d → IsDueBefore time s
-    go None is e = absurd (not_some e)
-    go (Some entry) is e =
-        let same = ap (λ (x : Due). x.time) (same_some (due_of entry) d e) in
-        record { key = entry.0; event = entry.1; due_is = is; early = omega (arith, same, early) }
 
 -- a run begins with the opening of its scenario
 opens : (at : Reached) → at.position ≡ 0 → (is : IsRun at) → at.state ≡ initial is.scenario

@@ -1,6 +1,6 @@
 -- What each breakpoint has seen of a state.
-use Rattle.std.proofs.Common.{◌≡◌, ℕ, ◌+◌, ◌<◌, List, [], ◌∷◌, ◌++◌, length, get_or, take, set, map as each, sym, ap, ◌∙◌}
-use Rattle.std.proofs.lemmas.List.{get_or-map, take_more, take_more_set, map-append, length-map}
+use Rattle.std.proofs.Common.{◌≡◌, ℕ, ◌+◌, ◌<◌, List, [], ◌∷◌, ◌++◌, length, get_or, take, map as each, sym, ap, ◌∙◌}
+use Rattle.std.proofs.lemmas.List.{get_or-map, take_more, map-append, length-map}
 use Rattle.table_run.specs.State.{State}
 use Rattle.debugger.specs.declared.breaks.Break.{Break}
 use Rattle.debugger.specs.declared.seen.Seen.{Seen}
@@ -21,10 +21,3 @@ module _ (breaks : List Break) (s : State) (i : ℕ) (b : Break) (within : i < l
   -- of one more
   one_more : each sees (take i breaks) ++ sees b ∷ [] ≡ each sees (take (i + 1) breaks)
   one_more = sym (map-append sees (take i breaks) (b ∷ [])) ∙ ap (λ (x : Break). each sees (take i breaks ++ x ∷ [])) (sym at) ∙ ap (each sees) (sym (take_more breaks i b within))
-
-  pub seen_more : (seen : List Seen) (w : Seen) → AreSeen (take i breaks) s seen → w ≡ seen_in s b.values → AreSeen (take (i + 1) breaks) s (seen ++ w ∷ [])
-  seen_more seen w are is = ap (λ (l : List Seen). l ++ w ∷ []) are ∙ ap (λ (x : Seen). each sees (take i breaks) ++ x ∷ []) is ∙ one_more
-
-  -- in its place
-  pub seen_set : (seen : List Seen) (w : Seen) → i < length seen → AreSeen (take i breaks) s (take i seen) → w ≡ seen_in s b.values → AreSeen (take (i + 1) breaks) s (take (i + 1) (set seen i w))
-  seen_set seen w room are is = take_more_set seen i w room ∙ seen_more (take i seen) w are is

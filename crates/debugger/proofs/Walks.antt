@@ -80,12 +80,6 @@ comes_there start m target p goes below has =
     let upto : p ≤ target = goes.least target (inl (omega (arith, below))) in
     ⊎_elim (λ (e : p ≡ m + (target - m)). omega (arith, e, below)) (λ (ends : EndsAt start p). let most = end_last start p (record { state = has.0; position = target }) ends has.1 in omega (arith, most, upto)) goes.holds
 
--- the step to a position gives one line
-same_line : (start : State) (a b : TraceLine) (p : ℕ) → GivesAt start a p → GivesAt start b p → a ≡ b
-same_line start a b p x y =
-    let same = same_state start x.before y.before x.passes y.passes (omega (arith, x.is_next, y.is_next)) in
-    ap (λ (q : TraceLine × State). q.0) (same_some (a, x.after) (b, y.after) (sym x.gives ∙ ap step same ∙ y.gives))
-
 abbrev pub gives_next : (start : State) (old new : Reached) (line : TraceLine) → Passes start old → Stepped old (Some line) new → GivesAt start line new.position
 gives_next start old new line at next = record { before = old; after = new.state; passes = at; gives = next.0; is_next = next.1 }
 

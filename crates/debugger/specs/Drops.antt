@@ -1,5 +1,5 @@
 -- Which packets of a flow a run has dropped.
-use Rattle.std.specs.Prelude.{◌≡◌, ◌==◌, ◌+◌, ℕ, Bool, true, false, nat_lt, ◌&&◌, if◌then◌else◌, List, [], ◌∷◌, ◌++◌, length, take, Option, None, Some}
+use Rattle.std.specs.Prelude.{◌==◌, ◌+◌, ℕ, Bool, false, nat_lt, ◌&&◌, if◌then◌else◌, List, [], ◌∷◌, ◌++◌, Option, None, Some}
 use Rattle.std.specs.List.{flat_map}
 use Rattle.packet_chain.specs.declared.packet.Kind.{Kind}
 use Rattle.packet_chain.specs.declared.packet.Kind.TheVariants.{Data, Ack}
@@ -43,15 +43,6 @@ drops_from asked n (line ∷ lines) = drops_in asked n line.acts ++ drops_from a
 -- those among the lines of a run up to a position
 abbrev pub past_drops : State → DropsOf → ℕ → List PastDrop
 past_drops start asked p = drops_from asked 1 (lines_of_steps (run start p))
-
--- what was found up to a position, behind what was there before
-abbrev pub AreDropsUpto : State → DropsOf → ℕ → List PastDrop → List PastDrop → Type 0
-AreDropsUpto start asked p before out = out ≡ before ++ past_drops start asked p
-
--- all so far are found, or memory was refused, and what was there is there still
-abbrev pub AreDropsFound : State → DropsOf → ℕ → List PastDrop → List PastDrop → Bool → Bool → Bool → Type 0
-AreDropsFound start asked p before out was is true = AreDropsUpto start asked p before out × (is ≡ was)
-AreDropsFound start asked p before out was is false = (take (length before) out ≡ before) × (is ≡ true)
 
 -- what is missing of what a flow has sent: of what its sender knows to be acknowledged, one byte past the last that it has sent, and the byte that its receiver waits for
 abbrev pub missing_between : ℕ → ℕ → ℕ → ℕ → Option DropsOf

@@ -1,10 +1,13 @@
 pub mod Values
 pub mod Seen
+pub mod Reads
 pub mod Breaks
 pub mod Faults
 pub mod Moves
 pub mod Passed
+pub mod Found
 pub mod Drops
+pub mod Stalls
 pub mod Backwards
 pub mod Stops
 pub mod LastEvents

@@ -1,5 +1,5 @@
 -- Lines of the trace between two positions of a run, as texts.
-use Rattle.std.specs.Prelude.{◌≡◌, ℕ, ◌+◌, Bool, true, false, List, [], ◌∷◌, ◌++◌, length, take, drop, reverse, Option, None, Some}
+use Rattle.std.specs.Prelude.{◌≡◌, ℕ, ◌+◌, List, [], ◌∷◌, ◌++◌, drop, reverse, Option, None, Some}
 use Rattle.std.specs.List.{concat}
 use Rattle.node_core.specs.TraceLine.{TraceLine}
 use Rattle.table_run.specs.State.{State, run}
@@ -42,8 +42,3 @@ beside Falling so_far text = text ++ so_far
 -- what was told so far of the lines from a position on
 abbrev pub AreReportedFrom : State → LineOrder → ℕ → ℕ → List ℕ → List ℕ → Type 0
 AreReportedFrom start order m p before out = out ≡ before ++ concat (ordered_texts order (texts_between start m p))
-
--- all lines so far are told, or memory was refused, and what was there is there still
-abbrev pub AreLinesReported : State → LineOrder → ℕ → ℕ → List ℕ → List ℕ → Bool → Bool → Bool → Type 0
-AreLinesReported start order m p before out was is true = AreReportedFrom start order m p before out × (is ≡ was)
-AreLinesReported start order m p before out was is false = (take (length before) out ≡ before) × (is ≡ true)

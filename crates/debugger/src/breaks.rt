@@ -112,7 +112,7 @@ pub enum BreakFault {
 }
 
 /// The flow that an event names, if it names one.
-fn flow_of(event: &Event) -> Option<u16>
+pub(crate) fn flow_of(event: &Event) -> Option<u16>
     ensures { result ≡ flow_of event.now }
 {
     match event {
@@ -215,7 +215,7 @@ fn is_sent_of(flow: u16, act: &Act) -> bool
 }
 
 /// Whether the flow that starts, or of which a packet arrives, begins to send one.
-fn sends_own(event: &Event, acts: &[Act]) -> bool
+pub(crate) fn sends_own(event: &Event, acts: &[Act]) -> bool
     ensures { result ≡ sends_own event.now acts.now }
 {
     match event {

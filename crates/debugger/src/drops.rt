@@ -121,17 +121,18 @@ struct Drops<'a> {
 }
 
 impl Watch for Drops<'_> {
-    ghost use Rattle.std.specs.Prelude.{◌≡◌, List, ⊤, refl};
+    ghost use Rattle.std.specs.Prelude.{◌≡◌, List, ◌++◌, ⊤, refl};
     ghost use Rattle.table_run.specs.State.{State};
     ghost use Rattle.debugger.specs.declared.drops.PastDrop.{PastDrop};
     ghost use Rattle.debugger.specs.Moves.{Passes};
-    ghost use Rattle.debugger.specs.Drops.{AreDropsUpto, AreDropsFound};
+    ghost use Rattle.debugger.specs.Found.{AreFound};
+    ghost use Rattle.debugger.specs.Drops.{past_drops};
 
     type Note = ();
 
     ghost fits = { λ _ _. ⊤ };
 
-    ghost has = { λ began from w at goes_on. (w.out.ghost_name ≡ began.out.ghost_name) × (w.of ≡ began.of) × ((start : State) (before : List PastDrop) → Passes start from → AreDropsUpto start began.of from.position before began.out.now.items → AreDropsFound start began.of at.position before w.out.now.items began.refused w.refused goes_on) };
+    ghost has = { λ began from w at goes_on. (w.out.ghost_name ≡ began.out.ghost_name) × (w.of ≡ began.of) × ((start : State) (before : List PastDrop) → Passes start from → began.out.now.items ≡ before ++ past_drops start began.of from.position → AreFound (past_drops start began.of at.position) before w.out.now.items began.refused w.refused goes_on) };
 
     ghost begins = { λ _ _. (refl, refl, λ _ _ _ are. (are, refl)) };
 

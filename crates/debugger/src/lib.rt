@@ -11,7 +11,9 @@ mod fault;
 pub mod moves;
 mod passed;
 pub mod reached;
+pub mod reads;
 pub mod seen;
+pub mod stalls;
 mod to_stop;
 mod under_way;
 pub mod values;
@@ -23,7 +25,9 @@ pub use drops::{DropsOf, PastDrop};
 pub use fault::MoveFault;
 pub use moves::Debugger;
 pub use passed::{LastEvent, LineOrder, Stretch};
+pub use reads::{Readable, Reading};
 pub use seen::Seen;
+pub use stalls::StallAt;
 pub use values::{
     Bound, FlowValue, LinkBound, Phase, SenderValue, Sign, ValueCondition, ValueOf, Values,
 };

@@ -9,6 +9,8 @@ ghost use Rattle.debugger.specs.Debugging.{debugging_opened, HasMoved};
 ghost use Rattle.debugger.specs.LastEvents.{IsLastEvent};
 ghost use Rattle.debugger.specs.Passed.{stretch_texts};
 ghost use Rattle.debugger.specs.Drops.{missing_in, past_drops};
+ghost use Rattle.debugger.specs.Reads.{read_in, read_left_in};
+ghost use Rattle.debugger.specs.Stalls.{IsAllStalls};
 ghost use Rattle.trace_text.specs.Dump.{dump_bytes};
 ghost use Rattle.trace_text.specs.DumpParts.{part_bytes};
 ghost use Rattle.flow_waits.specs.Waits.{waits_bytes};
@@ -21,10 +23,12 @@ use crate::drops::{DropsOf, PastDrop, append_drops, missing_in};
 use crate::fault::MoveFault;
 use crate::passed::{LastEvent, Stretch, append_stretch, event_at, nearer};
 use crate::reached::{net_after, net_at};
+use crate::reads::{Readable, Reading, read_in, read_left_in};
+use crate::stalls::{StallAt, append_stalls};
 use crate::to_stop::net_at_stop;
 use crate::walk::is_ended;
 use crate::window_settings::WindowSettings;
-use flow_waits::waits_text;
+use flow_waits::{ScenarioNames, waits_text};
 use net_machine::Net;
 use node_core::{After, Event, Line};
 use port::Acts;
@@ -288,12 +292,17 @@ impl Debugger {
         part_text(&self.net, part, out)
     }
 
-    /// Appends what a flow waits for in the state that is shown, or nothing.
-    pub fn waits_text(&self, flow: u16, out: &mut Vec<u8>) -> Result<(), AllocError>
-        ensures ok { OnOk result (out.new.items ≡ out.old.items ++ waits_bytes flow self.now.shown.state) }
+    /// Appends what a flow waits for in the state that is shown, with these names of its parts, or nothing.
+    pub fn waits_text(
+        &self,
+        names: &ScenarioNames,
+        flow: u16,
+        out: &mut Vec<u8>,
+    ) -> Result<(), AllocError>
+        ensures ok { OnOk result (out.new.items ≡ out.old.items ++ waits_bytes names.now flow self.now.shown.state) }
         ensures err { OnErr result (out.new.items ≡ out.old.items) }
     {
-        waits_text(&self.net, flow, out)
+        waits_text(&self.net, names, flow, out)
     }
 
     /// Whether no event is left behind the state that is shown.
@@ -340,6 +349,31 @@ impl Debugger {
             &mut self.line,
             out,
         )
+    }
+
+    /// What is read of the state that is shown, at a moment in nanoseconds.
+    pub fn read(&self, now: Time, what: Readable) -> Reading
+        ensures { result ≡ read_in now what self.now.shown.state }
+    {
+        read_in(now, what, &self.net)
+    }
+
+    /// The same of the state that the last move left; nothing where it can't be gone back to.
+    pub fn read_left(&self, now: Time, what: Readable) -> Reading
+        ensures { result ≡ read_left_in now what self.now.left }
+    {
+        read_left_in(now, what, &self.left)
+    }
+
+    /// Appends the stalls of the whole run, in the order of its events, which are run again. A flow becomes stalled by
+    /// an event where it is stalled after it and was not before it.
+    pub fn append_stalls(&mut self, out: &mut Vec<StallAt>) -> Result<(), MoveFault>
+        ensures ok { OnOk result (IsAllStalls self.old.start out.old.items out.new.items) }
+        ensures err { OnErr result (out.new.items ≡ out.old.items) }
+        ensures same { self.new ≡ self.old }
+    {
+        let near = nearer(&self.net, &self.left, 0);
+        append_stalls(near, &mut self.checkpoints, &mut self.line, out)
     }
 
     /// What the last event was, which is run again.

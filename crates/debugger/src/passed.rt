@@ -6,11 +6,11 @@ ghost use Rattle.net_machine.specs.Run.{Reached, IsRun, Stepped};
 ghost use Rattle.trace_text.specs.Line.{line_bytes};
 ghost use Rattle.debugger.specs.Breaks.{IsFirstHit};
 ghost use Rattle.debugger.specs.Seen.{AreSeen};
-ghost use Rattle.debugger.specs.LastEvents.{IsLastEvent};
+ghost use Rattle.debugger.specs.LastEvents.{freed_link, IsOfLine, IsLastEvent};
 ghost use Rattle.debugger.specs.Moves.{Passes, HasPosition};
 ghost use Rattle.debugger.specs.Passed.{beside, stretch_texts};
 
-use crate::breaks::{Breaks, Hit};
+use crate::breaks::{Breaks, Hit, flow_of};
 use crate::checkpoints::Checkpoints;
 use crate::fault::MoveFault;
 use crate::reached::net_at;
@@ -18,7 +18,7 @@ use crate::seen::{Seen, see_again, see_all};
 use crate::walk::reach_watched;
 use net_machine::{Due, Net};
 use net_watch::{Watch, run_by_two};
-use node_core::Line;
+use node_core::{Event, Line};
 use sim_time::Time;
 use std::alloc::AllocError;
 use std::snapshot::Snapshot;
@@ -49,6 +49,12 @@ pub struct Stretch {
 pub struct LastEvent {
     /// When it was, in nanoseconds.
     pub time: Time,
+    /// The number of the node that it was at.
+    pub node: u16,
+    /// The number of the flow that it names; none where a link becomes free.
+    pub flow: Option<u16>,
+    /// The number of the link that becomes free by it.
+    pub link: Option<u16>,
     /// The first breakpoint that matches it.
     pub hit: Option<Hit>,
 }
@@ -113,15 +119,17 @@ struct Texts<'a> {
 
 impl Watch for Texts<'_> {
     ghost use Rattle.std.specs.Prelude.{◌≡◌, ◌≤◌, ℕ, List, length, vec_len, refl};
+    ghost use Rattle.std.specs.List.{concat};
     ghost use Rattle.table_run.specs.State.{State};
     ghost use Rattle.debugger.specs.Moves.{Passes};
-    ghost use Rattle.debugger.specs.Passed.{AreReportedFrom, AreLinesReported};
+    ghost use Rattle.debugger.specs.Found.{AreFound};
+    ghost use Rattle.debugger.specs.Passed.{ordered_texts, texts_between, AreReportedFrom};
 
     type Note = ();
 
     ghost fits = { λ w _. w.start ≤ vec_len w.out.now };
 
-    ghost has = { λ began from w at goes_on. (w.out.ghost_name ≡ began.out.ghost_name) × (w.start ≡ began.start) × (w.order ≡ began.order) × ((start : State) (m : ℕ) (before : List ℕ) → m ≤ from.position → Passes start from → began.start ≡ length before → AreReportedFrom start began.order m from.position before began.out.now.items → AreLinesReported start began.order m at.position before w.out.now.items began.refused w.refused goes_on) };
+    ghost has = { λ began from w at goes_on. (w.out.ghost_name ≡ began.out.ghost_name) × (w.start ≡ began.start) × (w.order ≡ began.order) × ((start : State) (m : ℕ) (before : List ℕ) → m ≤ from.position → Passes start from → began.start ≡ length before → AreReportedFrom start began.order m from.position before began.out.now.items → AreFound (concat (ordered_texts began.order (texts_between start m at.position))) before w.out.now.items began.refused w.refused goes_on) };
 
     ghost begins = { λ _ _. (refl, refl, refl, λ _ _ _ _ _ _ reported. (reported, refl)) };
 
@@ -197,6 +205,30 @@ pub(crate) fn append_stretch(
     }
 }
 
+/// The link that becomes free by an event.
+fn freed_link(event: &Event) -> Option<u16>
+    ensures { result ≡ freed_link event.now }
+{
+    match event {
+        Event::Free(link) => Some(*link),
+        Event::Start(_) | Event::Rto(_) | Event::DelAck(_) | Event::Arrive(_) => None,
+    }
+}
+
+/// What a line shows of its event, at which a breakpoint stops, or none does.
+fn event_of(line: &Line, hit: Option<Hit>) -> LastEvent
+    ensures shows { IsOfLine (shown line.now) result }
+    ensures hit { result.hit ≡ hit }
+{
+    LastEvent {
+        time: line.key.time,
+        node: line.key.node,
+        flow: flow_of(&line.event),
+        link: freed_link(&line.event),
+        hit,
+    }
+}
+
 /// What an event was, of which `line` tells and after which a net stands, and which of the breakpoints
 /// stops at it.
 #[tactic(none)]
@@ -207,14 +239,11 @@ fn event_reported(
     seen: &[Seen],
 ) -> Result<LastEvent, MoveFault>
     requires { length seen.now ≡ length breaks.now }
-    ensures time { IfOk result (λ event. event.time ≡ line.now.key.time) }
+    ensures shows { IfOk result (IsOfLine (shown line.now)) }
     ensures first { (before : Reached) → IsRun before → Stepped before (Some (shown line.now)) net.now → AreSeen breaks.now before.state seen.now → IfOk result (λ event. IsFirstHit breaks.now before.state (shown line.now) net.now.state event.hit) }
 {
     match breaks.first_hit(seen, net, line) {
-        Ok(hit) => Ok(LastEvent {
-            time: line.key.time,
-            hit,
-        }),
+        Ok(hit) => Ok(event_of(line, hit)),
         Err(_) => Err(MoveFault::NoMemory),
     }
 }

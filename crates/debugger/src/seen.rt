@@ -67,7 +67,7 @@ fn offered_in(number: u16, net: &Net) -> Option<u128>
 }
 
 /// How many packets wait at it.
-fn queue_in(number: u16, net: &Net) -> Option<u64>
+pub(crate) fn queue_in(number: u16, net: &Net) -> Option<u64>
     ensures { result ≡ queue_in number net.now.state }
 {
     match link_in(number, net.nodes()) {
@@ -87,7 +87,7 @@ fn head_wait(now: Time, link: &Link) -> Option<Time>
 }
 
 /// The same at a link of a net.
-fn wait_in(now: Time, number: u16, net: &Net) -> Option<Time>
+pub(crate) fn wait_in(now: Time, number: u16, net: &Net) -> Option<Time>
     ensures { result ≡ wait_in now number net.now.state }
 {
     match link_in(number, net.nodes()) {
@@ -107,7 +107,7 @@ fn count_of(queue: &Queue) -> Option<u64>
 }
 
 /// The count of a link of a net.
-fn count_in(number: u16, net: &Net) -> Option<u64>
+pub(crate) fn count_in(number: u16, net: &Net) -> Option<u64>
     ensures { result ≡ count_in number net.now.state }
 {
     match link_in(number, net.nodes()) {
@@ -291,7 +291,7 @@ fn sender_value_in(value: SenderValue, flow: u16, nodes: &[Node]) -> Option<u64>
 }
 
 /// A value of a flow of a net.
-fn value_in(value: FlowValue, flow: u16, net: &Net) -> Option<u64>
+pub(crate) fn value_in(value: FlowValue, flow: u16, net: &Net) -> Option<u64>
     ensures { result ≡ value_in value flow net.now.state }
 {
     match value {

@@ -15,7 +15,7 @@ use std::alloc::Global;
 use trace_text::pending_events;
 
 /// The most flows of a net; all their numbers are below it.
-const MOST_FLOWS: usize = 128;
+pub(crate) const MOST_FLOWS: usize = 128;
 
 /// No packet of any flow is known to be under way. Where memory is refused, none ever is.
 fn none_counted(alloc: Global) -> Vec<u64>

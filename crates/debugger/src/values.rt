@@ -234,7 +234,7 @@ fn nxt_after(after: &After) -> Option<u64>
 }
 
 /// The phase of a sender.
-fn phase_of(sender: &SenderShown) -> Phase
+pub(crate) fn phase_of(sender: &SenderShown) -> Phase
     ensures { result ≡ phase_of sender.now }
 {
     if sender.recovers() {

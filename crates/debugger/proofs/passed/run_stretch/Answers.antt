@@ -2,7 +2,8 @@ use Rattle.std.proofs.Common.{◌≡◌, ◌+◌, ◌++◌, Ok, Err, le_refl, su
 use Rattle.std.specs.List.{concat}
 use Rattle.net_watch.specs.Watched.{goes_on}
 use Rattle.debugger.specs.Passed.{ordered_texts, texts_between}
-use Rattle.debugger.proofs.Between.{reported_none, reported_front, reported_whole}
+use Rattle.debugger.proofs.Between.{reported_none}
+use Rattle.debugger.proofs.Found.{found_front, found_whole}
 use Rattle.debugger.proofs.Walks.{has_earlier}
 use Rattle.debugger.proofs.passed.run_stretch.Goals as goal
 
@@ -21,7 +22,7 @@ returns-in-Ok-clause-err c =
     let new = c.reach_watched-ended.new in
     let name = c.in-Ok.ensures.watched.holds.0 in
     let reported = c.in-Ok.ensures.watched.holds.3 start m out (le_refl m) c.requires.on_run (omega (arith, c.len-start.ensures)) (reported_none start order c.args.net.now out c.requires.on_run) in
-    let front = reported_front start order m new.net.position out new.watch.out.now.items new.watch.refused (goes_on (Ok c.in-Ok.field-0)) reported in
+    let front = found_front (concat (ordered_texts order (texts_between start m new.net.position))) out new.watch.out.now.items new.watch.refused (goes_on (Ok c.in-Ok.field-0)) reported in
     search rules
 
 pub returns-in-Ok-2-clause-ok : goal.returns-in-Ok-2-clause-ok
@@ -33,7 +34,7 @@ returns-in-Ok-2-clause-ok c =
     let new = c.reach_watched-ended.new in
     let name = c.in-Ok-2.ensures.watched.holds.0 in
     let reported = c.in-Ok-2.ensures.watched.holds.3 start m out (le_refl m) c.requires.on_run (omega (arith, c.len-start.ensures)) (reported_none start order c.args.net.now out c.requires.on_run) in
-    let whole = reported_whole start order m new.net.position out new.watch.out.now.items new.watch.refused (goes_on (Ok c.in-Ok-2.field-0)) reported c.if-texts.false in
+    let whole = found_whole (concat (ordered_texts order (texts_between start m new.net.position))) out new.watch.out.now.items new.watch.refused (goes_on (Ok c.in-Ok-2.field-0)) reported c.if-texts.false in
     let few = c.position-count.ensures.is_run.position_fits in
     let there : new.net.position ≡ c.args.stretch.now.from + c.args.stretch.now.count =
     ⊎_elim (λ (x : ⊥). absurd x) (λ (at : new.net.position ≡ c.saturating_add-upto.result). omega (arith, at, c.saturating_add-upto.ensures, c.position.ensures.count, c.requires.from, few)) (c.in-Ok-2.ensures.reached whole.0) in
@@ -51,5 +52,5 @@ returns-in-Err-clause-err c =
     let new = c.reach_watched-ended.new in
     let name = c.in-Err.ensures.watched.holds.0 in
     let reported = c.in-Err.ensures.watched.holds.3 start m out (le_refl m) c.requires.on_run (omega (arith, c.len-start.ensures)) (reported_none start order c.args.net.now out c.requires.on_run) in
-    let front = reported_front start order m new.net.position out new.watch.out.now.items new.watch.refused (goes_on (Err c.in-Err.fault)) reported in
+    let front = found_front (concat (ordered_texts order (texts_between start m new.net.position))) out new.watch.out.now.items new.watch.refused (goes_on (Err c.in-Err.fault)) reported in
     search rules

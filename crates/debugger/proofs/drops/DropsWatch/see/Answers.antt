@@ -3,7 +3,8 @@ use Rattle.port.specs.declared.acts.Act.{Act}
 use Rattle.node_core.specs.TraceLine.{shown}
 use Rattle.debugger.specs.declared.drops.DropsOf.{DropsOf}
 use Rattle.debugger.specs.Drops.{drops_in, past_drops}
-use Rattle.debugger.proofs.DropsFound.{drops_more, still_begins}
+use Rattle.debugger.proofs.DropsFound.{drops_more}
+use Rattle.debugger.proofs.Found.{still_begins}
 use Rattle.debugger.proofs.Watched.{passes_on}
 use Rattle.debugger.proofs.drops.DropsWatch.see.Goals as goal
 

@@ -26,7 +26,7 @@ returns-clause-has c began from runs was = (
       let next = c.requires.stepped in
       let here = (was.1 start at none).0 in
       let first = subst (λ (breaks : List Break). IfOk reported (λ (event : LastEvent). IsFirstHit breaks old.state line new.state event.hit)) was.0 (c.event_reported-self.ensures.first old c.requires.fits.0 next (c.as_slice-seen.ensures.value ∙ c.requires.fits.1)) in
-      (omega (arith, here, next.1), last_event start began.breaks.now old new line new.position reported (passes_on start from old at runs) next refl c.event_reported-self.ensures.time first),
+      (omega (arith, here, next.1), last_event start began.breaks.now old new line new.position reported (passes_on start from old at runs) next refl c.event_reported-self.ensures.shows first),
 )
 
 pub returns-clause-fits : goal.returns-clause-fits

@@ -1,9 +1,11 @@
 use Rattle.std.proofs.Common.{◌≡◌, ◌++◌, ◌∙◌, take, drop, length, refl, ap, subst, arith}
+use Rattle.std.specs.List.{concat}
 use Rattle.node_core.specs.TraceLine.{shown}
 use Rattle.trace_text.specs.Line.{line_bytes}
 use Rattle.debugger.specs.declared.passed.LineOrder.{LineOrder}
-use Rattle.debugger.specs.Passed.{beside}
-use Rattle.debugger.proofs.Between.{reported_more, reported_begins, still_within}
+use Rattle.debugger.specs.Passed.{beside, ordered_texts, texts_between}
+use Rattle.debugger.proofs.Between.{reported_more, still_within}
+use Rattle.debugger.proofs.Found.{found_begins}
 use Rattle.debugger.proofs.Watched.{passes_on}
 use Rattle.debugger.proofs.passed.TextsWatch.see.Goals as goal
 
@@ -41,7 +43,7 @@ returns-in-Err-clause-has c began from runs was = (
   λ start m before low at whole reported.
       let self = c.args.self.now in
       let so = was.3 start m before low at whole reported in
-      (ap (take (length before)) c.in-Err.ensures.err ∙ reported_begins start began.order m c.args._before.now.value.position before self.out.now.items so.0, refl),
+      (ap (take (length before)) c.in-Err.ensures.err ∙ found_begins (concat (ordered_texts began.order (texts_between start m c.args._before.now.value.position))) before self.out.now.items so.0, refl),
 )
 
 pub returns-in-Err-clause-fits : goal.returns-in-Err-clause-fits
