@@ -1,11 +1,12 @@
 -- What follows where a line that is typed was read.
 use Rattle.std.proofs.Common.{◌≡◌, [], List, ℕ, Option, Some, None, Ok, Err, refl, sym, subst}
 use Rattle.table_run.specs.State.{State}
+use Rattle.debug_session.specs.declared.command.Request.{Request}
 use Rattle.debug_session.specs.declared.command.Typed.{Typed}
 use Rattle.debug_session.specs.declared.naming.Naming.{Naming}
 use Rattle.debug_session.specs.declared.refusal.Refusal.{Refusal}
 use Rattle.debug_session.specs.Answers.{refusal_line}
-use Rattle.debug_session.specs.Prompt.{AtPrompt, ObeysAtPrompt, MovesAgain, FollowsTyped, AnswersTyped}
+use Rattle.debug_session.specs.Prompt.{AtPrompt, ObeysAtPrompt, ObeysRequest, MovesAgain, FollowsTyped, AnswersTyped}
 use Rattle.debug_session.specs.TypedGrammar.{TypedReading, typed_reading}
 
 pub nothing_again : (naming : Naming) (start : State) (old : AtPrompt) (out : List ℕ) → old.memo.last ≡ None → out ≡ [] → MovesAgain naming start old.memo.last old old out
@@ -18,7 +19,7 @@ module _ (naming : Naming) (start : State) (line : List ℕ) (old new : AtPrompt
   pub is_again : None ≡ typed_reading naming line → MovesAgain naming start old.memo.last old new out → AnswersTyped naming start line old new out
   is_again read again = subst (λ (r : Option TypedReading). FollowsTyped naming start r old new out) read again
 
-  pub is_obeyed : (asked : Typed) → Some (Ok asked) ≡ typed_reading naming line → ObeysAtPrompt naming start asked old new out → AnswersTyped naming start line old new out
+  pub is_obeyed : (asked : Request) → Some (Ok asked) ≡ typed_reading naming line → ObeysRequest naming start asked old new out → AnswersTyped naming start line old new out
   is_obeyed asked read obeys = subst (λ (r : Option TypedReading). FollowsTyped naming start r old new out) read obeys
 
 pub is_refused : (naming : Naming) (start : State) (line : List ℕ) (old : AtPrompt) (out : List ℕ) (refusal : Refusal) → Some (Err refusal) ≡ typed_reading naming line → out ≡ refusal_line refusal

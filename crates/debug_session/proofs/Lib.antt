@@ -1,7 +1,5 @@
 pub mod Words
 pub mod Parting
-pub mod Written
-pub mod Placed
 pub mod Times
 pub mod Followed
 pub mod Gathering
@@ -15,4 +13,6 @@ pub mod Setting
 pub mod Running
 pub mod Meanings
 pub mod Opened
+pub mod Displayed
+pub mod Showing
 pub mod Left

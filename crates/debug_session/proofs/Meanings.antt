@@ -1,16 +1,11 @@
 -- What a text means is what its lines mean, and what a session over its scenario puts out of an input.
-use Rattle.std.proofs.Common.{◌≡◌, ℕ, List, Option, Ok, Err, inl, inr, sym, subst, ◌∙◌, ◌++◌}
+use Rattle.std.proofs.Common.{◌≡◌, ℕ, List, inl, inr, sym, subst, ◌∙◌}
 use Rattle.scenario_image.specs.declared.parts.ScenarioParts.{ScenarioParts}
 use Rattle.scenario_asm.specs.declared.fault.Fault.{Fault}
 use Rattle.scenario_asm.specs.Lines.{lines_of_text}
 use Rattle.scenario_asm.specs.Meaning.{AreRead, MeansScenario, MeansFault}
-use Rattle.table_run.specs.State.{initial}
-use Rattle.debugger.specs.Debugging.{debugging_opened}
-use Rattle.debug_session.specs.declared.session.DialogueFault.TheVariants.{OutputFailed}
-use Rattle.debug_session.specs.Input.{text_lines, command_lines}
-use Rattle.debug_session.specs.Taking.{Takes, IsBeginningOf}
-use Rattle.debug_session.specs.Answers.{session_state}
-use Rattle.debug_session.specs.Sessions.{Output, OutputStart, limits_of, HasScenario, HasFault, IsOutput, IsOutputStart, IsEnding}
+use Rattle.debug_session.specs.Input.{text_lines}
+use Rattle.debug_session.specs.Sessions.{HasScenario, HasFault}
 
 -- texts of the same lines mean the same
 pub same_scenario : (a b : List ℕ) (p : ScenarioParts) → lines_of_text a ≡ lines_of_text b → MeansScenario a p → MeansScenario b p
@@ -25,19 +20,3 @@ scenario_of input text p same (other, lines, means) = same_scenario other text p
 
 pub fault_of : (input text : List ℕ) (number : ℕ) (fault : Fault) → lines_of_text text ≡ text_lines input → HasFault input number fault → MeansFault text number fault
 fault_of input text number fault same (other, lines, means) = same_fault other text number fault (lines ∙ sym same) means
-
--- the input has a text that means this scenario, and these commands
-module _ (input text commands : List ℕ) (p : ScenarioParts) (before after : Option (List ℕ)) (same : lines_of_text text ≡ text_lines input) (behind : lines_of_text commands ≡ command_lines input) (means : MeansScenario text p) where
-  -- what a session over the scenario puts out, that is done, is the input's output
-  pub whole_output : Takes (IsEnding p (lines_of_text commands) (Ok tt)) before after → Takes (IsOutput input) before after
-  whole_output took =
-      (took.0, took.1, record { scenario = p; meant = (text, same, means); answers = subst (λ (ls : List (List ℕ)). Output (limits_of p) (initial p) ls (session_state (debugging_opened (initial p))) took.0) behind took.2 })
-
-  -- and where the output failed, a beginning of that of the first commands
-  pub begun_output : Takes (IsEnding p (lines_of_text commands) (Err OutputFailed)) before after → Takes (IsBeginningOf (IsOutputStart input)) before after
-  begun_output took =
-      let all = took.0 ++ took.2.0 in (
-        took.0,
-        took.1,
-        (took.2.0, record { scenario = p; meant = (text, same, means); answers = subst (λ (ls : List (List ℕ)). OutputStart (limits_of p) (initial p) ls (session_state (debugging_opened (initial p))) all) behind took.2.1 }),
-      )

@@ -98,9 +98,6 @@ pub record Scanned (input rest : List ℕ) : Type 0 where
   pub whole : (is_whole before ≡ true) ⊎ (rest ≡ [])
   pub clear : list_all is_text (lines_of_text before) ≡ true
 
-pub scanned_none : (input : List ℕ) → Scanned input input
-scanned_none input = record { before = []; parted = refl; whole = inl refl; clear = refl }
-
 some_left : (input rest : List ℕ) (s : Scanned input rest) → 0 < length rest → is_whole s.before ≡ true
 some_left input rest s some = ⊎_elim (λ (h : is_whole s.before ≡ true). h) (λ (none : rest ≡ []). absurd (omega (arith, some, ap length none))) s.whole
 

@@ -21,11 +21,12 @@ use Rattle.debugger.specs.Passed.{lines_between, texts_between, stretch_texts}
 use Rattle.debugger.proofs.Between.{one_line, length_between, between_parts}
 use Rattle.debugger.proofs.Walks.{has_earlier, none_due, passes_next, step_done}
 use Rattle.debug_session.specs.declared.memo.Extent.{Extent}
+use Rattle.debug_session.specs.declared.naming.Naming.{Naming}
 use Rattle.debug_session.specs.declared.refusal.Refusal.TheVariants.{M}
 use Rattle.debug_session.specs.declared.report.Report.{Report}
 use Rattle.debug_session.specs.Answers.{SessionState, session_state, Stays, refusal_line}
-use Rattle.debug_session.specs.Reported.{GoesBack, ReportedPast, ReportedMove, AddsPlace, AddsMove, passed_count, reported_hit, shown_stretch}
-use Rattle.debug_session.specs.TypedMoves.{lowest, passed, more_line, last_ten, passed_lines, last_time, place_line, where_line, hit_line, onwards, next_text, known_line, where_text, TellsPast, MovesPast}
+use Rattle.debug_session.specs.Reported.{GoesBack, CanBeUndone, ReportedPast, ReportedMove, AddsPlace, AddsMove, passed_count, reported_hit, reported_origin, shown_stretch}
+use Rattle.debug_session.specs.TypedMoves.{lowest, passed, more_line, last_ten, passed_lines, last_time, place_line, where_line, origin_text, origin_line, hit_line, onwards, next_text, known_line, where_text, TellsPast, MovesPast}
 use Rattle.debug_session.proofs.Moved.{left_of, start_of, breaks_of}
 
 -- where the lines of a move backwards begin
@@ -136,66 +137,77 @@ last_append time [] line = refl
 last_append time (first ∷ lines) line = last_append first.key.time lines line
 
 -- the moment of the event before a position
-time_at : (start : State) (line : TraceLine) (p : ℕ) → GivesAt start line p → last_time 0 (lines_between start 0 p) ≡ line.key.time
+pub time_at : (start : State) (line : TraceLine) (p : ℕ) → GivesAt start line p → last_time 0 (lines_between start 0 p) ≡ line.key.time
 time_at start line p given =
     ap (λ ls. last_time 0 (drop 0 ls)) (one_line start given.before (record { state = given.after; position = p }) line given.passes (given.gives, given.is_next)) ∙ last_append 0 given.passes.lines line
 
-module _ (start : State) (m : ℕ) (at : SessionState) (out made : List ℕ) (at_end : Bool) (end_is : at_end ≡ is_none (due at.shown.state)) where
+module _ (naming : Naming) (start : State) (m : ℕ) (at : SessionState) (out made : List ℕ) (at_end : Bool) (end_is : at_end ≡ is_none (due at.shown.state)) where
   -- at the beginning there is no event
-  pub begin_reported : at.shown.position ≡ 0 → made ≡ out ++ place_line 0 0 at_end → AddsPlace start m at out made
+  pub begin_reported : at.shown.position ≡ 0 → made ≡ out ++ place_line 0 0 at_end → AddsPlace naming start m at out made
   begin_reported none is =
       let place : place_line 0 0 at_end ≡ where_line start at.shown =
       ap (λ n. place_line n (last_time 0 (lines_between start 0 n)) at_end) (sym none) ∙ ap (place_line at.shown.position (last_time 0 (lines_between start 0 at.shown.position))) end_is in (
         [],
-        record { past = λ under. absurd (omega (arith, under, none)); before = λ _. refl },
+        [],
+        record { past = λ under. absurd (omega (arith, under, none)); before = λ _. (refl, refl) },
         is ∙ ap (λ l. out ++ l) (place ∙ sym (append-nil (where_line start at.shown))),
       )
 
-  pub event_reported : (event : LastEvent) → IsLastEvent start at.breaks at.shown.position event → made ≡ out ++ (place_line at.shown.position event.time at_end ++ hit_line (reported_hit m at.shown.position event.hit)) → AddsPlace start m at out made
+  pub event_reported : (event : LastEvent) → IsLastEvent start at.breaks at.shown.position event → made ≡ out ++ (reported_origin naming m at.shown.position event ++ (place_line at.shown.position event.time at_end ++ hit_line naming (reported_hit m at.shown.position event.hit))) → AddsPlace naming start m at out made
   event_reported event last is =
       let p = at.shown.position in
-      let matched = hit_line (reported_hit m p event.hit) in
-      let time : event.time ≡ last_time 0 (lines_between start 0 p) = last.time ∙ sym (time_at start last.line p last.given) in
+      let origin = reported_origin naming m p event in
+      let matched = hit_line naming (reported_hit m p event.hit) in
+      let here : origin_text naming event.node event.flow event.link ≡ origin_line naming last.line = λ i. origin_text naming (last.shows.node i) (last.shows.flow i) (last.shows.link i) in
+      let time : event.time ≡ last_time 0 (lines_between start 0 p) = last.shows.time ∙ sym (time_at start last.line p last.given) in
       let place : place_line p event.time at_end ≡ where_line start at.shown = ap (λ t. place_line p t at_end) time ∙ ap (place_line p (last_time 0 (lines_between start 0 p))) end_is in (
+        origin,
         matched,
         record {
-          past = λ under. record { line = last.line; given = last.given; hit = event.hit; first = last.first; reported_is = ap (λ b. hit_line (if b then event.hit else None)) (lt-ltb m p under) };
-          before = λ past. ap (λ b. hit_line (if b then event.hit else None)) (le-ltb m p past);
+          past = λ under.
+              record {
+                line = last.line;
+                given = last.given;
+                hit = event.hit;
+                first = last.first;
+                origin_is = ap (λ b. if b then origin_text naming event.node event.flow event.link else []) (lt-ltb m p under) ∙ here;
+                matched_is = ap (λ b. hit_line naming (if b then event.hit else None)) (lt-ltb m p under);
+              };
+          before = λ past. (
+            ap (λ b. if b then origin_text naming event.node event.flow event.link else []) (le-ltb m p past),
+            ap (λ b. hit_line naming (if b then event.hit else None)) (le-ltb m p past),
+          );
         },
-        is ∙ ap (λ l. out ++ (l ++ matched)) place,
+        is ∙ ap (λ l. out ++ (origin ++ (l ++ matched))) place,
       )
 
 -- what was passed, and then where that is
-pub move_reported : (start : State) (m : ℕ) (report : Report) (at : SessionState) (out made all : List ℕ) → made ≡ out ++ passed_lines start m report at.shown.position → AddsPlace start report.bound at made all → AddsMove start m report at out all
-move_reported start m report at out made all lines place =
+pub move_reported : (naming : Naming) (start : State) (m : ℕ) (report : Report) (at : SessionState) (out made all : List ℕ) → made ≡ out ++ passed_lines start m report at.shown.position → AddsPlace naming start report.bound at made all → AddsMove naming start m report at out all
+move_reported naming start m report at out made all lines place =
     let texts = passed_lines start m report at.shown.position in
-    let behind = where_line start at.shown ++ place.0 in
-    (texts ++ behind, record { matched = place.0; matches = place.1; reported = refl }, place.2 ∙ ap (λ l. l ++ behind) lines ∙ append_assoc out texts behind)
-
--- the answer alone
-pub only_move : (start : State) (m : ℕ) (report : Report) (at : SessionState) (out all : List ℕ) → out ≡ [] → AddsMove start m report at out all → TellsPast start m report at all
-only_move start m report at out all none adds =
-    subst (TellsPast start m report at) (sym (adds.2 ∙ ap (λ l. l ++ adds.0) none)) adds.1
+    let behind = place.0 ++ (where_line start at.shown ++ place.1) in
+    (texts ++ behind, record { origin = place.0; matched = place.1; matches = place.2; reported = refl }, place.3 ∙ ap (λ l. l ++ behind) lines ∙ append_assoc out texts behind)
 
 -- the move is told, or nothing changed and memory was refused
-abbrev pub WentPast : State → Report → (ℕ → Type 0) → SessionState → SessionState → List ℕ → Type 0
-WentPast start report goes old new out = MovesPast start report goes old new out ⊎ (Unit {0} × Stays old new out (refusal_line M))
+abbrev pub WentPast : Naming → State → Report → (ℕ → Type 0) → SessionState → SessionState → List ℕ → Type 0
+WentPast naming start report goes old new out = MovesPast naming start report goes old new out ⊎ (Unit {0} × Stays old new out (refusal_line M))
 
-pub record GonePast (report : Report) (goes : ℕ → Type 0) (old new : Debugging) (out : List ℕ) : Type 0 where
+pub record GonePast (naming : Naming) (report : Report) (goes : ℕ → Type 0) (old new : Debugging) (out : List ℕ) : Type 0 where
   pub start : new.start ≡ old.start
-  pub went : WentPast old.start report goes (session_state old) (session_state new) out
+  pub went : WentPast naming old.start report goes (session_state old) (session_state new) out
+  pub left : CanBeUndone old new out
 
 -- so a move that a breakpoint stops forwards alone
-abbrev pub GoneOn : (ℕ → Type 0) → Debugging → Debugging → List ℕ → Type 0
-GoneOn goes old new out = GonePast (onwards old.shown.position) goes old new out
+abbrev pub GoneOn : Naming → (ℕ → Type 0) → Debugging → Debugging → List ℕ → Type 0
+GoneOn naming goes old new out = GonePast naming (onwards old.shown.position) goes old new out
 
 -- where a move began the run has a position
 pub has_from : (old between : Debugging) (moved : Result ℕ MoveFault) (m : ℕ) → m ≡ old.shown.position → Passes old.start old.shown → IfOk moved (HasMoved old between) → OnErr moved (between ≡ old) → HasPosition between.start m
 has_from old between (Ok p) m is here has err = subst (λ (s : State). HasPosition s m) (sym (start_of old between p has)) (subst (HasPosition old.start) (sym is) (old.shown.state, here))
 has_from old between (Err fault) m is here has err = subst (λ (d : Debugging). HasPosition d.start m) (sym err) (subst (HasPosition old.start) (sym is) (old.shown.state, here))
 
-on_reported : (report : Report) (goes : ℕ → Type 0) (old new : Debugging) (m : ℕ) (w : Report) (p : ℕ) (out : List ℕ) → m ≡ old.shown.position → w ≡ report → HasMoved old new p → goes p → TellsPast new.start m w (session_state new) out → GonePast report goes old new out
-on_reported report goes old new m w p out is report_is moved there reported =
+on_reported : (naming : Naming) (report : Report) (goes : ℕ → Type 0) (old new : Debugging) (m : ℕ) (w : Report) (p : ℕ) (out : List ℕ) → m ≡ old.shown.position → w ≡ report → HasMoved old new p → goes p → TellsPast naming new.start m w (session_state new) out → GonePast naming report goes old new out
+on_reported naming report goes old new m w p out is report_is moved there reported =
     let same = start_of old new p moved in
     record {
       start = same;
@@ -204,46 +216,48 @@ on_reported report goes old new m w p out is report_is moved there reported =
         on_run = subst (λ (s : State). Passes s new.shown) same moved.on_run;
         breaks = breaks_of old new p moved;
         reported =
-            subst (λ n. TellsPast old.start n report (session_state new) out) is
-            (subst (λ (v : Report). TellsPast old.start m v (session_state new) out) report_is (subst (λ (s : State). TellsPast s m w (session_state new) out) same reported));
+            subst (λ n. TellsPast naming old.start n report (session_state new) out) is
+            (subst (λ (v : Report). TellsPast naming old.start m v (session_state new) out) report_is (subst (λ (s : State). TellsPast naming s m w (session_state new) out) same reported));
       });
+      left = inr moved.after;
     }
 
-back_again : (report : Report) (goes : ℕ → Type 0) (old between new : Debugging) (p : ℕ) (out : List ℕ) → HasMoved old between p → GoesBack between new → out ≡ refusal_line M → GonePast report goes old new out
-back_again report goes old between new p out moved back reported =
+back_again : (naming : Naming) (report : Report) (goes : ℕ → Type 0) (old between new : Debugging) (p : ℕ) (out : List ℕ) → HasMoved old between p → GoesBack between new → out ≡ refusal_line M → GonePast naming report goes old new out
+back_again naming report goes old between new p out moved back reported =
     let undone : new ≡ record between { shown = old.shown; left = None } = back old.shown (left_of old between p moved) in
     let shown : new.shown ≡ old.shown = ap (λ (d : Debugging). d.shown) undone in
     let breaks : new.breaks ≡ old.breaks = ap (λ (d : Debugging). d.breaks) undone ∙ breaks_of old between p moved in
     record {
       start = ap (λ (d : Debugging). d.start) undone ∙ start_of old between p moved;
       went = inr (tt, record { same = λ i. record { shown = shown i; breaks = breaks i }; reported = reported });
+      left = inl reported;
     }
 
-pub gone_past : (report : Report) (goes : ℕ → Type 0) (old between new : Debugging) (m : ℕ) (w : Report) (moved : Result ℕ MoveFault) (out : List ℕ) → m ≡ old.shown.position → w ≡ report
+pub gone_past : (naming : Naming) (report : Report) (goes : ℕ → Type 0) (old between new : Debugging) (m : ℕ) (w : Report) (moved : Result ℕ MoveFault) (out : List ℕ) → m ≡ old.shown.position → w ≡ report
     → IfOk moved (HasMoved old between) → IfOk moved goes → OnErr moved (between ≡ old)
-    → IfOk moved (λ _. ReportedPast m w between new out) → OnErr moved ((new ≡ between) × (out ≡ refusal_line M)) → GonePast report goes old new out
-gone_past report goes old between new m w (Ok p) out is report_is has there err reported refused =
+    → IfOk moved (λ _. ReportedPast naming m w between new out) → OnErr moved ((new ≡ between) × (out ≡ refusal_line M)) → GonePast naming report goes old new out
+gone_past naming report goes old between new m w (Ok p) out is report_is has there err reported refused =
     ⊎_elim
-    (λ (t : (new ≡ between) × TellsPast between.start m w (session_state between) out).
-    subst (λ (d : Debugging). GonePast report goes old d out) (sym t.0) (on_reported report goes old between m w p out is report_is has there t.1))
-    (λ (t : GoesBack between new × (out ≡ refusal_line M)). back_again report goes old between new p out has t.0 t.1)
+    (λ (t : (new ≡ between) × TellsPast naming between.start m w (session_state between) out).
+    subst (λ (d : Debugging). GonePast naming report goes old d out) (sym t.0) (on_reported naming report goes old between m w p out is report_is has there t.1))
+    (λ (t : GoesBack between new × (out ≡ refusal_line M)). back_again naming report goes old between new p out has t.0 t.1)
     reported
-gone_past report goes old between new m w (Err fault) out is report_is has there err reported refused =
+gone_past naming report goes old between new m w (Err fault) out is report_is has there err reported refused =
     let same = refused.0 ∙ err in
-    record { start = ap (λ (d : Debugging). d.start) same; went = inr (tt, record { same = ap session_state same; reported = refused.1 }) }
+    record { start = ap (λ (d : Debugging). d.start) same; went = inr (tt, record { same = ap session_state same; reported = refused.1 }); left = inl refused.1 }
 
-pub gone_on : (goes : ℕ → Type 0) (old between new : Debugging) (m : ℕ) (moved : Result ℕ MoveFault) (out : List ℕ) → m ≡ old.shown.position
+pub gone_on : (naming : Naming) (goes : ℕ → Type 0) (old between new : Debugging) (m : ℕ) (moved : Result ℕ MoveFault) (out : List ℕ) → m ≡ old.shown.position
     → IfOk moved (HasMoved old between) → IfOk moved goes → OnErr moved (between ≡ old)
-    → IfOk moved (λ _. ReportedMove m between new out) → OnErr moved ((new ≡ between) × (out ≡ refusal_line M)) → GoneOn goes old new out
-gone_on goes old between new m moved out is has there err reported refused = gone_past (onwards old.shown.position) goes old between new m (onwards m) moved out is (ap onwards is) has there err reported refused
+    → IfOk moved (λ _. ReportedMove naming m between new out) → OnErr moved ((new ≡ between) × (out ≡ refusal_line M)) → GoneOn naming goes old new out
+gone_on naming goes old between new m moved out is has there err reported refused = gone_past naming (onwards old.shown.position) goes old between new m (onwards m) moved out is (ap onwards is) has there err reported refused
 
 -- `where`: behind the place, where no breakpoint is told, the next event and how far the run is known to go
-pub where_reported : (start : State) (at : SessionState) (known : Extent) (out made all : List ℕ) → AddsPlace start at.shown.position at out made → all ≡ made ++ (next_text start at.shown ++ known_line known) → all ≡ out ++ where_text start at.shown known
-where_reported start at known out made all place more =
+pub where_reported : (naming : Naming) (start : State) (at : SessionState) (known : Extent) (out made all : List ℕ) → AddsPlace naming start at.shown.position at out made → all ≡ made ++ (next_text start at.shown ++ known_line known) → all ≡ out ++ where_text start at.shown known
+where_reported naming start at known out made all place more =
     let behind = next_text start at.shown ++ known_line known in
-    let none : place.0 ≡ [] = place.1.before (omega arith) in
+    let none = place.2.before (omega arith) in
     let here = where_line start at.shown in
-    more ∙ ap (λ l. l ++ behind) (place.2 ∙ ap (λ l. out ++ (here ++ l)) none ∙ ap (λ l. out ++ l) (append-nil here)) ∙ append_assoc out here behind
+    more ∙ ap (λ l. l ++ behind) (place.3 ∙ (λ i. out ++ (none.0 i ++ (here ++ none.1 i))) ∙ ap (λ l. out ++ l) (append-nil here)) ∙ append_assoc out here behind
 
 -- the next event, and where there is none
 pub next_none : (start : State) (at : Reached) → is_none (due at.state) ≡ true → next_text start at ≡ codes "next: none\n"

@@ -2,7 +2,7 @@
 use Rattle.std.specs.Prelude.{ℕ, List, [], ◌∷◌, ◌++◌, codes}
 use Rattle.std.specs.List.{flat_map}
 use Rattle.debug_session.specs.declared.name.CommandName.{CommandName}
-use Rattle.debug_session.specs.declared.name.CommandName.TheVariants.{Step, Back, Break, Breaks, Run, Reverse, Until, Goto, Where, State, Delete, Clear, Lines, Why, Names, Help, Quit}
+use Rattle.debug_session.specs.declared.name.CommandName.TheVariants.{Step, Back, Break, Breaks, Run, Reverse, Until, Goto, Where, State, Delete, Clear, Lines, Display, Undisplay, Why, Stalls, Names, Help, Quit}
 use Rattle.debug_session.specs.declared.topic.Topic.{Topic}
 use Rattle.debug_session.specs.declared.topic.Topic.TheVariants.{Command, Numbers, Trace, Kinds, Stall, Values}
 
@@ -21,7 +21,10 @@ usage Breaks = codes "breaks       list the breakpoints\n"
 usage Delete = codes "delete I     take breakpoint I away\n"
 usage Clear = codes "clear        take all breakpoints away\n"
 usage Lines = codes "lines [K]    show the last K lines of the trace (10)\n"
+usage Display = codes "display [IT] show flow F, link L or a value of either after each move; alone, list them\n"
+usage Undisplay = codes "undisplay I  take display I away\n"
 usage Why = codes "why F        tell what flow F waits for\n"
+usage Stalls = codes "stalls       list all stalls of the run, each with a goto that goes there\n"
 usage Names = codes "names        list the names of nodes, links and flows with their numbers\n"
 usage Help = codes "help [NAME]  show this, or more of NAME: a command, numbers, trace, kinds, stall or values\n"
 usage Quit = codes "quit         end the session\n"
@@ -40,6 +43,8 @@ more Where = codes "The next event is shown by the line that it gives. A run is 
 more State =
     codes "node N and link L show one line each, flow F all that there is of a flow: both of its ends, the links\n"
     ++ codes "where its packets wait, and its events to come. N, L and F are names or numbers: help numbers\n"
+    ++ codes "Of a link offered= and sent= count packets. queue= has those that wait: 4:d:7000@102299200 is data 7000 of flow 4, queued\n"
+    ++ codes "at 102299200 ns; a is an acknowledgement. Of a sender high= is the greatest nxt= so far, lt= the bytes of limited transmit.\n"
 more Break =
     codes "node N       the event happens at node N (N, L and F are names or numbers: help numbers)\n"
     ++ codes "flow F       the event is of flow F; a free is of none\n"
@@ -53,10 +58,21 @@ more Breaks = codes "They are counted from 1; where one is taken away, those beh
 more Delete = codes "I is its number, as breaks lists it.\n"
 more Clear = codes ""
 more Lines = codes "K is 1000 at most. What stands in a line: help trace\n"
+more Display =
+    codes "flow F       all values of flow F\n"
+    ++ codes "link L       all values of link L\n"
+    ++ codes "cwnd F       a value of flow F: cwnd, flight, ssthresh, una, nxt, rto, dups, phase or next\n"
+    ++ codes "queue L      a value of link L: queue, wait or count\n"
+    ++ codes "Behind a value stands what it was before the move, where that was another: cwnd f = 8000 (was 4000). A - is no value.\n"
+    ++ codes "What the values are: help values. Displays are counted from 1.\n"
+more Undisplay = codes "I is its number, as display lists it; those behind it move up by one.\n"
 more Why =
     codes "F is the name of a flow, or its number: the first flow line of the text is flow 0, the next one flow 1.\n"
-    ++ codes "It tells how the flow stands, where its packets are, and when its alarms are due.\n"
-    ++ codes "Of what is missing at its receiver, or else at its sender, it tells each drop by its line: see lines and goto.\n"
+    ++ codes "It tells how the flow stands, where its packets are, and when its alarms are due. It tells the first byte that is missing\n"
+    ++ codes "at its receiver, or else the acknowledgement that is missing at its sender, and each drop of that by its line: help goto.\n"
+more Stalls =
+    codes "It lists them as goto 25: flow f is stalled at 9280000 ns: only an alarm of the flow goes on with it from there: help stall.\n"
+    ++ codes "The session stays where it is.\n"
 more Names = codes "A name can stand wherever a number of a node, a link or a flow can: help numbers. An image has none.\n"
 more Help = codes "NAME can be cut short, as a command can. In the shell, tcpsim explain B3 tells more of refused B3.\n"
 more Quit = codes "The end of input (Ctrl-D) does so too.\n"
@@ -75,13 +91,16 @@ example Breaks = codes "breaks\n"
 example Delete = codes "delete 1\n"
 example Clear = codes "clear\n"
 example Lines = codes "lines 20\n"
+example Display = codes "display cwnd 0\n"
+example Undisplay = codes "undisplay 1\n"
 example Why = codes "why 0\n"
+example Stalls = codes "stalls\n"
 example Names = codes "names\n"
 example Help = codes "help until\n"
 example Quit = codes "quit\n"
 
 abbrev pub all_names : List CommandName
-all_names = Step ∷ Back ∷ Run ∷ Reverse ∷ Until ∷ Goto ∷ Where ∷ State ∷ Break ∷ Breaks ∷ Delete ∷ Clear ∷ Lines ∷ Why ∷ Names ∷ Help ∷ Quit ∷ []
+all_names = Step ∷ Back ∷ Run ∷ Reverse ∷ Until ∷ Goto ∷ Where ∷ State ∷ Break ∷ Breaks ∷ Delete ∷ Clear ∷ Lines ∷ Display ∷ Undisplay ∷ Why ∷ Stalls ∷ Names ∷ Help ∷ Quit ∷ []
 
 -- one line a command, one on numbers, and one on the empty line
 abbrev pub help_text : List ℕ
@@ -99,8 +118,8 @@ help_on (Command name) = help_on_command name
 help_on Numbers =
     codes "A node, a link or a flow goes by its name in the text, or by its number. Each sort is counted from 0, in the\n"
     ++ codes "order of its lines there. So the first flow line is flow 0, the second one flow 1. An image has no names.\n"
-    ++ codes "Lines of the trace and answers have the numbers, and names lists both. In the shell, tcpsim dis FILE names\n"
-    ++ codes "all by their numbers: n0, l0, f0. Bytes of a flow are counted from 0 too, breakpoints from 1.\n"
+    ++ codes "Lines of the trace and states have the numbers, other answers the names. names lists both. In the shell, tcpsim dis FILE\n"
+    ++ codes "names all by their numbers: n0, l0, f0. Bytes of a flow are counted from 0 too, breakpoints and displays from 1.\n"
     ++ codes "names\n"
 help_on Trace =
     codes "A line of the trace: n time node source number KIND AFTER ACTS\n"
@@ -131,8 +150,8 @@ help_on Stall =
     ++ codes "waits in a queue or is on its way over a link. So only an alarm goes on with it: its retransmission timer,\n"
     ++ codes "or a delayed acknowledgement.\n"
     ++ codes "break stall stops after an event that leaves a flow so, break stall F after one that leaves flow F so, once\n"
-    ++ codes "for each stall. lines 1 shows the event, which has the number of that flow, or drops a packet of it. why F\n"
-    ++ codes "tells which alarm is due, and when; break drop and reverse find what was dropped before.\n"
+    ++ codes "for each stall; stalls lists them all. lines 1 shows the event, which has the number of that flow, or drops a packet of\n"
+    ++ codes "it. why F tells which alarm is due, and when, and what was dropped.\n"
     ++ codes "break stall\n"
 help_on Values =
     codes "A condition on a value is of the lines after which it holds. Its sign is <, <=, >, >= or =, with or without spaces.\n"

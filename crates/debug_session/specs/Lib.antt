@@ -17,6 +17,10 @@ pub mod Memos
 pub mod TypedGrammar
 pub mod ValueTexts
 pub mod Numbered
+pub mod StallLists
+pub mod Displays
+pub mod DisplayGrammar
+pub mod Readouts
 pub mod Help
 pub mod TypedMoves
 pub mod TypedAnswers

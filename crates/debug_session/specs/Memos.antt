@@ -2,7 +2,7 @@
 use Rattle.std.specs.Prelude.{max, false, ◌||◌, is_none, None}
 use Rattle.table_run.specs.State.{due}
 use Rattle.debug_session.specs.declared.command.Typed.{Typed}
-use Rattle.debug_session.specs.declared.command.Typed.TheVariants.{Plain, Reverse, Goto, Moment, Part, Why, Breaks, Delete, Lines, Where, Names, Help, HelpOn}
+use Rattle.debug_session.specs.declared.command.Typed.TheVariants.{Plain, Reverse, Goto, Moment, Part, Why, Stalls, Breaks, Delete, Lines, Where, Names, Help, HelpOn}
 use Rattle.debug_session.specs.declared.memo.Extent.{Extent}
 use Rattle.debug_session.specs.declared.memo.Memo.{Memo}
 use Rattle.debug_session.specs.Answers.{SessionState}
@@ -27,6 +27,7 @@ knowing known (Goto target) = Goto target
 knowing known (Moment time) = Moment time
 knowing known (Part part) = Part part
 knowing known (Why flow) = Why flow
+knowing known Stalls = Stalls
 knowing known Breaks = Breaks
 knowing known (Delete i) = Delete i
 knowing known (Lines count) = Lines count

@@ -6,6 +6,8 @@ use Rattle.aqm.specs.declared.drop_reason.DropReason.{DropReason}
 use Rattle.aqm.specs.declared.drop_reason.DropReason.TheVariants.{Lost, Full, Take}
 use Rattle.table_run.specs.State.{State}
 use Rattle.net_machine.specs.Run.{Reached}
+use Rattle.flow_waits.specs.declared.names.ScenarioNames.{ScenarioNames}
+use Rattle.flow_waits.specs.Names.{named}
 use Rattle.flow_waits.specs.Waits.{waits_bytes}
 use Rattle.debugger.specs.declared.drops.DropsOf.{DropsOf}
 use Rattle.debugger.specs.declared.drops.DropsOf.TheVariants.{Segment, AcksAbove}
@@ -34,16 +36,16 @@ reason_text Full = codes " dropped (full) at link "
 reason_text (Take Codel) = codes " dropped (codel) at link "
 
 -- a packet that was dropped, why, where, and the line that tells of it
-abbrev pub drop_text : DropsOf → PastDrop → List ℕ
-drop_text of dropped = kind_of_drops of ++ decimal dropped.number ++ reason_text dropped.reason ++ decimal dropped.link ++ codes " in line " ++ decimal dropped.line
+abbrev pub drop_text : ScenarioNames → DropsOf → PastDrop → List ℕ
+drop_text names of dropped = kind_of_drops of ++ decimal dropped.number ++ named (reason_text dropped.reason) names.links dropped.link ++ codes " in line " ++ decimal dropped.line
 
-abbrev pub missing_line : DropsOf → List PastDrop → List ℕ
-missing_line of drops = missing_head of ++ flat_map (drop_text of) drops ++ codes "\n"
+abbrev pub missing_line : ScenarioNames → DropsOf → List PastDrop → List ℕ
+missing_line names of drops = missing_head of ++ flat_map (drop_text names of) drops ++ codes "\n"
 
 -- of the drops up to a position of the run; nothing where nothing is missing
-abbrev pub missing_told : State → ℕ → Option DropsOf → List ℕ
-missing_told start position None = []
-missing_told start position (Some of) = missing_line of (past_drops start of position)
+abbrev pub missing_told : ScenarioNames → State → ℕ → Option DropsOf → List ℕ
+missing_told names start position None = []
+missing_told names start position (Some of) = missing_line names of (past_drops start of position)
 
-abbrev pub why_text : ℕ → State → Reached → List ℕ
-why_text flow start shown = waits_bytes flow shown.state ++ missing_told start shown.position (missing_in flow shown.state)
+abbrev pub why_text : ScenarioNames → ℕ → State → Reached → List ℕ
+why_text names flow start shown = waits_bytes names flow shown.state ++ missing_told names start shown.position (missing_in flow shown.state)

@@ -2,13 +2,13 @@
 use Rattle.std.specs.Prelude.{ℕ, nat_eq, Bool, if◌then◌else◌, List, codes, Option, None, Some}
 use Rattle.std.specs.List.{starts_with}
 use Rattle.debug_session.specs.declared.name.CommandName.{CommandName}
-use Rattle.debug_session.specs.declared.name.CommandName.TheVariants.{Step, Back, Break, Breaks, Run, Reverse, Until, State, Lines, Delete, Clear, Help, Quit, Why, Goto, Where, Names}
+use Rattle.debug_session.specs.declared.name.CommandName.TheVariants.{Step, Back, Break, Breaks, Run, Reverse, Until, State, Lines, Delete, Clear, Help, Quit, Why, Goto, Where, Names, Display, Undisplay, Stalls}
 
 -- a word is the beginning of a name, or all of it
 abbrev pub begins : List ℕ → List ℕ → Bool
 begins word name = starts_with nat_eq name word
 
--- so `s` means step, `sta` state, `r` run, `re` reverse, `b` back, `br` break, `breaks` alone breaks, and `whe` where
+-- so `s` means step, `sta` state, `r` run, `re` reverse, `b` back, `br` break, `breaks` alone breaks, `whe` where, `di` display, `und` undisplay, and `stal` stalls
 abbrev pub name_of : List ℕ → Option CommandName
 name_of word =
     if begins word (codes "step") then Some Step
@@ -28,4 +28,7 @@ name_of word =
     else (if begins word (codes "goto") then Some Goto
     else (if begins word (codes "where") then Some Where
     else (if begins word (codes "names") then Some Names
-    else None))))))))))))))))
+    else (if begins word (codes "display") then Some Display
+    else (if begins word (codes "undisplay") then Some Undisplay
+    else (if begins word (codes "stalls") then Some Stalls
+    else None)))))))))))))))))))

@@ -14,11 +14,11 @@ use Rattle.debug_session.specs.Grammar.{Word}
 -- the names that a text declares, and numbers below these
 abbrev pub naming_by : Limits → NamedParts → Naming
 naming_by limits named =
-    record { limits = limits; nodes = map (λ name. name.now) named.nodes.items; links = map (λ name. name.now) named.links.items; flows = map (λ name. name.now) named.flows.items }
+    record { limits = limits; names = record { nodes = map (λ name. name.now) named.nodes.items; links = map (λ name. name.now) named.links.items; flows = map (λ name. name.now) named.flows.items } }
 
 -- numbers alone, as in an image
 abbrev pub by_numbers : Limits → Naming
-by_numbers limits = record { limits = limits; nodes = []; links = []; flows = [] }
+by_numbers limits = record { limits = limits; names = record { nodes = []; links = []; flows = [] } }
 
 -- how many parts of a sort there are
 abbrev pub count_of : Limits → PartSort → ℕ
@@ -28,16 +28,16 @@ count_of limits Flow = limits.flows
 
 -- their names, in the order of their numbers: an image has none
 abbrev pub names_of : Naming → PartSort → List Word
-names_of naming Node = naming.nodes
-names_of naming Link = naming.links
-names_of naming Flow = naming.flows
+names_of naming Node = naming.names.nodes
+names_of naming Link = naming.names.links
+names_of naming Flow = naming.names.flows
 
 -- the sort of the part that has a name: no two parts have the same
 abbrev pub sort_of : Naming → Word → Option PartSort
 sort_of naming name =
-    if is_some (number_among naming.nodes name) then Some Node
-    else (if is_some (number_among naming.links name) then Some Link
-    else (if is_some (number_among naming.flows name) then Some Flow
+    if is_some (number_among naming.names.nodes name) then Some Node
+    else (if is_some (number_among naming.names.links name) then Some Link
+    else (if is_some (number_among naming.names.flows name) then Some Flow
     else None))
 
 -- a numeral is a number, and any other word a name: it means the first part that has it, as the assembler reads it

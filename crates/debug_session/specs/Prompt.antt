@@ -1,31 +1,41 @@
 -- A session at a prompt: a line is answered before the next one is asked for.
-use Rattle.std.specs.Prelude.{◌≡◌, ◌⊎◌, ℕ, nat_lt, nat_eq, Bool, true, false, not, MatchBool, if◌then◌else◌, List, [], ◌∷◌, ◌++◌, length, map, codes, Option, None, Some, Ok, Err}
+use Rattle.std.specs.Prelude.{◌≡◌, ◌⊎◌, ◌&&◌, ℕ, nat_lt, nat_eq, Bool, true, false, not, MatchBool, if◌then◌else◌, List, [], ◌∷◌, ◌++◌, length, map, codes, Option, None, Some, Ok, Err}
 use Rattle.std.specs.List.{list_all, starts_with}
 use Rattle.table_run.specs.State.{State}
+use Rattle.net_machine.specs.Run.{Reached}
+use Rattle.flow_waits.specs.declared.names.ScenarioNames.{ScenarioNames}
+use Rattle.debugger.specs.Reads.{read_in}
+use Rattle.debug_session.specs.declared.command.Request.{Request}
+use Rattle.debug_session.specs.declared.command.Request.TheVariants.{Command, Display}
 use Rattle.debug_session.specs.declared.command.Typed.{Typed as TypedCommand}
 use Rattle.debug_session.specs.declared.dialogue.Dialogue.{Dialogue}
+use Rattle.debug_session.specs.declared.display.DisplayCommand.{DisplayCommand}
+use Rattle.debug_session.specs.declared.display.DisplayItem.{DisplayItem}
 use Rattle.debug_session.specs.declared.memo.Memo.{Memo}
 use Rattle.debug_session.specs.declared.naming.Naming.{Naming}
 use Rattle.debug_session.specs.declared.refusal.Refusal.TheVariants.{B2}
 use Rattle.debug_session.specs.Answers.{SessionState, session_state, refusal_line}
+use Rattle.debug_session.specs.Displays.{Reads, displays_from, ObeysDisplays}
 use Rattle.debug_session.specs.Input.{words_in}
 use Rattle.debug_session.specs.Memos.{known_after, knowing, no_memo}
 use Rattle.debug_session.specs.Names.{begins}
 use Rattle.debug_session.specs.Taking.{Takes}
-use Rattle.debug_session.specs.TypedAnswers.{ObeysTyped, last_after}
+use Rattle.debug_session.specs.TypedAnswers.{ObeysTyped, last_after, is_move}
 use Rattle.debug_session.specs.TypedGrammar.{TypedReading, typed_reading}
+use Rattle.debug_session.specs.TypedMoves.{present_time}
 
--- where a session at a prompt stands, with what it keeps in mind
+-- where a session at a prompt stands, with what it keeps in mind, and what it displays
 pub record AtPrompt : Type 0 where
   pub session_state : SessionState
   pub memo : Memo
+  pub displays : List DisplayItem
 
 abbrev pub at_prompt : Dialogue → AtPrompt
-at_prompt d = record { session_state = session_state d.debugger; memo = d.memo }
+at_prompt d = record { session_state = session_state d.debugger; memo = d.memo; displays = d.displays.items }
 
 -- no line was typed yet
 abbrev pub unmoved : SessionState → AtPrompt
-unmoved s = record { session_state = s; memo = no_memo }
+unmoved s = record { session_state = s; memo = no_memo; displays = [] }
 
 -- nothing changes, and this is answered
 pub record Rests (old new : AtPrompt) (out said : List ℕ) : Type 0 where
@@ -50,10 +60,40 @@ is_quit line = if is_long line then false else quits (words_in line)
 abbrev pub memo_after : TypedCommand → AtPrompt → Memo
 memo_after asked at = record { last = last_after asked at.memo.last; known = known_after at.memo.known at.session_state }
 
+-- the answer is that the line is refused
+abbrev pub is_refusal : List ℕ → Bool
+is_refusal said = starts_with nat_eq said (codes "refused ")
+
+-- what is read where a session stands
+abbrev pub read_at : State → Reached → Reads
+read_at start at what = read_in (present_time start at.position) what at.state
+
+-- a move that is not refused tells the displays behind all else
+abbrev pub told_behind : ScenarioNames → List DisplayItem → State → TypedCommand → SessionState → SessionState → List ℕ → List ℕ
+told_behind names displays start asked old new said = if is_move asked && not (is_refusal said) then displays_from names (read_at start old.shown) (read_at start new.shown) 1 displays else []
+
+-- a command is obeyed, and what is displayed is told behind a move
+pub record ObeysShowing (naming : Naming) (displays : List DisplayItem) (start : State) (asked : TypedCommand) (old new : SessionState) (out : List ℕ) : Type 0 where
+  pub said : List ℕ
+  pub obeyed : ObeysTyped naming start asked old new said
+  pub reported : out ≡ said ++ told_behind naming.names displays start asked old new said
+
 -- a command is done, or refused for want of memory or of workers; a move is the last one either way
 pub record ObeysAtPrompt (naming : Naming) (start : State) (asked : TypedCommand) (old new : AtPrompt) (out : List ℕ) : Type 0 where
-  pub obeyed : ObeysTyped naming start (knowing new.memo.known asked) old.session_state new.session_state out
+  pub obeyed : ObeysShowing naming old.displays start (knowing new.memo.known asked) old.session_state new.session_state out
   pub memo : new.memo ≡ memo_after asked old
+  pub displays : new.displays ≡ old.displays
+
+-- a command on displays changes nothing but them
+pub record ObeysDisplay (naming : Naming) (start : State) (asked : DisplayCommand) (old new : AtPrompt) (out : List ℕ) : Type 0 where
+  pub obeyed : ObeysDisplays naming.names (read_at start old.session_state.shown) asked old.displays new.displays out
+  pub session_state : new.session_state ≡ old.session_state
+  pub memo : new.memo ≡ old.memo
+
+-- what a line asks for is obeyed
+abbrev pub ObeysRequest : Naming → State → Request → AtPrompt → AtPrompt → List ℕ → Type 0
+ObeysRequest naming start (Command asked) old new out = ObeysAtPrompt naming start asked old new out
+ObeysRequest naming start (Display asked) old new out = ObeysDisplay naming start asked old new out
 
 -- the last move is done again, where there was one
 abbrev pub MovesAgain : Naming → State → Option TypedCommand → AtPrompt → AtPrompt → List ℕ → Type 0
@@ -63,7 +103,7 @@ MovesAgain naming start (Some move) old new out = ObeysAtPrompt naming start mov
 abbrev pub FollowsTyped : Naming → State → Option TypedReading → AtPrompt → AtPrompt → List ℕ → Type 0
 FollowsTyped naming start None old new out = MovesAgain naming start old.memo.last old new out
 FollowsTyped naming start (Some (Err refusal)) old new out = Rests old new out (refusal_line refusal)
-FollowsTyped naming start (Some (Ok asked)) old new out = ObeysAtPrompt naming start asked old new out
+FollowsTyped naming start (Some (Ok asked)) old new out = ObeysRequest naming start asked old new out
 
 -- what a line says that is typed is followed; a line of no words does the last move again
 abbrev pub AnswersTyped : Naming → State → List ℕ → AtPrompt → AtPrompt → List ℕ → Type 0
@@ -73,10 +113,6 @@ AnswersTyped naming start line old new out = FollowsTyped naming start (typed_re
 abbrev pub TypedAnswers : Naming → State → List ℕ → AtPrompt → AtPrompt → List ℕ → Type 0
 TypedAnswers naming start line old new said =
     MatchBool (is_long line) (Rests old new said (refusal_line B2)) (MatchBool (is_quit line) (Rests old new said []) (AnswersTyped naming start line old new said))
-
--- the answer is that the line is refused
-abbrev pub is_refusal : List ℕ → Bool
-is_refusal said = starts_with nat_eq said (codes "refused ")
 
 -- what the output gets of an answer: all but a refusal, which is told beside it
 abbrev pub answer_out : List ℕ → List ℕ

@@ -1,5 +1,5 @@
 -- What a session at a prompt answers to a command, and where it stands afterwards.
-use Rattle.std.specs.Prelude.{◌≡◌, ◌<◌, ◌+◌, ◌-◌, ◌⊎◌, ℕ, List, [], ◌∷◌, ◌++◌, length, Contains, Option, Some}
+use Rattle.std.specs.Prelude.{◌≡◌, ◌<◌, ◌+◌, ◌-◌, ◌⊎◌, ℕ, List, [], ◌∷◌, ◌++◌, length, Contains, Bool, Option, None, Some, is_some}
 use Rattle.table_run.specs.State.{State as NetState}
 use Rattle.trace_text.specs.DumpParts.{part_bytes}
 use Rattle.debug_session.specs.Missing.{why_text}
@@ -8,57 +8,59 @@ use Rattle.debugger.specs.Breaks.{IsTakenOut}
 use Rattle.debugger.specs.Moves.{StepGoesTo, RunGoesTo, ReverseGoesTo, UntilGoesTo}
 use Rattle.debug_session.specs.declared.command.Command.TheVariants.{Step, Back, Until, Run, State, SetBreak, Clear}
 use Rattle.debug_session.specs.declared.command.Typed.{Typed}
-use Rattle.debug_session.specs.declared.command.Typed.TheVariants.{Plain, Reverse, Goto, Moment, Part, Why, Breaks, Delete, Lines, Where, Names, Help, HelpOn}
+use Rattle.debug_session.specs.declared.command.Typed.TheVariants.{Plain, Reverse, Goto, Moment, Part, Why, Stalls, Breaks, Delete, Lines, Where, Names, Help, HelpOn}
 use Rattle.debug_session.specs.declared.naming.Naming.{Naming}
 use Rattle.debug_session.specs.declared.refusal.Refusal.TheVariants.{B4, B5, M}
 use Rattle.debug_session.specs.Answers.{SessionState, Stays, Does, CanBeRefused, refusal_line}
 use Rattle.debug_session.specs.Help.{help_text, help_on}
 use Rattle.debug_session.specs.NamesReported.{names_text}
+use Rattle.debug_session.specs.StallLists.{TellsStalls}
 use Rattle.debug_session.specs.Numbered.{IsNumber, HasNumber, set_line, deleted_line, listing}
 use Rattle.debug_session.specs.TypedMoves.{MovesPast, Moves, back_to_break, until_report, last_lines, where_text}
 
 -- a breakpoint that is not set yet joins the others, as the last of them
-pub record JoinsLast (b : Break) (old new : SessionState) (out : List ℕ) : Type 0 where
+pub record JoinsLast (naming : Naming) (b : Break) (old new : SessionState) (out : List ℕ) : Type 0 where
   pub fresh : ¬ Contains old.breaks b
   pub few : length old.breaks < 64
   pub joined : new ≡ record old { breaks = old.breaks ++ b ∷ [] }
-  pub reported : out ≡ set_line (length old.breaks + 1) b
+  pub reported : out ≡ set_line naming (length old.breaks + 1) b
 
 -- a breakpoint is set: one that is set already keeps its number, and there are at most 64
-abbrev pub SetsNumbered : Break → SessionState → SessionState → List ℕ → Type 0
-SetsNumbered b old new out =
-    ((i : ℕ) × IsNumber old.breaks b i × Stays old new out (set_line i b))
-    ⊎ JoinsLast b old new out
+abbrev pub SetsNumbered : Naming → Break → SessionState → SessionState → List ℕ → Type 0
+SetsNumbered naming b old new out =
+    ((i : ℕ) × IsNumber old.breaks b i × Stays old new out (set_line naming i b))
+    ⊎ JoinsLast naming b old new out
     ⊎ (¬ Contains old.breaks b × (length old.breaks ≡ 64) × Stays old new out (refusal_line B4))
 
 -- the breakpoint of a number is taken away, and the later ones move up
-pub record TakesAway (i : ℕ) (old new : SessionState) (out : List ℕ) : Type 0 where
+pub record TakesAway (naming : Naming) (i : ℕ) (old new : SessionState) (out : List ℕ) : Type 0 where
   pub index : ℕ
   pub b : Break
   pub number : i ≡ index + 1
   pub taken : IsTakenOut old.breaks new.breaks index b
   pub same : new ≡ record old { breaks = new.breaks }
-  pub reported : out ≡ deleted_line i b
+  pub reported : out ≡ deleted_line naming i b
 
-abbrev pub Deletes : ℕ → SessionState → SessionState → List ℕ → Type 0
-Deletes i old new out = TakesAway i old new out ⊎ (¬ HasNumber old.breaks i × Stays old new out (refusal_line B5))
+abbrev pub Deletes : Naming → ℕ → SessionState → SessionState → List ℕ → Type 0
+Deletes naming i old new out = TakesAway naming i old new out ⊎ (¬ HasNumber old.breaks i × Stays old new out (refusal_line B5))
 
 -- a command is done, where the nodes, links and flows are called so: moves go where they go in a session whose lines are all there, `goto` where `step` goes from the beginning, or `until`, and `state` and `clear` are answered as there
 abbrev pub DoesTyped : Naming → NetState → Typed → SessionState → SessionState → List ℕ → Type 0
-DoesTyped naming start (Plain (Step count)) old new out = Moves start (StepGoesTo start old.shown.position count) old new out
-DoesTyped naming start (Plain (Back count)) old new out = Moves start (λ p. p ≡ old.shown.position - count) old new out
-DoesTyped naming start (Plain (Until time)) old new out = MovesPast start (until_report time old.shown.position) (UntilGoesTo start time old.shown.position) old new out
-DoesTyped naming start (Plain Run) old new out = Moves start (RunGoesTo start old.breaks old.shown.position) old new out
+DoesTyped naming start (Plain (Step count)) old new out = Moves naming start (StepGoesTo start old.shown.position count) old new out
+DoesTyped naming start (Plain (Back count)) old new out = Moves naming start (λ p. p ≡ old.shown.position - count) old new out
+DoesTyped naming start (Plain (Until time)) old new out = MovesPast naming start (until_report time old.shown.position) (UntilGoesTo start time old.shown.position) old new out
+DoesTyped naming start (Plain Run) old new out = Moves naming start (RunGoesTo start old.breaks old.shown.position) old new out
 DoesTyped naming start (Plain State) old new out = Does start State old new out
-DoesTyped naming start (Plain (SetBreak b)) old new out = SetsNumbered b old new out
+DoesTyped naming start (Plain (SetBreak b)) old new out = SetsNumbered naming b old new out
 DoesTyped naming start (Plain Clear) old new out = Does start Clear old new out
-DoesTyped naming start Reverse old new out = MovesPast start back_to_break (ReverseGoesTo start old.breaks old.shown.position) old new out
-DoesTyped naming start (Goto target) old new out = Moves start (StepGoesTo start 0 target) old new out
-DoesTyped naming start (Moment time) old new out = Moves start (UntilGoesTo start time 0) old new out
+DoesTyped naming start Reverse old new out = MovesPast naming start back_to_break (ReverseGoesTo start old.breaks old.shown.position) old new out
+DoesTyped naming start (Goto target) old new out = Moves naming start (StepGoesTo start 0 target) old new out
+DoesTyped naming start (Moment time) old new out = Moves naming start (UntilGoesTo start time 0) old new out
 DoesTyped naming start (Part part) old new out = Stays old new out (part_bytes part old.shown)
-DoesTyped naming start (Why flow) old new out = Stays old new out (why_text flow start old.shown)
-DoesTyped naming start Breaks old new out = Stays old new out (listing old.breaks)
-DoesTyped naming start (Delete i) old new out = Deletes i old new out
+DoesTyped naming start (Why flow) old new out = Stays old new out (why_text naming.names flow start old.shown)
+DoesTyped naming start Stalls old new out = (new ≡ old) × TellsStalls naming.names.flows start out
+DoesTyped naming start Breaks old new out = Stays old new out (listing naming old.breaks)
+DoesTyped naming start (Delete i) old new out = Deletes naming i old new out
 DoesTyped naming start (Lines count) old new out = Stays old new out (last_lines start old.shown.position count)
 DoesTyped naming start (Where known) old new out = Stays old new out (where_text start old.shown known)
 DoesTyped naming start Names old new out = Stays old new out (names_text naming)
@@ -67,13 +69,15 @@ DoesTyped naming start (HelpOn topic) old new out = Stays old new out (help_on t
 
 -- the command can be refused for want of memory or of workers, or as too many events were run
 abbrev pub TypedCanBeRefused : Typed → SessionState → Type 0
+TypedCanBeRefused (Plain (SetBreak b)) old = Contains old.breaks b ⊎ (length old.breaks < 64)
 TypedCanBeRefused (Plain asked) old = CanBeRefused asked old
 TypedCanBeRefused Reverse old = Unit {0}
 TypedCanBeRefused (Goto target) old = Unit {0}
 TypedCanBeRefused (Moment time) old = Unit {0}
 TypedCanBeRefused (Part part) old = Unit {0}
 TypedCanBeRefused (Why flow) old = Unit {0}
-TypedCanBeRefused (Delete i) old = ⊥
+TypedCanBeRefused Stalls old = Unit {0}
+TypedCanBeRefused (Delete i) old = HasNumber old.breaks i
 TypedCanBeRefused Breaks old = 0 < length old.breaks
 TypedCanBeRefused (Lines count) old = Unit {0}
 TypedCanBeRefused (Where known) old = Unit {0}
@@ -99,6 +103,7 @@ last_after (Goto target) last = Some (Goto target)
 last_after (Moment time) last = Some (Moment time)
 last_after (Part part) last = last
 last_after (Why flow) last = last
+last_after Stalls last = last
 last_after Breaks last = last
 last_after (Delete i) last = last
 last_after (Lines count) last = last
@@ -106,3 +111,7 @@ last_after (Where known) last = last
 last_after Names last = last
 last_after Help last = last
 last_after (HelpOn name) last = last
+
+-- a command is a move, which an empty line does again
+abbrev pub is_move : Typed → Bool
+is_move asked = is_some (last_after asked None)

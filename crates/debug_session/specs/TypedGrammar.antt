@@ -5,8 +5,10 @@ use Rattle.scenario_asm.specs.Numbers.{is_numeral}
 use Rattle.trace_text.specs.declared.dump.DumpPart.{DumpPart}
 use Rattle.trace_text.specs.declared.dump.DumpPart.TheVariants as part
 use Rattle.debug_session.specs.declared.command.Command.TheVariants.{Step, Back, Until, Run, State, Clear}
+use Rattle.debug_session.specs.declared.command.Request.{Request}
+use Rattle.debug_session.specs.declared.command.Request.TheVariants.{Command, Display}
 use Rattle.debug_session.specs.declared.command.Typed.{Typed}
-use Rattle.debug_session.specs.declared.command.Typed.TheVariants.{Plain, Reverse, Goto, Moment, Part, Why, Breaks, Delete, Lines, Where, Names, Help, HelpOn}
+use Rattle.debug_session.specs.declared.command.Typed.TheVariants.{Plain, Reverse, Goto, Moment, Part, Why, Stalls, Breaks, Delete, Lines, Where, Names, Help, HelpOn}
 use Rattle.debug_session.specs.declared.name.CommandName.{CommandName}
 use Rattle.debug_session.specs.declared.name.CommandName.TheVariants as name
 use Rattle.debug_session.specs.declared.naming.Naming.{Naming}
@@ -15,6 +17,7 @@ use Rattle.debug_session.specs.declared.refusal.Refusal.{Refusal}
 use Rattle.debug_session.specs.declared.refusal.Refusal.TheVariants.{B1, B2, B3, B5}
 use Rattle.debug_session.specs.declared.topic.Topic.{Topic}
 use Rattle.debug_session.specs.Conditions.{break_asked}
+use Rattle.debug_session.specs.DisplayGrammar.{DisplayReading, display_asked, takes_away}
 use Rattle.debug_session.specs.Grammar.{Word, Reading, number_below, one_number, with_number, no_word_left}
 use Rattle.debug_session.specs.Input.{words_in}
 use Rattle.debug_session.specs.Memos.{nothing_known}
@@ -35,7 +38,7 @@ one_moment [] = Err B2
 one_moment (word ∷ []) = ok_or (moment_in word) B3
 one_moment (first ∷ second ∷ more) = Err B2
 
--- the number of a breakpoint that is the only word: there are at most 64
+-- the number of a breakpoint or a display that is the only word: there are at most 64
 abbrev pub break_number : Word → Result ℕ Refusal
 break_number word = if is_numeral word then ok_or (number_below 65 word) B5 else Err B3
 
@@ -44,21 +47,21 @@ one_break_number [] = Err B2
 one_break_number (word ∷ []) = break_number word
 one_break_number (first ∷ second ∷ more) = Err B2
 
--- a command, or why there is none
+-- what is asked for, or why there is nothing
 abbrev pub TypedReading : Type 0
-TypedReading = Result Typed Refusal
+TypedReading = Result Request Refusal
 
 abbrev pub plain : Reading → TypedReading
-plain (Ok asked) = Ok (Plain asked)
+plain (Ok asked) = Ok (Command (Plain asked))
 plain (Err refusal) = Err refusal
 
 abbrev pub deletes : Result ℕ Refusal → TypedReading
-deletes (Ok i) = Ok (Delete i)
+deletes (Ok i) = Ok (Command (Delete i))
 deletes (Err refusal) = Err refusal
 
 -- of `state`: the part of a number
 abbrev pub tells_part : (ℕ → DumpPart) → Result ℕ Refusal → TypedReading
-tells_part make (Ok n) = Ok (Part (make n))
+tells_part make (Ok n) = Ok (Command (Part (make n)))
 tells_part make (Err refusal) = Err refusal
 
 -- a sort of part, and the one that the only word behind it means
@@ -71,12 +74,12 @@ part_asked naming sort words =
 
 -- the words behind `state`: none, or a part of it
 abbrev pub state_asked : Naming → List Word → TypedReading
-state_asked naming [] = Ok (Plain State)
+state_asked naming [] = Ok (Command (Plain State))
 state_asked naming (sort ∷ words) = part_asked naming sort words
 
 -- of `why`: the flow
 abbrev pub asks_why : Result ℕ Refusal → TypedReading
-asks_why (Ok flow) = Ok (Why flow)
+asks_why (Ok flow) = Ok (Command (Why flow))
 asks_why (Err refusal) = Err refusal
 
 -- the flow that the only word behind `why` means
@@ -85,17 +88,17 @@ why_asked naming words = asks_why (one_part naming Flow words)
 
 -- of `lines`: how many
 abbrev pub lists : Result ℕ Refusal → TypedReading
-lists (Ok count) = Ok (Lines count)
+lists (Ok count) = Ok (Command (Lines count))
 lists (Err refusal) = Err refusal
 
 -- of `goto`: the position
 abbrev pub goes_to : Option ℕ → TypedReading
-goes_to (Some target) = Ok (Goto target)
+goes_to (Some target) = Ok (Command (Goto target))
 goes_to None = Err B3
 
 -- of `goto`: the moment
 abbrev pub goes_to_moment : Option ℕ → TypedReading
-goes_to_moment (Some time) = Ok (Moment time)
+goes_to_moment (Some time) = Ok (Command (Moment time))
 goes_to_moment None = Err B3
 
 -- a numeral is a position, at most 10^15, and any other word a moment with a unit
@@ -110,7 +113,7 @@ goto_asked (first ∷ second ∷ more) = Err B2
 
 -- no word
 abbrev pub typed_alone : Typed → List Word → TypedReading
-typed_alone asked [] = Ok asked
+typed_alone asked [] = Ok (Command asked)
 typed_alone asked (word ∷ words) = Err B2
 
 -- the words behind `help`: none, or one that begins a name or a topic
@@ -119,8 +122,13 @@ help_named None words = Err B1
 help_named (Some topic) words = typed_alone (HelpOn topic) words
 
 abbrev pub help_asked : List Word → TypedReading
-help_asked [] = Ok Help
+help_asked [] = Ok (Command Help)
 help_asked (word ∷ words) = help_named (topic_of word) words
+
+-- a command on displays
+abbrev pub on_displays : DisplayReading → TypedReading
+on_displays (Ok asked) = Ok (Display asked)
+on_displays (Err refusal) = Err refusal
 
 -- a command by its name and the words behind it: `quit` has none where it ends the session
 abbrev pub command_typed : Naming → Option CommandName → List Word → TypedReading
@@ -142,6 +150,9 @@ command_typed naming (Some name.Why) words = why_asked naming words
 command_typed naming (Some name.Goto) words = goto_asked words
 command_typed naming (Some name.Where) words = typed_alone (Where nothing_known) words
 command_typed naming (Some name.Names) words = typed_alone Names words
+command_typed naming (Some name.Display) words = on_displays (display_asked naming words)
+command_typed naming (Some name.Undisplay) words = on_displays (takes_away (one_break_number words))
+command_typed naming (Some name.Stalls) words = typed_alone Stalls words
 
 -- nothing where there are no words
 abbrev pub typed_of : Naming → List Word → Option TypedReading

@@ -1,18 +1,22 @@
 -- What is answered at a prompt to a move, and to `lines`: lines of the trace, and where the session stands.
-use Rattle.std.specs.Prelude.{◌≡◌, ◌<◌, ◌≤◌, ◌+◌, ◌-◌, ℕ, nat_eq, nat_lt, Bool, if◌then◌else◌, List, [], ◌∷◌, ◌++◌, length, drop, reverse, codes, decimal, Option, None, Some, is_none}
+use Rattle.std.specs.Prelude.{◌≡◌, ◌<◌, ◌≤◌, ◌+◌, ◌-◌, ◌==◌, ℕ, nat_eq, nat_lt, Bool, if◌then◌else◌, List, [], ◌∷◌, ◌++◌, length, drop, reverse, codes, decimal, Option, None, Some, is_none}
 use Rattle.std.specs.List.{concat}
 use Rattle.node_core.specs.TraceLine.{TraceLine}
 use Rattle.table_run.specs.State.{State as NetState, due}
 use Rattle.net_machine.specs.Run.{Reached}
+use Rattle.flow_waits.specs.declared.names.ScenarioNames.{ScenarioNames}
+use Rattle.flow_waits.specs.Names.{named}
 use Rattle.debugger.specs.declared.breaks.Break.{Break}
 use Rattle.debugger.specs.declared.breaks.Hit.{Hit}
-use Rattle.debugger.specs.Breaks.{IsFirstHit}
+use Rattle.debugger.specs.Breaks.{flow_of, IsFirstHit}
+use Rattle.debugger.specs.LastEvents.{freed_link}
 use Rattle.debugger.specs.Moves.{Passes, GivesAt}
 use Rattle.debugger.specs.Passed.{lines_between, texts_between}
 use Rattle.debug_session.specs.declared.memo.Extent.{Extent}
+use Rattle.debug_session.specs.declared.naming.Naming.{Naming}
 use Rattle.debug_session.specs.declared.report.Report.{Report}
 use Rattle.debug_session.specs.Answers.{SessionState}
-use Rattle.debug_session.specs.Numbered.{stops_line}
+use Rattle.debug_session.specs.Numbered.{part_text, stops_line}
 
 -- the position behind which the lines of a move backwards begin: where a breakpoint is told, its line is among them
 abbrev pub lowest : ℕ → ℕ → ℕ
@@ -44,6 +48,10 @@ abbrev pub last_time : ℕ → List TraceLine → ℕ
 last_time time [] = time
 last_time time (line ∷ lines) = last_time line.key.time lines
 
+-- that of the event before a position; before the first event the time is 0
+abbrev pub present_time : NetState → ℕ → ℕ
+present_time start p = last_time 0 (lines_between start 0 p)
+
 -- whether a position is the run's end, or its beginning
 abbrev pub end_words : ℕ → Bool → List ℕ
 end_words p at_end = if at_end then codes " ns, the end\n" else (if nat_eq p 0 then codes " ns, the beginning\n" else codes " ns\n")
@@ -55,40 +63,53 @@ time_words p time at_end = codes " of the run, time " ++ (decimal time ++ end_wo
 abbrev pub place_line : ℕ → ℕ → Bool → List ℕ
 place_line p time at_end = codes "at " ++ (decimal p ++ time_words p time at_end)
 
--- where a session stands: before the first event the time is 0
+-- where a session stands
 abbrev pub where_line : NetState → Reached → List ℕ
-where_line start at = place_line at.position (last_time 0 (lines_between start 0 at.position)) (is_none (due at.state))
+where_line start at = place_line at.position (present_time start at.position) (is_none (due at.state))
+
+-- the node of an event, and its flow, or the link that becomes free
+abbrev pub named_origin : ScenarioNames → ℕ → Option ℕ → Option ℕ → List ℕ
+named_origin names node flow link = named (codes "of node ") names.nodes node ++ (part_text (codes ", flow ") names.flows flow ++ (part_text (codes ", link ") names.links link ++ codes "\n"))
+
+-- nothing of an image, which has no names
+abbrev pub origin_text : Naming → ℕ → Option ℕ → Option ℕ → List ℕ
+origin_text naming node flow link = if length naming.names.nodes == 0 then [] else named_origin naming.names node flow link
+
+abbrev pub origin_line : Naming → TraceLine → List ℕ
+origin_line naming line = origin_text naming line.key.node (flow_of line.event) (freed_link line.event)
 
 -- a breakpoint that stops there, with its number, and what the value was before that it asks to change
-abbrev pub hit_line : Option Hit → List ℕ
-hit_line None = []
-hit_line (Some hit) = stops_line hit.number hit.breakpoint hit.was
+abbrev pub hit_line : Naming → Option Hit → List ℕ
+hit_line naming None = []
+hit_line naming (Some hit) = stops_line naming hit.number hit.breakpoint hit.was
 
--- the first breakpoint that matches the last line, with the states before and after it
-pub record TellsHit (start : NetState) (breaks : List Break) (p : ℕ) (reported : List ℕ) : Type 0 where
+-- where the last line comes from, and the first breakpoint that matches it, with the states before and after it
+pub record TellsHit (naming : Naming) (start : NetState) (breaks : List Break) (p : ℕ) (origin matched : List ℕ) : Type 0 where
   pub line : TraceLine
   pub given : GivesAt start line p
   pub hit : Option Hit
   pub first : IsFirstHit breaks given.before.state line given.after hit
-  pub reported_is : reported ≡ hit_line hit
+  pub origin_is : origin ≡ origin_line naming line
+  pub matched_is : matched ≡ hit_line naming hit
 
--- it is told at a position past a bound, and at no other
-pub record TellsMatch (start : NetState) (breaks : List Break) (bound p : ℕ) (reported : List ℕ) : Type 0 where
-  pub past : bound < p → TellsHit start breaks p reported
-  pub before : p ≤ bound → reported ≡ []
+-- both are told at a position past a bound, and at no other
+pub record TellsMatch (naming : Naming) (start : NetState) (breaks : List Break) (bound p : ℕ) (origin matched : List ℕ) : Type 0 where
+  pub past : bound < p → TellsHit naming start breaks p origin matched
+  pub before : p ≤ bound → (origin ≡ []) × (matched ≡ [])
 
--- a move from a position m is told: the lines that it passed, where it came to, and past a bound which breakpoint matches there
-pub record TellsPast (start : NetState) (m : ℕ) (report : Report) (at : SessionState) (out : List ℕ) : Type 0 where
+-- a move from a position m is told: the lines that it passed, past a bound where the last of them comes from, where it came to, and past that bound which breakpoint matches there
+pub record TellsPast (naming : Naming) (start : NetState) (m : ℕ) (report : Report) (at : SessionState) (out : List ℕ) : Type 0 where
+  pub origin : List ℕ
   pub matched : List ℕ
-  pub matches : TellsMatch start at.breaks report.bound at.shown.position matched
-  pub reported : out ≡ passed_lines start m report at.shown.position ++ (where_line start at.shown ++ matched)
+  pub matches : TellsMatch naming start at.breaks report.bound at.shown.position origin matched
+  pub reported : out ≡ passed_lines start m report at.shown.position ++ (origin ++ (where_line start at.shown ++ matched))
 
 -- the state at a position that the move goes to is shown, and the move is told
-pub record MovesPast (start : NetState) (report : Report) (goes : ℕ → Type 0) (old new : SessionState) (out : List ℕ) : Type 0 where
+pub record MovesPast (naming : Naming) (start : NetState) (report : Report) (goes : ℕ → Type 0) (old new : SessionState) (out : List ℕ) : Type 0 where
   pub at : goes new.shown.position
   pub on_run : Passes start new.shown
   pub breaks : new.breaks ≡ old.breaks
-  pub reported : TellsPast start old.shown.position report new out
+  pub reported : TellsPast naming start old.shown.position report new out
 
 -- a breakpoint is told after a move forwards, and after no other
 abbrev pub onwards : ℕ → Report
@@ -102,8 +123,8 @@ until_report time m = record { bound = m; until = Some time }
 abbrev pub back_to_break : Report
 back_to_break = record { bound = 0; until = None }
 
-abbrev pub Moves : NetState → (ℕ → Type 0) → SessionState → SessionState → List ℕ → Type 0
-Moves start goes old new out = MovesPast start (onwards old.shown.position) goes old new out
+abbrev pub Moves : Naming → NetState → (ℕ → Type 0) → SessionState → SessionState → List ℕ → Type 0
+Moves naming start goes old new out = MovesPast naming start (onwards old.shown.position) goes old new out
 
 -- the line that the next event gives, where one is due
 abbrev pub next_text : NetState → Reached → List ℕ

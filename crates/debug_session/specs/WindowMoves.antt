@@ -14,8 +14,7 @@ use Rattle.debug_session.specs.declared.window_move.WindowMove.{WindowMove}
 use Rattle.debug_session.specs.declared.window_move.WindowMove.TheVariants.{Run, Until}
 use Rattle.debug_session.specs.declared.report.Report.{Report}
 use Rattle.debug_session.specs.Answers.{SessionState, session_state, Obeys}
-use Rattle.debug_session.specs.Prompt.{AtPrompt}
-use Rattle.debug_session.specs.TypedAnswers.{ObeysTyped}
+use Rattle.debug_session.specs.Prompt.{AtPrompt, ObeysShowing}
 use Rattle.debug_session.specs.TypedMoves.{onwards, until_report}
 
 -- the command that asks for it
@@ -59,4 +58,5 @@ pub record IsLeft (old new : Debugging) (IsAnswer : SessionState → List ℕ �
 -- so at a prompt, where it may be the last move now
 pub record IsTypedLeft (naming : Naming) (old new : Dialogue) (IsAnswer : AtPrompt → List ℕ → Type 0) (left : TypedWindowMove) : Type 0 where
   pub same : new.debugger ≡ old.debugger
-  pub answers : (at : SessionState) (out : List ℕ) → ObeysTyped naming old.debugger.start (typed_of left) (session_state old.debugger) at out → IsAnswer (record { session_state = at; memo = new.memo }) out
+  pub displays : new.displays.items ≡ old.displays.items
+  pub answers : (at : SessionState) (out : List ℕ) → ObeysShowing naming old.displays.items old.debugger.start (typed_of left) (session_state old.debugger) at out → IsAnswer (record { session_state = at; memo = new.memo; displays = old.displays.items }) out

@@ -2,6 +2,7 @@
 ghost use Rattle.std.specs.Prelude.{◌≡◌};
 ghost use Rattle.debug_session.specs.Sessions.{limits_of};
 
+use crate::display::DisplayCommand;
 use crate::memo::Extent;
 use crate::topic::Topic;
 use debugger::Break;
@@ -43,6 +44,8 @@ pub enum Typed {
     Part(DumpPart),
     /// Nothing but to see what a flow waits for.
     Why(u16),
+    /// Nothing but to see all stalls of the run.
+    Stalls,
     /// Nothing but to see the breakpoints.
     Breaks,
     /// To take away the breakpoint of this number.
@@ -57,6 +60,15 @@ pub enum Typed {
     Help,
     /// Nothing but to be told of a topic.
     HelpOn(Topic),
+}
+
+/// What a line that is typed asks for.
+#[derive(Clone, Copy, Debug, PartialEq, Eq)]
+pub enum Request {
+    /// A command to the debugger.
+    Command(Typed),
+    /// A command on what is displayed after each move.
+    Display(DisplayCommand),
 }
 
 /// The numbers of a scenario's nodes, links and flows are below these.

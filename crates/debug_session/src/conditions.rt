@@ -84,7 +84,7 @@ pub struct Gathered {
 }
 
 /// The sort of conditions on a value that a word names.
-fn value_sort_named(word: &[u8]) -> Option<Sort>
+pub(crate) fn value_sort_named(word: &[u8]) -> Option<Sort>
     ensures { result ≡ value_sort_named word.now }
 {
     if is(word, b"phase") {
@@ -102,7 +102,7 @@ fn value_sort_named(word: &[u8]) -> Option<Sort>
 }
 
 /// The sort of conditions that a word names.
-fn sort_named(word: &[u8]) -> Option<Sort>
+pub(crate) fn sort_named(word: &[u8]) -> Option<Sort>
     ensures { result ≡ sort_named word.now }
 {
     if is(word, b"node") {

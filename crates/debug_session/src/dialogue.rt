@@ -1,9 +1,11 @@
 //! A debugger that is told what to do line by line.
-ghost use Rattle.std.specs.Prelude.{◌≡◌};
+ghost use Rattle.std.specs.Prelude.{◌≡◌, []};
 ghost use Rattle.debug_session.specs.Memos.{no_memo};
 
+use crate::display::DisplayItem;
 use crate::memo::Memo;
 use debugger::Debugger;
+use std::alloc::Global;
 
 /// A debugger at a prompt.
 #[derive(Drop)]
@@ -12,17 +14,21 @@ pub struct Dialogue {
     pub debugger: Debugger,
     /// What is kept in mind from line to line.
     pub memo: Memo,
+    /// What is displayed after each move.
+    pub displays: Vec<DisplayItem>,
 }
 
 impl Dialogue {
     /// Nothing was asked for yet.
-    pub fn new(debugger: Debugger) -> Dialogue
+    pub fn new(alloc: Global, debugger: Debugger) -> Dialogue
         ensures debugger { result.debugger ≡ debugger }
         ensures memo { result.memo ≡ no_memo }
+        ensures displays { result.displays.items ≡ [] }
     {
         Dialogue {
             debugger,
             memo: Memo::new(),
+            displays: Vec::new(alloc),
         }
     }
 }

@@ -7,7 +7,7 @@ use crate::name::CommandName;
 use std::alloc::AllocError;
 
 /// The commands, in the order in which they are told of.
-const ALL_NAMES: [CommandName; 17] = [
+const ALL_NAMES: [CommandName; 20] = [
     CommandName::Step,
     CommandName::Back,
     CommandName::Run,
@@ -21,7 +21,10 @@ const ALL_NAMES: [CommandName; 17] = [
     CommandName::Delete,
     CommandName::Clear,
     CommandName::Lines,
+    CommandName::Display,
+    CommandName::Undisplay,
     CommandName::Why,
+    CommandName::Stalls,
     CommandName::Names,
     CommandName::Help,
     CommandName::Quit,
@@ -51,7 +54,12 @@ fn usage(name: CommandName) -> &'static [u8]
         CommandName::Delete => b"delete I     take breakpoint I away\n",
         CommandName::Clear => b"clear        take all breakpoints away\n",
         CommandName::Lines => b"lines [K]    show the last K lines of the trace (10)\n",
+        CommandName::Display =>
+            b"display [IT] show flow F, link L or a value of either after each move; alone, list them\n",
+        CommandName::Undisplay => b"undisplay I  take display I away\n",
         CommandName::Why => b"why F        tell what flow F waits for\n",
+        CommandName::Stalls =>
+            b"stalls       list all stalls of the run, each with a goto that goes there\n",
         CommandName::Names =>
             b"names        list the names of nodes, links and flows with their numbers\n",
         CommandName::Help =>
@@ -84,6 +92,8 @@ A moment has a unit, as of until: all events before it are run, and no other.
         CommandName::State =>
             b"node N and link L show one line each, flow F all that there is of a flow: both of its ends, the links
 where its packets wait, and its events to come. N, L and F are names or numbers: help numbers
+Of a link offered= and sent= count packets. queue= has those that wait: 4:d:7000@102299200 is data 7000 of flow 4, queued
+at 102299200 ns; a is an acknowledgement. Of a sender high= is the greatest nxt= so far, lt= the bytes of limited transmit.
 ",
         CommandName::Break =>
             b"node N       the event happens at node N (N, L and F are names or numbers: help numbers)
@@ -100,10 +110,23 @@ stall [F]    a flow, or flow F, is stalled from there on: help stall; it stands 
         CommandName::Delete => b"I is its number, as breaks lists it.\n",
         CommandName::Clear => b"",
         CommandName::Lines => b"K is 1000 at most. What stands in a line: help trace\n",
+        CommandName::Display => b"flow F       all values of flow F
+link L       all values of link L
+cwnd F       a value of flow F: cwnd, flight, ssthresh, una, nxt, rto, dups, phase or next
+queue L      a value of link L: queue, wait or count
+Behind a value stands what it was before the move, where that was another: cwnd f = 8000 (was 4000). A - is no value.
+What the values are: help values. Displays are counted from 1.
+",
+        CommandName::Undisplay =>
+            b"I is its number, as display lists it; those behind it move up by one.\n",
         CommandName::Why =>
             b"F is the name of a flow, or its number: the first flow line of the text is flow 0, the next one flow 1.
-It tells how the flow stands, where its packets are, and when its alarms are due.
-Of what is missing at its receiver, or else at its sender, it tells each drop by its line: see lines and goto.
+It tells how the flow stands, where its packets are, and when its alarms are due. It tells the first byte that is missing
+at its receiver, or else the acknowledgement that is missing at its sender, and each drop of that by its line: help goto.
+",
+        CommandName::Stalls =>
+            b"It lists them as goto 25: flow f is stalled at 9280000 ns: only an alarm of the flow goes on with it from there: help stall.
+The session stays where it is.
 ",
         CommandName::Names =>
             b"A name can stand wherever a number of a node, a link or a flow can: help numbers. An image has none.\n",
@@ -131,7 +154,10 @@ fn example(name: CommandName) -> &'static [u8]
         CommandName::Delete => b"delete 1\n",
         CommandName::Clear => b"clear\n",
         CommandName::Lines => b"lines 20\n",
+        CommandName::Display => b"display cwnd 0\n",
+        CommandName::Undisplay => b"undisplay 1\n",
         CommandName::Why => b"why 0\n",
+        CommandName::Stalls => b"stalls\n",
         CommandName::Names => b"names\n",
         CommandName::Help => b"help until\n",
         CommandName::Quit => b"quit\n",

@@ -70,6 +70,7 @@ pub(crate) fn knowing(known: Extent, asked: Typed) -> Typed
         | Typed::Moment(_)
         | Typed::Part(_)
         | Typed::Why(_)
+        | Typed::Stalls
         | Typed::Breaks
         | Typed::Delete(_)
         | Typed::Lines(_)

@@ -1,7 +1,7 @@
 //! Names that stand where those of other parts are asked for.
 ghost use Rattle.std.specs.Prelude.{◌≡◌};
 
-use crate::conditions::{none_gathered, part_awaited, with_word};
+use crate::conditions::{Sort, none_gathered, part_awaited, sort_named, with_word};
 use crate::cut::next_word;
 use crate::grammar::is;
 use crate::name::{CommandName, name_of};
@@ -80,6 +80,21 @@ fn misnamed_break<'a>(naming: &Naming, line: &'a [u8]) -> Option<Misnamed<'a>> {
     }
 }
 
+/// The sort of parts that is asked for behind a word of `display`.
+fn sort_displayed(word: &[u8]) -> Option<PartSort> {
+    match sort_named(word)? {
+        Sort::Flow | Sort::OfFlow(_) | Sort::Phase => Some(PartSort::Flow),
+        Sort::Link | Sort::OfLink(_) => Some(PartSort::Link),
+        _ => None,
+    }
+}
+
+/// The word behind what is to be displayed that names a part of another sort than is asked for there.
+fn misnamed_display<'a>(naming: &Naming, line: &'a [u8]) -> Option<Misnamed<'a>> {
+    let (item, rest) = next_word(line)?;
+    misnamed_first(naming, sort_displayed(item)?, rest)
+}
+
 /// The first word of a line that names a part of another sort than is asked for there.
 pub fn misnamed_in<'a>(naming: &Naming, line: &'a [u8]) -> Option<Misnamed<'a>> {
     let (command, behind) = next_word(line)?;
@@ -87,6 +102,7 @@ pub fn misnamed_in<'a>(naming: &Naming, line: &'a [u8]) -> Option<Misnamed<'a>> 
         Some(CommandName::Why) => misnamed_first(naming, PartSort::Flow, behind),
         Some(CommandName::State) => misnamed_part(naming, behind),
         Some(CommandName::Break) => misnamed_break(naming, behind),
+        Some(CommandName::Display) => misnamed_display(naming, behind),
         _ => None,
     }
 }

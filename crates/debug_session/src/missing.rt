@@ -7,6 +7,7 @@ ghost use Rattle.debugger.specs.Drops.{past_drops};
 use crate::names_reported::append_number;
 use aqm::{DropReason, TakeDrop};
 use debugger::{Debugger, DropsOf, MoveFault, PastDrop};
+use flow_waits::ScenarioNames;
 use std::alloc::AllocError;
 
 // Where something is missing.
@@ -58,36 +59,51 @@ fn reason_text(reason: DropReason) -> &'static [u8]
 }
 
 // Appends a packet that was dropped, why, where, and in which line.
-fn append_drop(out: &mut Vec<u8>, of: DropsOf, dropped: PastDrop) -> Result<(), AllocError>
-    ensures { OnOk result (out.new.items ≡ out.old.items ++ drop_text of dropped) }
+fn append_drop(
+    out: &mut Vec<u8>,
+    names: &ScenarioNames,
+    of: DropsOf,
+    dropped: PastDrop,
+) -> Result<(), AllocError>
+    ensures { OnOk result (out.new.items ≡ out.old.items ++ drop_text names.now of dropped) }
 {
     out.extend_from_slice(kind_of_drops(of))?;
     append_number(out, dropped.number)?;
     out.extend_from_slice(reason_text(dropped.reason))?;
-    append_number(out, u64::from(dropped.link))?;
+    names.links.append_name(dropped.link, out)?;
     out.extend_from_slice(b" in line ")?;
     append_number(out, dropped.line)
 }
 
 // Appends what is missing, and the drops.
-fn append_missing(out: &mut Vec<u8>, of: DropsOf, drops: &[PastDrop]) -> Result<(), AllocError>
-    ensures { OnOk result (out.new.items ≡ out.old.items ++ missing_line of drops.now) }
+fn append_missing(
+    out: &mut Vec<u8>,
+    names: &ScenarioNames,
+    of: DropsOf,
+    drops: &[PastDrop],
+) -> Result<(), AllocError>
+    ensures { OnOk result (out.new.items ≡ out.old.items ++ missing_line names.now of drops.now) }
 {
     append_head(out, of)?;
     for dropped in drops {
-        append_drop(out, of, *dropped)?;
+        append_drop(out, names, of, *dropped)?;
     }
     out.extend_from_slice(b"\n")
 }
 
 // Appends what is missing, with its drops up to the state that is shown.
-fn append_found(out: &mut Vec<u8>, debugger: &mut Debugger, of: DropsOf) -> Result<(), MoveFault>
-    ensures ok { OnOk result (out.new.items ≡ out.old.items ++ missing_line of (past_drops debugger.old.start of debugger.old.shown.position)) }
+fn append_found(
+    out: &mut Vec<u8>,
+    debugger: &mut Debugger,
+    names: &ScenarioNames,
+    of: DropsOf,
+) -> Result<(), MoveFault>
+    ensures ok { OnOk result (out.new.items ≡ out.old.items ++ missing_line names.now of (past_drops debugger.old.start of debugger.old.shown.position)) }
     ensures same { debugger.new ≡ debugger.old }
 {
     let mut drops = Vec::new(*out.allocator());
     debugger.append_drops(of, &mut drops)?;
-    match append_missing(out, of, drops.as_slice()) {
+    match append_missing(out, names, of, drops.as_slice()) {
         Ok(()) => Ok(()),
         Err(_) => Err(MoveFault::NoMemory),
     }
@@ -98,17 +114,18 @@ fn append_found(out: &mut Vec<u8>, debugger: &mut Debugger, of: DropsOf) -> Resu
 pub(crate) fn append_why(
     out: &mut Vec<u8>,
     debugger: &mut Debugger,
+    names: &ScenarioNames,
     flow: u16,
 ) -> Result<(), MoveFault>
-    ensures ok { OnOk result (out.new.items ≡ out.old.items ++ why_text flow debugger.old.start debugger.old.shown) }
+    ensures ok { OnOk result (out.new.items ≡ out.old.items ++ why_text names.now flow debugger.old.start debugger.old.shown) }
     ensures same { debugger.new ≡ debugger.old }
 {
-    match debugger.waits_text(flow, out) {
+    match debugger.waits_text(names, flow, out) {
         Ok(()) => {}
         Err(_) => return Err(MoveFault::NoMemory),
     }
     match debugger.missing(flow) {
         None => Ok(()),
-        Some(of) => append_found(out, debugger, of),
+        Some(of) => append_found(out, debugger, names, of),
     }
 }

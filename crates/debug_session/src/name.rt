@@ -40,6 +40,12 @@ pub enum CommandName {
     Where,
     /// The names of nodes, links and flows are shown.
     Names,
+    /// Something is shown after each move.
+    Display,
+    /// It is shown no more.
+    Undisplay,
+    /// All stalls of the run are shown.
+    Stalls,
 }
 
 /// Whether a word is the beginning of a name, or all of it.
@@ -87,6 +93,12 @@ pub(crate) fn name_of(word: &[u8]) -> Option<CommandName>
         Some(CommandName::Where)
     } else if begins(word, b"names") {
         Some(CommandName::Names)
+    } else if begins(word, b"display") {
+        Some(CommandName::Display)
+    } else if begins(word, b"undisplay") {
+        Some(CommandName::Undisplay)
+    } else if begins(word, b"stalls") {
+        Some(CommandName::Stalls)
     } else {
         None
     }

@@ -1,9 +1,11 @@
 //! The names of nodes, links and flows, as they are told.
 ghost use Rattle.std.specs.Prelude.{◌≡◌, ◌++◌, [], ◌∷◌, decimal, OnOk};
+ghost use Rattle.flow_waits.specs.Names.{named};
 ghost use Rattle.trace_text.specs.Words.{line_of_words};
 ghost use Rattle.debug_session.specs.NamesReported.{names_from, names_text};
 
-use crate::naming::{Naming, PartNames};
+use crate::naming::Naming;
+use flow_waits::PartNames;
 use itoa::write_digits;
 use std::alloc::AllocError;
 
@@ -17,6 +19,19 @@ pub(crate) fn append_number(out: &mut Vec<u8>, n: u64) -> Result<(), AllocError>
     let mut digits = [0; DIGITS];
     let start = write_digits(n, &mut digits, DIGITS);
     out.extend_from_slice(&digits[start..])
+}
+
+/// Appends a word and how the part of a number is called.
+pub(crate) fn append_behind(
+    out: &mut Vec<u8>,
+    word: &[u8],
+    names: &PartNames,
+    number: u16,
+) -> Result<(), AllocError>
+    ensures { OnOk result (out.new.items ≡ out.old.items ++ named word.now names.now number) }
+{
+    out.extend_from_slice(word)?;
+    names.append_name(number, out)
 }
 
 // Appends the line of a part: its sort, its number and its name.
@@ -45,11 +60,11 @@ fn append_sort(out: &mut Vec<u8>, sort: &[u8], names: &PartNames) -> Result<(), 
 pub(crate) fn append_names(out: &mut Vec<u8>, naming: &Naming) -> Result<(), AllocError>
     ensures { OnOk result (out.new.items ≡ out.old.items ++ names_text naming.now) }
 {
-    if naming.nodes.is_empty() {
+    if naming.names.nodes.is_empty() {
         out.extend_from_slice(b"this scenario has no names\n")
     } else {
-        append_sort(out, b"node", &naming.nodes)?;
-        append_sort(out, b"link", &naming.links)?;
-        append_sort(out, b"flow", &naming.flows)
+        append_sort(out, b"node", &naming.names.nodes)?;
+        append_sort(out, b"link", &naming.names.links)?;
+        append_sort(out, b"flow", &naming.names.flows)
     }
 }

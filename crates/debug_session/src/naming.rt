@@ -1,15 +1,15 @@
 //! How the nodes, links and flows of a scenario are called.
-ghost use Rattle.std.specs.Prelude.{◌≡◌, ◌==◌, [], length, slice_index_or, IfOk, map};
+ghost use Rattle.std.specs.Prelude.{◌≡◌, IfOk};
 ghost use Rattle.scenario_asm.specs.Text.{number_among};
 ghost use Rattle.debug_session.specs.Input.{words_in};
 ghost use Rattle.debug_session.specs.Namings.{naming_by, by_numbers, count_of, names_of, sort_of, part_meant, one_part};
 
 use crate::command::Limits;
-use crate::grammar::{is, is_numeral, number_below, one_word};
+use crate::grammar::{is_numeral, number_below, one_word};
 use crate::refusal::Refusal;
+use flow_waits::{PartNames, ScenarioNames};
 use scenario_asm::NamedParts;
 use std::alloc::{AllocError, Global};
-use std::marker::Model;
 
 /// A sort of the parts of a scenario that have names.
 #[derive(Clone, Copy, Debug, PartialEq, Eq)]
@@ -22,90 +22,13 @@ pub enum PartSort {
     Flow,
 }
 
-/// The names of all parts of a sort, in the order of their numbers; none of an image.
-#[derive(Drop)]
-pub struct PartNames {
-    names: Vec<Vec<u8>>,
-}
-
-impl Model for PartNames {
-    ghost use Rattle.std.specs.Prelude.{ℕ, List, map};
-
-    ghost Value = { List (List ℕ) };
-
-    ghost view = { λ n. map (λ name. name.items) n.names.items };
-}
-
-impl PartNames {
-    /// No names.
-    fn none(alloc: Global) -> PartNames
-        ensures { result ≡ [] }
-    {
-        PartNames {
-            names: Vec::new(alloc),
-        }
-    }
-
-    /// These names.
-    fn of(alloc: Global, names: &[&[u8]]) -> Result<PartNames, AllocError>
-        ensures { IfOk result (λ copies. copies ≡ map (λ name. name.now) names.now) }
-    {
-        let mut copies = Vec::new(alloc);
-        for name in names {
-            copies.push(Vec::from_slice(alloc, *name)?)?;
-        }
-        Ok(PartNames { names: copies })
-    }
-
-    /// How many there are.
-    pub(crate) fn len(&self) -> usize
-        ensures { result ≡ length self.now }
-    {
-        self.names.len()
-    }
-
-    /// Whether there is none.
-    pub(crate) fn is_empty(&self) -> bool
-        ensures { result ≡ (length self.now == 0) }
-    {
-        self.names.len() == 0
-    }
-
-    /// The name of the part of a number; no byte where it has none.
-    pub(crate) fn get(&self, number: usize) -> &[u8]
-        ensures { result.now ≡ slice_index_or self.now number [] }
-    {
-        if number < self.names.len() {
-            self.names[number].as_slice()
-        } else {
-            b""
-        }
-    }
-
-    /// The number of the part that has a name.
-    fn number_of(&self, name: &[u8]) -> Option<usize>
-        ensures { result ≡ number_among self.now name.now }
-    {
-        for index in 0..self.names.len() {
-            if is(self.names[index].as_slice(), name) {
-                return Some(index);
-            }
-        }
-        None
-    }
-}
-
 /// How the nodes, links and flows of a scenario are called.
 #[derive(Drop)]
 pub struct Naming {
     /// Their numbers are below these.
     pub limits: Limits,
-    /// The nodes' names.
-    pub nodes: PartNames,
-    /// The links' names.
-    pub links: PartNames,
-    /// The flows' names.
-    pub flows: PartNames,
+    /// Their names.
+    pub names: ScenarioNames,
 }
 
 impl Naming {
@@ -118,9 +41,11 @@ impl Naming {
         let flows = PartNames::of(alloc, &named.flows)?;
         Ok(Naming {
             limits,
-            nodes,
-            links,
-            flows,
+            names: ScenarioNames {
+                nodes,
+                links,
+                flows,
+            },
         })
     }
 
@@ -130,9 +55,11 @@ impl Naming {
     {
         Naming {
             limits,
-            nodes: PartNames::none(alloc),
-            links: PartNames::none(alloc),
-            flows: PartNames::none(alloc),
+            names: ScenarioNames {
+                nodes: PartNames::none(alloc),
+                links: PartNames::none(alloc),
+                flows: PartNames::none(alloc),
+            },
         }
     }
 
@@ -152,9 +79,9 @@ impl Naming {
         ensures { result ≡ number_among (names_of self.now sort) name.now }
     {
         match sort {
-            PartSort::Node => self.nodes.number_of(name),
-            PartSort::Link => self.links.number_of(name),
-            PartSort::Flow => self.flows.number_of(name),
+            PartSort::Node => self.names.nodes.number_of(name),
+            PartSort::Link => self.names.links.number_of(name),
+            PartSort::Flow => self.names.flows.number_of(name),
         }
     }
 
@@ -162,11 +89,11 @@ impl Naming {
     pub(crate) fn sort_named(&self, name: &[u8]) -> Option<PartSort>
         ensures { result ≡ sort_of self.now name.now }
     {
-        if self.nodes.number_of(name).is_some() {
+        if self.names.nodes.number_of(name).is_some() {
             Some(PartSort::Node)
-        } else if self.links.number_of(name).is_some() {
+        } else if self.names.links.number_of(name).is_some() {
             Some(PartSort::Link)
-        } else if self.flows.number_of(name).is_some() {
+        } else if self.names.flows.number_of(name).is_some() {
             Some(PartSort::Flow)
         } else {
             None

@@ -1,12 +1,17 @@
 //! Lines that are typed at a prompt.
-ghost use Rattle.std.specs.Prelude.{◌≡◌, false, MatchOption};
+ghost use Rattle.std.specs.Prelude.{◌≡◌, ◌⊎◌, [], true, false, MatchBool, MatchOption};
 ghost use Rattle.debug_session.specs.Input.{words_in};
 ghost use Rattle.debug_session.specs.Prompt as prompt;
 ghost use Rattle.debug_session.specs.TypedAnswers as answers;
-ghost use Rattle.debug_session.specs.WindowMoves.{IsTypedLeft, report_of};
+ghost use Rattle.debug_session.specs.Answers.{session_state};
+ghost use Rattle.debug_session.specs.Readouts.{ShowsBehind};
+ghost use Rattle.debug_session.specs.Reported.{CanBeUndone};
+ghost use Rattle.debug_session.specs.WindowMoves.{IsTyped, IsTypedLeft, typed_of, report_of};
 
-use crate::command::{Command, Typed};
+use crate::command::{Command, Request, Typed};
 use crate::dialogue::Dialogue;
+use crate::display::DisplayItem;
+use crate::displaying::{obey_display, show_behind};
 use crate::grammar::one_word;
 use crate::memo::{Memo, knowing};
 use crate::name::begins;
@@ -15,8 +20,12 @@ use crate::reading::read_typed;
 use crate::refusal::Refusal;
 use crate::report::Report;
 use crate::said::Said;
+use crate::typed_move::present_time;
 use crate::typed_reply::{obey_typed, onwards, show_past};
 use crate::window_move::{TypedWindowMove, WindowMove, go_typed};
+use debugger::Debugger;
+use flow_waits::ScenarioNames;
+use sim_time::Time;
 use window_engine::{Gate, Hands};
 
 /// The most bytes of a line.
@@ -70,6 +79,7 @@ fn last_after(asked: Typed, last: Option<Typed>) -> Option<Typed>
         Typed::Moment(_) => Some(asked),
         Typed::Part(_) => last,
         Typed::Why(_) => last,
+        Typed::Stalls => last,
         Typed::Breaks => last,
         Typed::Delete(_) => last,
         Typed::Lines(_) => last,
@@ -80,6 +90,13 @@ fn last_after(asked: Typed, last: Option<Typed>) -> Option<Typed>
     }
 }
 
+/// Whether a command is a move.
+fn is_move(asked: Typed) -> bool
+    ensures { result ≡ answers.is_move asked }
+{
+    last_after(asked, None).is_some()
+}
+
 /// What is in mind, once a command was read.
 fn memo_after(asked: Typed, dialogue: &Dialogue) -> Memo
     ensures { result ≡ prompt.memo_after asked (prompt.at_prompt dialogue.now) }
@@ -87,6 +104,88 @@ fn memo_after(asked: Typed, dialogue: &Dialogue) -> Memo
     Memo {
         last: last_after(asked, dialogue.memo.last),
         known: dialogue.memo.known.and(&dialogue.debugger),
+    }
+}
+
+/// Tells displays behind the answer to a move from a moment, where that is not refused.
+#[tactic(none)]
+fn show_displays(
+    debugger: &mut Debugger,
+    names: &ScenarioNames,
+    displays: &[DisplayItem],
+    before: Time,
+    said: &mut Said,
+)
+    ensures { MatchBool (prompt.is_refusal said.old) ((debugger.new ≡ debugger.old) × (said.new ≡ said.old)) (ShowsBehind names.now displays.now before debugger.old debugger.new said.old said.new) }
+{
+    if is_refusal(said.as_slice()) {
+        return;
+    }
+    show_behind(debugger, names, displays, before, said);
+}
+
+/// Makes a move, but for one by windows, which is left, and tells displays behind its answer.
+#[tactic(none)]
+fn move_showing(
+    debugger: &mut Debugger,
+    naming: &Naming,
+    displays: &[DisplayItem],
+    asked: Typed,
+    said: &mut Said,
+) -> Option<TypedWindowMove>
+    requires { answers.is_move asked ≡ true }
+    ensures obeyed { MatchOption result (prompt.ObeysShowing naming.now displays.now debugger.old.start asked (session_state debugger.old) (session_state debugger.new) said.new) (IsTyped asked debugger.old debugger.new) }
+    ensures start { debugger.new.start ≡ debugger.old.start }
+{
+    match present_time(debugger) {
+        Ok(before) => match obey_typed(debugger, naming, asked, said) {
+            None => {
+                show_displays(debugger, &naming.names, displays, before, said);
+                None
+            }
+            Some(left) => Some(left),
+        },
+        Err(_) => {
+            said.say_refused(Refusal::M);
+            None
+        }
+    }
+}
+
+/// Whether nothing is displayed.
+fn is_bare(displays: &[DisplayItem]) -> bool
+    ensures { MatchBool result (displays.now ≡ []) (Unit {0}) }
+{
+    displays.is_empty()
+}
+
+/// Whether displays are told behind what is asked for.
+fn shows(displays: &[DisplayItem], asked: Typed) -> bool
+    ensures { MatchBool result (answers.is_move asked ≡ true) ((displays.now ≡ []) ⊎ (answers.is_move asked ≡ false)) }
+{
+    if is_bare(displays) {
+        false
+    } else {
+        is_move(asked)
+    }
+}
+
+/// Does what is asked for, but for a move by windows, which is left, and tells displays behind a move.
+#[tactic(none)]
+fn obey_showing(
+    debugger: &mut Debugger,
+    naming: &Naming,
+    displays: &[DisplayItem],
+    asked: Typed,
+    said: &mut Said,
+) -> Option<TypedWindowMove>
+    ensures obeyed { MatchOption result (prompt.ObeysShowing naming.now displays.now debugger.old.start asked (session_state debugger.old) (session_state debugger.new) said.new) (IsTyped asked debugger.old debugger.new) }
+    ensures start { debugger.new.start ≡ debugger.old.start }
+{
+    if shows(displays, asked) {
+        move_showing(debugger, naming, displays, asked, said)
+    } else {
+        obey_typed(debugger, naming, asked, said)
     }
 }
 
@@ -104,7 +203,13 @@ fn obey_at_prompt(
 {
     dialogue.memo = memo_after(asked, dialogue);
     let known = dialogue.memo.known;
-    obey_typed(&mut dialogue.debugger, naming, knowing(known, asked), said)
+    obey_showing(
+        &mut dialogue.debugger,
+        naming,
+        dialogue.displays.as_slice(),
+        knowing(known, asked),
+        said,
+    )
 }
 
 /// Does the last move again, where there was one; a move by windows is left.
@@ -119,6 +224,26 @@ fn move_again(dialogue: &mut Dialogue, naming: &Naming, said: &mut Said) -> Opti
             None
         }
         Some(asked) => obey_at_prompt(dialogue, naming, asked, said),
+    }
+}
+
+/// Obeys what a line asks for, but for a move by windows, which is left.
+#[tactic(none)]
+fn obey_request(
+    dialogue: &mut Dialogue,
+    naming: &Naming,
+    asked: Request,
+    said: &mut Said,
+) -> Option<TypedWindowMove>
+    ensures obeys { MatchOption result (prompt.ObeysRequest naming.now dialogue.old.debugger.start asked (prompt.at_prompt dialogue.old) (prompt.at_prompt dialogue.new) said.new) (IsTypedLeft naming.now dialogue.old dialogue.new (prompt.ObeysRequest naming.now dialogue.old.debugger.start asked (prompt.at_prompt dialogue.old))) }
+    ensures start { dialogue.new.debugger.start ≡ dialogue.old.debugger.start }
+{
+    match asked {
+        Request::Command(asked) => obey_at_prompt(dialogue, naming, asked, said),
+        Request::Display(asked) => {
+            obey_display(dialogue, naming, asked, said);
+            None
+        }
     }
 }
 
@@ -139,7 +264,7 @@ fn follow_typed(
             said.say_refused(refusal);
             None
         }
-        Some(Ok(asked)) => obey_at_prompt(dialogue, naming, asked, said),
+        Some(Ok(asked)) => obey_request(dialogue, naming, asked, said),
     }
 }
 
@@ -175,6 +300,62 @@ fn report_of(left: TypedWindowMove, from: u64) -> Report
     }
 }
 
+/// Makes a move by windows, by the debugger's workers.
+#[tactic(none)]
+fn make_left<H: Hands>(
+    hands: &H,
+    gate: &Gate,
+    debugger: &mut Debugger,
+    naming: &Naming,
+    left: TypedWindowMove,
+    said: &mut Said,
+)
+    requires ready { H.ready hands.now }
+    ensures obeyed { answers.ObeysTyped naming.now debugger.old.start (typed_of left) (session_state debugger.old) (session_state debugger.new) said.new }
+    ensures start { debugger.new.start ≡ debugger.old.start }
+    ensures left { CanBeUndone debugger.old debugger.new said.new }
+{
+    let from = debugger.position();
+    let moved = go_typed(hands, gate, debugger, left);
+    let report = report_of(left, from);
+    show_past(debugger, naming, from, report, moved, said);
+}
+
+/// Makes a move by windows, and tells displays behind its answer.
+#[tactic(none)]
+fn make_showing<H: Hands>(
+    hands: &H,
+    gate: &Gate,
+    dialogue: &mut Dialogue,
+    naming: &Naming,
+    left: TypedWindowMove,
+    said: &mut Said,
+)
+    requires ready { H.ready hands.now }
+    ensures obeyed { prompt.ObeysShowing naming.now dialogue.old.displays.items dialogue.old.debugger.start (typed_of left) (session_state dialogue.old.debugger) (session_state dialogue.new.debugger) said.new }
+    ensures kept { (dialogue.new.memo ≡ dialogue.old.memo) × (dialogue.new.displays.items ≡ dialogue.old.displays.items) }
+    ensures start { dialogue.new.debugger.start ≡ dialogue.old.debugger.start }
+{
+    if is_bare(dialogue.displays.as_slice()) {
+        make_left(hands, gate, &mut dialogue.debugger, naming, left, said);
+        return;
+    }
+    match present_time(&mut dialogue.debugger) {
+        Ok(before) => {
+            make_left(hands, gate, &mut dialogue.debugger, naming, left, said);
+            let displays = dialogue.displays.as_slice();
+            show_displays(
+                &mut dialogue.debugger,
+                &naming.names,
+                displays,
+                before,
+                said,
+            );
+        }
+        Err(_) => said.say_refused(Refusal::M),
+    }
+}
+
 /// Answers a line that doesn't end the session: one that is too long is refused, and what any other
 /// says is followed. The moves `run` and `until` go by the debugger's workers.
 #[tactic(none)]
@@ -192,11 +373,6 @@ pub fn answer_typed<H: Hands>(
 {
     match begin_typed(dialogue, naming, line, said) {
         None => {}
-        Some(left) => {
-            let from = dialogue.debugger.position();
-            let moved = go_typed(hands, gate, &mut dialogue.debugger, left);
-            let report = report_of(left, from);
-            show_past(&mut dialogue.debugger, from, report, moved, said);
-        }
+        Some(left) => make_showing(hands, gate, dialogue, naming, left, said),
     }
 }

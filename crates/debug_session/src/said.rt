@@ -5,23 +5,33 @@ ghost use Rattle.trace_text.specs.DumpParts.{part_bytes};
 ghost use Rattle.debug_session.specs.Missing.{why_text};
 ghost use Rattle.debugger.specs.Moves.{HasPosition};
 ghost use Rattle.debug_session.specs.Answers.{session_state, refusal_line, break_line, clear_line};
+ghost use Rattle.debugger.specs.Reads.{read_left_in};
+ghost use Rattle.debug_session.specs.Displays.{display_line, display_listing, displays_from, undisplayed_line};
+ghost use Rattle.debug_session.specs.Readouts.{now_of, was_of, present, TellsBehind};
 ghost use Rattle.debug_session.specs.Help.{help_text, help_on};
 ghost use Rattle.debug_session.specs.NamesReported.{names_text};
 ghost use Rattle.debug_session.specs.Numbered.{set_line, deleted_line, listing};
+ghost use Rattle.debug_session.specs.StallLists.{TellsStalls};
 ghost use Rattle.debug_session.specs.TypedMoves.{TellsPast, where_text, last_lines};
 
+use crate::display::DisplayItem;
+use crate::display_text::{append_display, append_displays, append_undisplayed};
 use crate::help::append_help;
 use crate::memo::Extent;
 use crate::missing::append_why;
 use crate::names_reported::append_names;
 use crate::naming::Naming;
-use crate::numbered::{append_listing, put_numbered};
+use crate::numbered::{append_listing, append_numbered};
+use crate::readout::Readout;
 use crate::refusal::Refusal;
 use crate::report::Report;
+use crate::stall_list::append_stalls;
 use crate::topic::{Topic, append_help_on};
-use crate::typed_move::{append_last, append_move, append_whereabouts};
+use crate::typed_move::{append_last, append_move, append_whereabouts, present_time};
 use debugger::{Break, Debugger, MoveFault};
+use flow_waits::{PartNames, ScenarioNames};
 use itoa::write_digits;
+use sim_time::Time;
 use std::alloc::{AllocError, Global};
 use std::marker::Model;
 use trace_text::DumpPart;
@@ -152,28 +162,36 @@ impl Said {
     }
 
     /// Answers a breakpoint with its number.
-    pub(crate) fn say_break(&mut self, number: u64, b: Break)
-        ensures { self.new ≡ set_line number b }
+    pub(crate) fn say_break(
+        &mut self,
+        naming: &Naming,
+        number: u64,
+        b: Break,
+    ) -> Result<(), AllocError>
+        ensures { OnOk result (self.new ≡ set_line naming.now number b) }
     {
-        let mut line = [0; ROOM];
-        self.start = put_numbered(&mut line, b"break ", number, b, None);
-        self.short = line;
-        self.is_short = true;
+        self.dump.clear();
+        self.is_short = false;
+        append_numbered(&mut self.dump, naming, b"break ", number, b, None)
     }
 
     /// Answers that a breakpoint is taken away, with the number that it had.
-    pub(crate) fn say_deleted(&mut self, number: u64, b: Break)
-        ensures { self.new ≡ deleted_line number b }
+    pub(crate) fn say_deleted(
+        &mut self,
+        naming: &Naming,
+        number: u64,
+        b: Break,
+    ) -> Result<(), AllocError>
+        ensures { OnOk result (self.new ≡ deleted_line naming.now number b) }
     {
-        let mut line = [0; ROOM];
-        self.start = put_numbered(&mut line, b"deleted ", number, b, None);
-        self.short = line;
-        self.is_short = true;
+        self.dump.clear();
+        self.is_short = false;
+        append_numbered(&mut self.dump, naming, b"deleted ", number, b, None)
     }
 
-    /// Answers a line for each breakpoint. Where memory is refused, the answer is empty.
-    pub(crate) fn say_breaks(&mut self, breaks: &[Break]) -> Result<(), AllocError>
-        ensures ok { OnOk result (self.new ≡ listing breaks.now) }
+    /// Answers a line for each breakpoint. On a fault the answer is a part of that.
+    pub(crate) fn say_breaks(&mut self, naming: &Naming, breaks: &[Break]) -> Result<(), AllocError>
+        ensures ok { OnOk result (self.new ≡ listing naming.now breaks.now) }
         ensures err { OnErr result (0 < length breaks.now) }
     {
         if breaks.is_empty() {
@@ -182,7 +200,7 @@ impl Said {
         }
         self.dump.clear();
         self.is_short = false;
-        append_listing(&mut self.dump, breaks)
+        append_listing(&mut self.dump, naming, breaks)
     }
 
     /// Answers the names of nodes, links and flows with their numbers.
@@ -216,16 +234,17 @@ impl Said {
     pub(crate) fn say_move(
         &mut self,
         debugger: &mut Debugger,
+        naming: &Naming,
         from: u64,
         report: Report,
     ) -> Result<(), MoveFault>
         requires { HasPosition debugger.old.start from }
-        ensures ok { OnOk result (TellsPast debugger.old.start from report (session_state debugger.old) self.new) }
+        ensures ok { OnOk result (TellsPast naming.now debugger.old.start from report (session_state debugger.old) self.new) }
         ensures same { debugger.new ≡ debugger.old }
     {
         self.dump.clear();
         self.is_short = false;
-        append_move(&mut self.dump, debugger, from, report)
+        append_move(&mut self.dump, debugger, naming, from, report)
     }
 
     /// Answers where a session stands, and how far the run is known to go. On a fault the answer is a
@@ -233,6 +252,7 @@ impl Said {
     pub(crate) fn say_where(
         &mut self,
         debugger: &mut Debugger,
+        naming: &Naming,
         known: Extent,
     ) -> Result<(), MoveFault>
         ensures ok { OnOk result (self.new ≡ where_text debugger.old.start debugger.old.shown known) }
@@ -240,7 +260,7 @@ impl Said {
     {
         self.dump.clear();
         self.is_short = false;
-        append_whereabouts(&mut self.dump, debugger, known)
+        append_whereabouts(&mut self.dump, debugger, naming, known)
     }
 
     /// Answers the last so many lines of the trace. On a fault the answer is a part of that.
@@ -273,14 +293,139 @@ impl Said {
         debugger.part_text(part, &mut self.dump)
     }
 
-    /// Answers what a flow waits for in the state that is shown, and what became of the packets that are missing. On a
-    /// fault the answer is a part of that.
-    pub(crate) fn say_why(&mut self, debugger: &mut Debugger, flow: u16) -> Result<(), MoveFault>
-        ensures ok { OnOk result (self.new ≡ why_text flow debugger.old.start debugger.old.shown) }
+    /// Answers a line for each display. On a fault the answer is a part of that.
+    pub(crate) fn say_displays(
+        &mut self,
+        names: &ScenarioNames,
+        readout: &Readout<'_>,
+        displays: &[DisplayItem],
+    ) -> Result<(), AllocError>
+        requires { was_of readout.now ≡ now_of readout.now }
+        ensures { OnOk result (self.new ≡ display_listing names.now (now_of readout.now) displays.now) }
+    {
+        if displays.is_empty() {
+            self.say(b"no display\n");
+            return Ok(());
+        }
+        self.dump.clear();
+        self.is_short = false;
+        append_displays(&mut self.dump, names, readout, displays)
+    }
+
+    /// Answers a display of a number. On a fault the answer is a part of that.
+    pub(crate) fn say_display(
+        &mut self,
+        names: &ScenarioNames,
+        readout: &Readout<'_>,
+        number: u64,
+        item: DisplayItem,
+    ) -> Result<(), AllocError>
+        ensures { OnOk result (self.new ≡ display_line names.now (was_of readout.now) (now_of readout.now) number item) }
+    {
+        self.dump.clear();
+        self.is_short = false;
+        append_display(&mut self.dump, names, readout, number, item)
+    }
+
+    /// Answers that a display is taken away. On a fault the answer is a part of that.
+    pub(crate) fn say_undisplayed(
+        &mut self,
+        names: &ScenarioNames,
+        number: u64,
+        item: DisplayItem,
+    ) -> Result<(), AllocError>
+        ensures { OnOk result (self.new ≡ undisplayed_line names.now number item) }
+    {
+        self.dump.clear();
+        self.is_short = false;
+        append_undisplayed(&mut self.dump, names, number, item)
+    }
+
+    // Answers a line for each display behind what is answered already.
+    fn say_more(
+        &mut self,
+        names: &ScenarioNames,
+        readout: &Readout<'_>,
+        displays: &[DisplayItem],
+    ) -> Result<(), AllocError>
+        ensures { OnOk result (self.new ≡ self.old ++ displays_from names.now (was_of readout.now) (now_of readout.now) 1 displays.now) }
+    {
+        if self.is_short {
+            let short = self.short;
+            let start = self.start;
+            self.dump.clear();
+            self.dump.extend_from_slice(&short[start..])?;
+            self.is_short = false;
+        }
+        append_displays(&mut self.dump, names, readout, displays)
+    }
+
+    // The same of the state that a debugger shows, and the one that its last move left.
+    fn say_compared(
+        &mut self,
+        debugger: &Debugger,
+        names: &ScenarioNames,
+        displays: &[DisplayItem],
+        before: Time,
+        time: Time,
+    ) -> Result<(), AllocError>
+        ensures { OnOk result (self.new ≡ self.old ++ displays_from names.now (λ what. read_left_in before what debugger.now.left) (present debugger.now time) 1 displays.now) }
+    {
+        let readout = Readout {
+            debugger,
+            left: Some(before),
+            time,
+        };
+        self.say_more(names, &readout, displays)
+    }
+
+    /// Answers the lines of displays behind the answer to a move from a moment. On a fault the answer is a part of that.
+    pub(crate) fn say_behind(
+        &mut self,
+        debugger: &mut Debugger,
+        names: &ScenarioNames,
+        displays: &[DisplayItem],
+        before: Time,
+    ) -> Result<(), MoveFault>
+        ensures ok { OnOk result (TellsBehind names.now displays.now before debugger.old self.old self.new) }
+        ensures same { debugger.new ≡ debugger.old }
+    {
+        match present_time(debugger) {
+            Ok(time) => match self.say_compared(debugger, names, displays, before, time) {
+                Ok(()) => Ok(()),
+                Err(_) => Err(MoveFault::NoMemory),
+            },
+            Err(fault) => Err(fault),
+        }
+    }
+
+    /// Answers all stalls of the run. On a fault the answer is a part of that.
+    pub(crate) fn say_stalls(
+        &mut self,
+        debugger: &mut Debugger,
+        flows: &PartNames,
+    ) -> Result<(), MoveFault>
+        ensures ok { OnOk result (TellsStalls flows.now debugger.old.start self.new) }
         ensures same { debugger.new ≡ debugger.old }
     {
         self.dump.clear();
         self.is_short = false;
-        append_why(&mut self.dump, debugger, flow)
+        append_stalls(&mut self.dump, debugger, flows)
+    }
+
+    /// Answers what a flow waits for in the state that is shown, and what became of the packets that are missing. On a
+    /// fault the answer is a part of that.
+    pub(crate) fn say_why(
+        &mut self,
+        debugger: &mut Debugger,
+        names: &ScenarioNames,
+        flow: u16,
+    ) -> Result<(), MoveFault>
+        ensures ok { OnOk result (self.new ≡ why_text names.now flow debugger.old.start debugger.old.shown) }
+        ensures same { debugger.new ≡ debugger.old }
+    {
+        self.dump.clear();
+        self.is_short = false;
+        append_why(&mut self.dump, debugger, names, flow)
     }
 }

@@ -3,6 +3,7 @@ ghost use Rattle.std.specs.Prelude.{◌≡◌, ◌++◌, OnOk};
 ghost use Rattle.debug_session.specs.Help.{help_on};
 ghost use Rattle.debug_session.specs.Topics.{other_topic, topic_of};
 
+use crate::conditions::value_sort_named;
 use crate::help::append_help_on_command;
 use crate::name::{CommandName, begins, name_of};
 use std::alloc::AllocError;
@@ -43,14 +44,20 @@ fn other_topic(word: &[u8]) -> Option<Topic>
     }
 }
 
-/// The topic that a word begins: a command comes first, but for `names`.
+/// The topic that a word begins, or that the name of a value is about: a command comes first, but for `names` and `stalls`.
 pub(crate) fn topic_of(word: &[u8]) -> Option<Topic>
     ensures { result ≡ topic_of word.now }
 {
+    if value_sort_named(word).is_some() {
+        return Some(Topic::Values);
+    }
     match name_of(word) {
         None => other_topic(word),
         Some(CommandName::Names) => {
             other_topic(word).or(Some(Topic::Command(CommandName::Names)))
+        }
+        Some(CommandName::Stalls) => {
+            other_topic(word).or(Some(Topic::Command(CommandName::Stalls)))
         }
         Some(name) => Some(Topic::Command(name)),
     }
@@ -65,8 +72,8 @@ pub(crate) fn append_help_on(out: &mut Vec<u8>, topic: Topic) -> Result<(), Allo
         Topic::Numbers => out.extend_from_slice(
             b"A node, a link or a flow goes by its name in the text, or by its number. Each sort is counted from 0, in the
 order of its lines there. So the first flow line is flow 0, the second one flow 1. An image has no names.
-Lines of the trace and answers have the numbers, and names lists both. In the shell, tcpsim dis FILE names
-all by their numbers: n0, l0, f0. Bytes of a flow are counted from 0 too, breakpoints from 1.
+Lines of the trace and states have the numbers, other answers the names. names lists both. In the shell, tcpsim dis FILE
+names all by their numbers: n0, l0, f0. Bytes of a flow are counted from 0 too, breakpoints and displays from 1.
 names
 ",
         ),
@@ -103,8 +110,8 @@ break kind rto
 waits in a queue or is on its way over a link. So only an alarm goes on with it: its retransmission timer,
 or a delayed acknowledgement.
 break stall stops after an event that leaves a flow so, break stall F after one that leaves flow F so, once
-for each stall. lines 1 shows the event, which has the number of that flow, or drops a packet of it. why F
-tells which alarm is due, and when; break drop and reverse find what was dropped before.
+for each stall; stalls lists them all. lines 1 shows the event, which has the number of that flow, or drops a packet of
+it. why F tells which alarm is due, and when, and what was dropped.
 break stall
 ",
         ),

@@ -1,18 +1,22 @@
 //! What a move that is typed answers.
-ghost use Rattle.std.specs.Prelude.{◌≡◌, ◌≢◌, ◌+◌, ◌≤◌, ◌++◌, None, Some, decimal, drop, length, OnOk};
+ghost use Rattle.std.specs.Prelude.{◌≡◌, ◌≢◌, ◌+◌, ◌≤◌, ◌++◌, None, Some, decimal, drop, length, IfOk, OnOk};
 ghost use Rattle.table_run.specs.State.{due};
 ghost use Rattle.std.specs.List.{concat};
 ghost use Rattle.debugger.specs.Moves.{HasPosition};
 ghost use Rattle.debugger.specs.Passed.{texts_between};
 ghost use Rattle.debug_session.specs.Answers.{session_state};
-ghost use Rattle.debug_session.specs.Reported.{passed_count, shown_stretch, reported_hit, AddsPlace, AddsMove};
-ghost use Rattle.debug_session.specs.TypedMoves.{lowest, passed, more_line, last_ten, idle_line, passed_lines, end_words, time_words, place_line, hit_line, next_text, known_line, where_text, last_lines};
+ghost use Rattle.debug_session.specs.Reported.{passed_count, shown_stretch, reported_hit, reported_origin, AddsPlace, AddsMove};
+ghost use Rattle.debug_session.specs.TypedMoves.{present_time, named_origin, lowest, passed, more_line, last_ten, idle_line, passed_lines, end_words, time_words, place_line, hit_line, next_text, known_line, where_text, last_lines};
 
 use crate::memo::Extent;
-use crate::numbered::put_numbered;
+use crate::naming::Naming;
+use crate::numbered::{append_numbered, append_part};
 use crate::report::Report;
 use crate::said::{ROOM, put_count, put_text};
 use debugger::{Debugger, Hit, LastEvent, LineOrder, MoveFault, Stretch};
+use flow_waits::ScenarioNames;
+use sim_time::Time;
+use std::alloc::AllocError;
 
 /// The most lines that a move shows.
 const MOST_SHOWN: u64 = 10;
@@ -208,14 +212,12 @@ fn append_place(out: &mut Vec<u8>, position: u64, time: u64, at_end: bool) -> Re
 }
 
 // Appends the line of a breakpoint, where one matches.
-fn append_hit(out: &mut Vec<u8>, hit: Option<Hit>) -> Result<(), MoveFault>
-    ensures { OnOk result (out.new.items ≡ out.old.items ++ hit_line hit) }
+fn append_hit(out: &mut Vec<u8>, naming: &Naming, hit: Option<Hit>) -> Result<(), MoveFault>
+    ensures { OnOk result (out.new.items ≡ out.old.items ++ hit_line naming.now hit) }
 {
     match hit {
         Some(hit) => {
-            let mut line = [0; ROOM];
-            let start = put_numbered(&mut line, b"break ", hit.number, hit.breakpoint, hit.was);
-            out.extend_from_slice(&line[start..])?;
+            append_numbered(out, naming, b"break ", hit.number, hit.breakpoint, hit.was)?;
             Ok(())
         }
         None => Ok(()),
@@ -230,24 +232,64 @@ fn reported_hit(bound: u64, position: u64, hit: Option<Hit>) -> Option<Hit>
     if bound < position { hit } else { None }
 }
 
-/// Appends a position with the event before it, and past a bound the breakpoint that matches there.
+// Appends the node of an event, and its flow, or the link that becomes free.
+fn append_origin(
+    out: &mut Vec<u8>,
+    names: &ScenarioNames,
+    event: LastEvent,
+) -> Result<(), AllocError>
+    ensures { OnOk result (out.new.items ≡ out.old.items ++ named_origin names.now event.node event.flow event.link) }
+{
+    out.extend_from_slice(b"of node ")?;
+    names.nodes.append_name(event.node, out)?;
+    append_part(out, b", flow ", &names.flows, event.flow)?;
+    append_part(out, b", link ", &names.links, event.link)?;
+    out.extend_from_slice(b"\n")
+}
+
+// Appends where the last event comes from, past a bound and where the parts have names.
+fn append_named_origin(
+    out: &mut Vec<u8>,
+    naming: &Naming,
+    bound: u64,
+    position: u64,
+    event: LastEvent,
+) -> Result<(), AllocError>
+    ensures { OnOk result (out.new.items ≡ out.old.items ++ reported_origin naming.now bound position event) }
+{
+    if bound < position && !naming.names.nodes.is_empty() {
+        append_origin(out, &naming.names, event)
+    } else {
+        Ok(())
+    }
+}
+
+/// Appends a position with the event before it, and past a bound where that event comes from and the breakpoint that
+/// matches there.
 fn append_event(
     out: &mut Vec<u8>,
+    naming: &Naming,
     bound: u64,
     position: u64,
     event: LastEvent,
     at_end: bool,
 ) -> Result<(), MoveFault>
-    ensures { OnOk result (out.new.items ≡ out.old.items ++ (place_line position event.time at_end ++ hit_line (reported_hit bound position event.hit))) }
+    ensures { OnOk result (out.new.items ≡ out.old.items ++ (reported_origin naming.now bound position event ++ (place_line position event.time at_end ++ hit_line naming.now (reported_hit bound position event.hit)))) }
 {
+    append_named_origin(out, naming, bound, position, event)?;
     append_place(out, position, event.time, at_end)?;
-    append_hit(out, reported_hit(bound, position, event.hit))
+    append_hit(out, naming, reported_hit(bound, position, event.hit))
 }
 
 /// Appends where a session stands, and past a bound the breakpoint that matches there.
 #[tactic(none)]
-fn append_where(out: &mut Vec<u8>, debugger: &mut Debugger, bound: u64) -> Result<(), MoveFault>
-    ensures ok { OnOk result (AddsPlace debugger.old.start bound (session_state debugger.old) out.old.items out.new.items) }
+fn append_where(
+    out: &mut Vec<u8>,
+    debugger: &mut Debugger,
+    naming: &Naming,
+    bound: u64,
+) -> Result<(), MoveFault>
+    ensures ok { OnOk result (AddsPlace naming.now debugger.old.start bound (session_state debugger.old) out.old.items out.new.items) }
     ensures same { debugger.new ≡ debugger.old }
 {
     let at_end = debugger.is_at_end();
@@ -256,7 +298,23 @@ fn append_where(out: &mut Vec<u8>, debugger: &mut Debugger, bound: u64) -> Resul
         append_place(out, 0, 0, at_end)
     } else {
         match debugger.last_event() {
-            Ok(event) => append_event(out, bound, position, event, at_end),
+            Ok(event) => append_event(out, naming, bound, position, event, at_end),
+            Err(fault) => Err(fault),
+        }
+    }
+}
+
+/// The moment of the last event; before the first event it is 0.
+#[tactic(none)]
+pub(crate) fn present_time(debugger: &mut Debugger) -> Result<Time, MoveFault>
+    ensures ok { IfOk result (λ time. time ≡ present_time debugger.old.start debugger.old.shown.position) }
+    ensures same { debugger.new ≡ debugger.old }
+{
+    if debugger.position() == 0 {
+        Ok(0)
+    } else {
+        match debugger.last_event() {
+            Ok(event) => Ok(event.time),
             Err(fault) => Err(fault),
         }
     }
@@ -267,15 +325,16 @@ fn append_where(out: &mut Vec<u8>, debugger: &mut Debugger, bound: u64) -> Resul
 pub(crate) fn append_move(
     out: &mut Vec<u8>,
     debugger: &mut Debugger,
+    naming: &Naming,
     from: u64,
     report: Report,
 ) -> Result<(), MoveFault>
     requires { HasPosition debugger.old.start from }
-    ensures ok { OnOk result (AddsMove debugger.old.start from report (session_state debugger.old) out.old.items out.new.items) }
+    ensures ok { OnOk result (AddsMove naming.now debugger.old.start from report (session_state debugger.old) out.old.items out.new.items) }
     ensures same { debugger.new ≡ debugger.old }
 {
     match append_lines(out, debugger, from, report) {
-        Ok(()) => append_where(out, debugger, report.bound),
+        Ok(()) => append_where(out, debugger, naming, report.bound),
         Err(fault) => Err(fault),
     }
 }
@@ -352,13 +411,14 @@ fn append_ahead(out: &mut Vec<u8>, debugger: &mut Debugger, known: Extent) -> Re
 pub(crate) fn append_whereabouts(
     out: &mut Vec<u8>,
     debugger: &mut Debugger,
+    naming: &Naming,
     known: Extent,
 ) -> Result<(), MoveFault>
     ensures ok { OnOk result (out.new.items ≡ out.old.items ++ where_text debugger.old.start debugger.old.shown known) }
     ensures same { debugger.new ≡ debugger.old }
 {
     let here = debugger.position();
-    match append_where(out, debugger, here) {
+    match append_where(out, debugger, naming, here) {
         Ok(()) => append_ahead(out, debugger, known),
         Err(fault) => Err(fault),
     }

@@ -157,8 +157,3 @@ pub groups_no_failure : (groups : List ℕ) (parts : ScenarioParts) (fault : Ses
 groups_no_failure groups parts NoMemory lacks = no_memory_no_failure
 groups_no_failure groups parts Groups lacks = (λ n. refl, λ e. cc)
 groups_no_failure groups parts _ lacks = absurd lacks
-
--- nor is any end of the commands a reader's failure
-pub commands_no_read : (fault : CommandsFault) → ◌≡◌ {A = SessionEnded} (Err (of_commands fault)) (Err ReadFailed) → ⊥
-commands_no_read commands_NoMemory e = cc
-commands_no_read OutputFailed e = cc

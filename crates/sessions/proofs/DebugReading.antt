@@ -15,7 +15,6 @@ use Rattle.sessions.specs.Streams.{Streams, IsInputOf}
 use Rattle.sessions.proofs.DebugEnds.{unread_input}
 use Rattle.sessions.proofs.Prompting.{none_typed}
 use Rattle.sessions.proofs.Reading.{hindered_text, reads_stay, writes_stay, unread}
-use Rattle.window_engine.specs.Failures.{counted}
 use Rattle.window_text.proofs.Bytes.{appends_nothing}
 
 -- the input was not read
@@ -41,11 +40,6 @@ pub task_unread : (task : Task) (known : Option (List ℕ)) (fault : SessionFaul
     → after.write_failures ≡ before.write_failures → after.read_failures ≡ reads_after {T = Unit {0}} (Err fault) before.read_failures → IsTaskOn task known (Err fault) before after
 task_unread (Scenario subcommand) known fault before after of_input written writes reads = unread subcommand known fault before after of_input written writes reads
 task_unread (Debug sharing) known fault before after of_input written writes reads = debug_unread sharing.groups known fault before after of_input written writes reads
-
--- the file could not be opened
-pub task_unopened : (task : Task) (known : Option (List ℕ)) (before after : Streams) → after.written ≡ before.written → after.write_failures ≡ before.write_failures → after.read_failures ≡ counted before.read_failures
-    → IsTaskOn task known (Err ReadFailed) before after
-task_unopened task known before after written writes reads = task_unread task known ReadFailed before after (hindered_text known ReadFailed (λ text. tt)) written writes reads
 
 -- memory was refused before anything was read
 pub task_never_begun : (task : Task) (known : Option (List ℕ)) (before after : Streams) → after ≡ before → IsTaskOn task known (Err NoMemory) before after

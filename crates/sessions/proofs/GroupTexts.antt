@@ -16,8 +16,6 @@ use Rattle.scenario_asm.proofs.Decimals.{decimal_digits, decimal_numeral, number
 use Rattle.debug_session.specs.Grammar.{number_below}
 use Rattle.sessions.specs.Groups.{groups_text, Lists, MeansGroups, Names}
 
--- what a numeral is
-
 numbers : IsNumeralModel (λ ds. list_all is_digit ds ≡ true) number
 numbers = numerals_by_value (λ ds. list_all is_digit ds ≡ true) (search rules)
 
@@ -43,8 +41,6 @@ numeral_first (d ∷ e ∷ ds) is first =
 numeral_decimal : (ds : List ℕ) → is_numeral ds ≡ true → number ds < 64 → decimal (number ds) ≡ ds
 numeral_decimal ds is few = decimal-digits_value numbers ds (numeral_digits ds is) (numeral_some ds is) (numeral_first ds is) (omega arith)
 
--- a word and its number
-
 found : (b : Bool) (m n : ℕ) → cond b (Some m) None ≡ Some n → (b ≡ true) × (m ≡ n)
 found true m n e = (refl, cc)
 found false m n e = absurd (cc)
@@ -61,8 +57,6 @@ word_read n few =
     let is : is_numeral (decimal n) ≡ true = decimal_numeral n (omega arith) in
     let same : number (decimal n) ≡ n = number_decimal n (omega arith) in
     simp (is, same, few)
-
--- words that name groups
 
 pub names_same : (xs ys : List ℕ) → list_all (λ group. nat_lt group 64) xs ≡ true → list_all (λ group. nat_lt group 64) ys ≡ true → map decimal xs ≡ map decimal ys → xs ≡ ys
 names_same [] [] few less same = refl
@@ -87,9 +81,6 @@ names_more words groups i n word names under is read =
       below = list_all-append (λ group. nat_lt group 64) groups (n ∷ []) ∙ and_from _ _ names.below (and_from (nat_lt n 64) true one.1 refl);
     }
 
-pub names_none : Names [] []
-names_none = record { spelt = refl; below = refl }
-
 group_at : (entries : List ℕ) (i : ℕ) → list_all (λ group. nat_lt group 64) entries ≡ true → i < length entries → nat_lt (get_or entries i 0) 64 ≡ true
 group_at [] i few lt = absurd (omega arith)
 group_at (x ∷ xs) zero few lt = (and_parts (nat_lt x 64) (list_all (λ group. nat_lt group 64) xs) few).0
@@ -104,8 +95,6 @@ no_names words entries i word names under is unread =
     let read : number_below 64 (decimal (get_or entries i 0)) ≡ Some (get_or entries i 0) = word_read (get_or entries i 0) (group_at entries i names.below at) in
     let some : None ≡ Some (get_or entries i 0) = unread ∙ ap (number_below 64) spelt ∙ read in
     cc
-
--- a text of numbers of groups, cut at its commas
 
 digit_no_comma : (b : ℕ) → is_digit b ≡ true → b ≡ 44 → ⊥
 digit_no_comma b is same = grind (arith, nat_tests)
@@ -167,8 +156,6 @@ each_no_list nodes entries lists = no_list (codes "each") nodes entries refl ref
 pub given : {X : Type 0} (P : X → Type 0) (o : Option X) (x : X) → o ≡ Some x → IfSome o P → P x
 given P o x is said = subst (λ p. IfSome p P) is said
 
--- what is found in a text whose words name groups
-
 abbrev of_nodes : ℕ → List ℕ → Option (List ℕ)
 of_nodes nodes groups = if length groups == nodes && is_partition groups then Some groups else None
 
@@ -194,8 +181,6 @@ found_only text nodes words groups entries result cut names is lists =
 -- where a word is no group's number, the text lists none
 pub found_none : (text : List ℕ) (nodes : ℕ) (words : List (List ℕ)) (entries : List ℕ) → words ≡ slice_split (λ b. b == 44) text → (Names words entries → false ≡ true) → Lists text nodes entries → ⊥
 found_none text nodes words entries cut none lists = false≢true (none (subst (λ ws. Names ws entries) (sym cut) (listed_words text nodes entries lists)))
-
--- the words for all nodes mean one partition
 
 pub one_only : (text : List ℕ) (nodes : ℕ) (groups entries : List ℕ) → text ≡ codes "one" → groups ≡ replicate nodes 0 → MeansGroups text nodes entries → Some groups ≡ Some entries
 one_only text nodes groups entries is all (inl (word, same)) = ap (λ es. Some es) (all ∙ sym same)

@@ -1,9 +1,10 @@
 -- How a session at a prompt ends, over a scenario, an input and a file.
-use Rattle.std.proofs.Common.{◌≡◌, ◌∙◌, ◌⊎◌, inl, inr, ℕ, Bool, true, false, MatchBool, List, [], Option, None, Result, Ok, Err, IfOk, IfErr, refl, sym, ap, subst}
+use Rattle.std.proofs.Common.{◌≡◌, ◌⊎◌, inl, inr, ℕ, Bool, true, false, MatchBool, List, [], Option, Result, Ok, Err, IfOk, IfErr, refl, sym, subst}
 use Rattle.scenario_image.specs.declared.parts.ScenarioParts.{ScenarioParts}
 use Rattle.table_run.specs.State.{initial}
 use Rattle.debugger.specs.Debugging.{Debugging, debugging_opened}
 use Rattle.debug_session.specs.declared.dialogue.Dialogue.{Dialogue}
+use Rattle.debug_session.specs.declared.display.DisplayItem.{DisplayItem}
 use Rattle.debug_session.specs.declared.memo.Memo.{Memo}
 use Rattle.debug_session.specs.declared.naming.Naming.{Naming}
 use Rattle.debug_session.specs.Answers.{session_state}
@@ -29,14 +30,11 @@ pub over_scenario : (naming : Naming) (p : ScenarioParts) (ended : SessionEnded)
 over_scenario naming p (Err NoMemory) before after session = absurd session.ending
 over_scenario naming p _ before after session = session
 
-pub typed_over : (p : ScenarioParts) (d : Dialogue) (naming : Naming) (ended : SessionEnded) (before after : Streams) → d.debugger ≡ debugging_opened (initial p) → d.memo ≡ no_memo
+pub typed_over : (p : ScenarioParts) (d : Dialogue) (naming : Naming) (ended : SessionEnded) (before after : Streams) → d.debugger ≡ debugging_opened (initial p) → d.memo ≡ no_memo → d.displays.items ≡ []
     → IsTypedSession naming d.debugger.start (at_prompt d) ended before after → IsOverScenario naming p ended before after
-typed_over p d naming ended before after is none session =
-    let unasked = subst (λ (m : Memo). IsTypedSession naming d.debugger.start (record { session_state = session_state d.debugger; memo = m }) ended before after) none session in
+typed_over p d naming ended before after is none bare session =
+    let unasked = subst (λ (m : Memo). IsTypedSession naming d.debugger.start (record { session_state = session_state d.debugger; memo = m; displays = [] }) ended before after) none (subst (λ (items : List DisplayItem). IsTypedSession naming d.debugger.start (record { session_state = session_state d.debugger; memo = d.memo; displays = items }) ended before after) bare session) in
     over_scenario naming p ended before after (subst (λ (e : Debugging). IsTypedSession naming e.start (unmoved (session_state e)) ended before after) is unasked)
-
-pub no_memory_over : (naming : Naming) (p : ScenarioParts) (ended : SessionEnded) (streams : Streams) → ended ≡ Err NoMemory → IsOverScenario naming p ended streams streams
-no_memory_over naming p ended streams is = subst (λ (e : SessionEnded). IsOverScenario naming p e streams streams) (sym is) (unbegun streams)
 
 -- the input has a scenario, over which a session ended so that knows the input's names
 pub input_over : (groups input : List ℕ) (p : ScenarioParts) (naming : Naming) (ended : SessionEnded) (before after : Streams) → IsWithin input → InputHasScenario input p → HasGroups groups p
@@ -94,9 +92,6 @@ pub file_reads : (T : Type 0) (fault : SessionFault) (n : ℕ) → line_reads_af
 file_reads T ReadFailed n = refl
 file_reads T (CannotRead name) n = refl
 file_reads T _ n = refl
-
-pub file_counts : {T : Type 0} (result : Result T SessionFault) (fault : SessionFault) (n m : ℕ) → m ≡ line_reads_after result n → result ≡ Err fault → m ≡ line_reads_after {T = Unit {0}} (Err fault) n
-file_counts {T} result fault n m counts is = counts ∙ ap (λ (r : Result T SessionFault). line_reads_after r n) is ∙ file_reads T fault n
 
 pub file_writes : (file input : List ℕ) (fault : SessionFault) (n : ℕ) → IsFileFault file input fault → n ≡ writes_after {T = Unit {0}} (Err fault) n
 file_writes file input WriteFailed n faulty = absurd faulty

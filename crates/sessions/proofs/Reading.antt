@@ -1,5 +1,5 @@
 -- What a reader gave, and what a session counts of failures.
-use Rattle.std.proofs.Common.{◌≡◌, ◌≢◌, ℕ, ◌+◌, ◌<◌, List, [], ◌++◌, length, length-append, refl, sym, ◌∙◌, ap, subst, append_assoc, arith, Option, None, Some, Result, Ok, Err, IfErr}
+use Rattle.std.proofs.Common.{◌≡◌, ◌≢◌, ℕ, ◌+◌, ◌<◌, List, [], ◌++◌, length, length-append, refl, sym, ◌∙◌, ap, subst, arith, Option, None, Some, Result, Ok, Err, IfErr}
 use Rattle.std.proofs.lemmas.List.{append-nil}
 use Rattle.std.specs.Io.KnownBytes.{Consumes, IsAtEnd}
 use Rattle.sessions.specs.declared.fault.SessionFault.{SessionFault}
@@ -9,18 +9,6 @@ use Rattle.sessions.specs.Streams.{Streams, IsInputOf}
 use Rattle.command_line.specs.declared.subcommand.Subcommand.{Subcommand}
 use Rattle.sessions.specs.Session.{IsSession, IsSessionOn}
 use Rattle.sessions.proofs.Ends.{unread_input}
-
--- nothing was given
-pub consumes_nothing : (known : Option (List ℕ)) → Consumes known known []
-consumes_nothing None = tt
-consumes_nothing (Some xs) = refl
-
--- some bytes were given, and then more
-pub consumes_more : (a b c : Option (List ℕ)) (xs ys : List ℕ) → Consumes a b xs → Consumes b c ys → Consumes a c (xs ++ ys)
-consumes_more None b c xs ys h k = tt
-consumes_more (Some before) None c xs ys h k = absurd h
-consumes_more (Some before) (Some between) None xs ys h k = absurd k
-consumes_more (Some before) (Some between) (Some after) xs ys h k = h ∙ ap (λ l. xs ++ l) k ∙ sym (append_assoc xs ys after)
 
 -- all that there was is the text
 pub all_given : (a b : Option (List ℕ)) (text : List ℕ) → Consumes a b text → IsAtEnd b → IsInputOf a text

@@ -172,10 +172,3 @@ by_kind : (input : List ℕ) (read : Result ScenarioParts SessionFault) (kind : 
 by_kind input read kind is says =
     let P : Bool → Type 0 = λ k. Reads (λ parts. MatchBool k (IsImageOf input parts) (MeansScenario input parts)) (λ fault. MatchBool k (IsImageFault input fault) (IsTextFault input fault)) read in
     subst P (sym is) says
-
--- an image is read as one, and a text as one
-pub read_as_image : (input : List ℕ) (read : Result ScenarioParts SessionFault) → is_image input ≡ true → Reads (IsImageOf input) (IsImageFault input) read → Reads (InputHasScenario input) (InputHasFault input) read
-read_as_image input read is says = by_kind input read true is says
-
-pub read_as_text : (input : List ℕ) (read : Result ScenarioParts SessionFault) → is_image input ≡ false → Reads (MeansScenario input) (IsTextFault input) read → Reads (InputHasScenario input) (InputHasFault input) read
-read_as_text input read is says = by_kind input read false is says

@@ -1,5 +1,5 @@
 -- What is left of a session, and what the session comes to by it.
-use Rattle.std.proofs.Common.{◌≡◌, ◌∙◌, ℕ, List, Option, None, Some, Result, Ok, Err, refl, sym, ap, subst}
+use Rattle.std.proofs.Common.{◌≡◌, ◌∙◌, ℕ, List, [], Option, None, Some, Result, Ok, Err, refl, sym, ap, subst}
 use Rattle.std.specs.Option.{option_map}
 use Rattle.scenario_image.specs.declared.parts.ScenarioParts.{ScenarioParts}
 use Rattle.scenario_asm.specs.Lines.{lines_of_text}
@@ -129,10 +129,10 @@ commands_reported parts lines fault reported out is put = subst (λ (f : Session
 
 -- lines were typed at a prompt that was opened over an input, and so its session has ended
 pub typed_end : (groups input : List ℕ) (p : ScenarioParts) (prompt : Prompt) (ended : SessionEnded) (now after : Streams) → IsWithin input → InputHasScenario input p → HasGroups groups p → prompt.dialogue.debugger ≡ debugging_opened (initial p)
-    → prompt.dialogue.memo ≡ no_memo → IsNamingOf input (limits_of p) prompt.naming → WasTyped prompt ended now after → IsPromptDone groups input now ended after
-typed_end groups input p prompt ended now after within means has stands none called typed =
+    → prompt.dialogue.memo ≡ no_memo → prompt.dialogue.displays.items ≡ [] → IsNamingOf input (limits_of p) prompt.naming → WasTyped prompt ended now after → IsPromptDone groups input now ended after
+typed_end groups input p prompt ended now after within means has stands none bare called typed =
     record {
-      over = input_over groups input p prompt.naming ended now after within means has called (typed_over p prompt.dialogue prompt.naming ended now after stands none typed.session);
+      over = input_over groups input p prompt.naming ended now after within means has called (typed_over p prompt.dialogue prompt.naming ended now after stands none bare typed.session);
       reads = typed.reads;
       writes = typed.writes;
     }

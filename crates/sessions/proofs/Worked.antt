@@ -70,10 +70,6 @@ runs_on s stop mid r new a b c to commits =
 pub any_stop : (s : State) (one other : Stop) (new : Reached) (a b : Option (List ℕ)) → RunsTo s (Ok one) new a b → RunsTo s (Ok other) new a b
 any_stop s one other new a b to = record { lines = to.lines; state = to.state; is_run = to.is_run; position_is = to.position_is; state_is = to.state_is; takes = to.takes }
 
--- a call of the engine from the beginning
-pub from_start : {until : ℕ} (old : Reached) (r : Result Stop EngineFault) (new : Reached) (a b : Option (List ℕ)) → old.position ≡ 0 → Commits until old r new a b → RunsTo old.state r new a b
-from_start old r new a b is commits = runs_on old.state End old r new a a b (runs_nothing old a is) commits
-
 -- a run that has too many events from here has too many from its beginning
 pub full_from_start : (old : Reached) (stop : Stop) (mid : Reached) (a b : Option (List ℕ)) → old.position ≡ 0 → RunsTo old.state (Ok stop) mid a b → mid.position ≤ 1000000000000000 → HasTooMany mid
     → HasTooMany old

@@ -12,7 +12,8 @@ use Rattle.sessions.specs.Input.{is_image}
 
 -- the names that statements declare, in the order of their numbers, which are below these
 abbrev pub naming_in : Limits → List Statement → Naming
-naming_in limits statements = record { limits = limits; nodes = filter_map node_name statements; links = filter_map link_name statements; flows = filter_map flow_name statements }
+naming_in limits statements =
+    record { limits = limits; names = record { nodes = filter_map node_name statements; links = filter_map link_name statements; flows = filter_map flow_name statements } }
 
 -- those of a text's own statements
 pub record IsTextNaming (text : List ℕ) (limits : Limits) (naming : Naming) : Type 0 where

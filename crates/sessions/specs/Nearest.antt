@@ -3,7 +3,7 @@ use Rattle.std.specs.Prelude.{◌≡◌, ◌<◌, ◌≤◌, ℕ, nat_eq, nat_lt
 use Rattle.std.specs.List.{All}
 use Rattle.strsim.specs.Edits.{levenshtein_row}
 use Rattle.debug_session.specs.declared.name.CommandName.{CommandName}
-use Rattle.debug_session.specs.declared.name.CommandName.TheVariants.{Step, Back, Break, Breaks, Run, Reverse, Until, State, Lines, Delete, Clear, Help, Quit, Why, Goto, Where, Names}
+use Rattle.debug_session.specs.declared.name.CommandName.TheVariants.{Step, Back, Break, Breaks, Run, Reverse, Until, State, Lines, Delete, Clear, Help, Quit, Why, Goto, Where, Names, Display, Undisplay, Stalls}
 use Rattle.sessions.specs.declared.nearest.Near.{Near}
 
 -- how a name is spelled
@@ -25,6 +25,9 @@ spelling Why = codes "why"
 spelling Goto = codes "goto"
 spelling Where = codes "where"
 spelling Names = codes "names"
+spelling Display = codes "display"
+spelling Undisplay = codes "undisplay"
+spelling Stalls = codes "stalls"
 
 -- how many bytes have to be put in, taken out or replaced until a word is a name
 abbrev pub edits_to : List ℕ → CommandName → ℕ

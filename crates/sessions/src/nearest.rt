@@ -12,7 +12,7 @@ use strsim::generic_levenshtein;
 const MOST_WORD: usize = 32;
 
 /// The names, in the order in which a word that begins several of them is read.
-const NAMES: [CommandName; 17] = [
+const NAMES: [CommandName; 20] = [
     CommandName::Step,
     CommandName::Back,
     CommandName::Break,
@@ -30,6 +30,9 @@ const NAMES: [CommandName; 17] = [
     CommandName::Goto,
     CommandName::Where,
     CommandName::Names,
+    CommandName::Display,
+    CommandName::Undisplay,
+    CommandName::Stalls,
 ];
 
 /// How a name is spelled.
@@ -54,6 +57,9 @@ fn spelling(name: CommandName) -> &'static str
         CommandName::Goto => "goto",
         CommandName::Where => "where",
         CommandName::Names => "names",
+        CommandName::Display => "display",
+        CommandName::Undisplay => "undisplay",
+        CommandName::Stalls => "stalls",
     }
 }
 

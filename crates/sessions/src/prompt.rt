@@ -1,5 +1,5 @@
 //! A debugging session at a prompt: the scenario is a file's, and commands are typed, one a line.
-ghost use Rattle.std.specs.Prelude.{◌≡◌, ◌<◌, ◌≤◌, false, length, IfOk, OnOk, OnErr};
+ghost use Rattle.std.specs.Prelude.{◌≡◌, ◌<◌, ◌≤◌, [], false, length, IfOk, OnOk, OnErr};
 ghost use Rattle.std.specs.Io.KnownBytes.{Appends};
 ghost use Rattle.table_run.specs.State.{initial};
 ghost use Rattle.debugger.specs.Debugging.{debugging_opened};
@@ -177,6 +177,7 @@ fn open_prompt(
     ensures room { IfOk result (λ prompt. 65536 < length prompt.room.items) }
     ensures debugger { IfOk result (λ prompt. prompt.dialogue.debugger ≡ debugging_opened (initial scenario.now)) }
     ensures memo { IfOk result (λ prompt. prompt.dialogue.memo ≡ no_memo) }
+    ensures displays { IfOk result (λ prompt. prompt.dialogue.displays.items ≡ []) }
     ensures naming { IfOk result (λ prompt. prompt.naming ≡ naming) }
 {
     let room = room_for_line(alloc)?;
@@ -184,7 +185,7 @@ fn open_prompt(
     let debugger = Debugger::new(alloc, scenario, partition, workers)?;
     Ok(Prompt {
         room,
-        dialogue: Dialogue::new(debugger),
+        dialogue: Dialogue::new(alloc, debugger),
         naming,
         said: Said::new(alloc),
         is_alone,

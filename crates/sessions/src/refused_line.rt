@@ -17,13 +17,20 @@ fn code_in(refusal: &[u8]) -> Option<&str> {
 fn has_numbers(line: &[u8]) -> bool {
     matches!(
         command_begun(line),
-        Some(CommandName::Break) | Some(CommandName::State) | Some(CommandName::Why)
+        Some(CommandName::Break)
+            | Some(CommandName::State)
+            | Some(CommandName::Why)
+            | Some(CommandName::Display)
     )
 }
 
 /// The conditions that a breakpoint can have.
 const CONDITIONS: &str =
     "tcpsim: conditions are node N, flow F, kind K, drop, link L, byte B, cwnd, flight, ssthresh, una, nxt, rto, dups, phase, next, queue L, wait L, count L, time, change V; or stall: see help break";
+
+/// What can be displayed.
+const DISPLAYS: &str =
+    "tcpsim: displays are flow F, link L, cwnd F, flight F, ssthresh F, una F, nxt F, rto F, dups F, phase F, next F, queue L, wait L, count L: see help display";
 
 /// The units of times.
 const UNITS: &str = "tcpsim: a time has a unit, ns, us, ms or s, as 1.5s: see help until";
@@ -34,7 +41,7 @@ fn of_other_debuggers(word: &[u8]) -> Option<&'static str> {
         None
     } else if b"print".starts_with(word) {
         Some(
-            "tcpsim: state flow F shows all values of a flow, state link L those of a link: see help state",
+            "tcpsim: display shows a value after each move, state flow F all of a flow, state link L of a link: see help display",
         )
     } else if b"watch".starts_with(word) {
         Some("tcpsim: break stops where a line meets conditions: see help break")
@@ -45,10 +52,11 @@ fn of_other_debuggers(word: &[u8]) -> Option<&'static str> {
     }
 }
 
-/// Tells what there is in the place of a line that names no command, or no sort of condition.
+/// Tells what there is in the place of a line that names no command, no sort of condition, or nothing that can be displayed.
 fn tell_instead<N: Notes>(alloc: Global, line: &[u8], notes: &mut N) {
     match command_begun(line) {
         Some(CommandName::Break) => notes.refusal_means(CONDITIONS),
+        Some(CommandName::Display) => notes.refusal_means(DISPLAYS),
         Some(_) => {}
         None => match of_other_debuggers(first_word(line)) {
             Some(advice) => notes.refusal_means(advice),
@@ -102,7 +110,7 @@ fn tell_parts<N: Notes>(alloc: Global, naming: &Naming, line: &[u8], notes: &mut
 }
 
 /// Tells that a line is refused, and what that means; where it names no command, the nearest one, or
-/// what does the same here; which conditions and units there are; and where a name or a number may be
+/// what does the same here; which conditions, displays and units there are; and where a name or a number may be
 /// none of the scenario's, which there are.
 pub(crate) fn tell_refused<N: Notes>(
     alloc: Global,

@@ -161,6 +161,7 @@ const MOVES: [&str; 4] = ["step 3", "back 2", "back 9", "run"];
 const MOVED: &str = "1 0 0 0 0 start 0 una=0 nxt=1000 cwnd=4000 ssthresh=64000 phase=ss tx=0:0:0
 2 1040000 0 0 3 free 0 una=0 nxt=1000 cwnd=4000 ssthresh=64000 phase=ss
 3 2040000 1 1 1 data 0 0 next=1000 tx=1:0:1000
+of node r, flow f
 at 3 of the run, time 2040000 ns
 3 2040000 1 1 1 data 0 0 next=1000 tx=1:0:1000
 2 1040000 0 0 3 free 0 una=0 nxt=1000 cwnd=4000 ssthresh=64000 phase=ss
@@ -172,6 +173,7 @@ at 0 of the run, time 0 ns, the beginning
 3 2040000 1 1 1 data 0 0 next=1000 tx=1:0:1000
 4 2080000 1 0 3 free 1 next=1000
 5 3080000 0 2 1 ack 0 1000 una=1000 nxt=1000 cwnd=5000 ssthresh=64000 phase=ss
+of node s, flow f
 at 5 of the run, time 3080000 ns, the end
 ";
 

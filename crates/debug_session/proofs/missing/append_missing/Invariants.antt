@@ -5,4 +5,4 @@ use Rattle.debug_session.specs.Missing.{missing_head, drop_text}
 use Rattle.debug_session.proofs.missing.append_missing.Given as goal
 
 abbrev pub invariant-loop-dropped : goal.invariant-loop-dropped
-invariant-loop-dropped l = l.out.items ++ flat_map (drop_text l.of) (drop l.dropped-index l.drops) ≡ (l.fn.out.items ++ missing_head l.of) ++ flat_map (drop_text l.of) l.drops
+invariant-loop-dropped l = l.out.items ++ flat_map (drop_text l.names l.of) (drop l.dropped-index l.drops) ≡ (l.fn.out.items ++ missing_head l.of) ++ flat_map (drop_text l.names l.of) l.drops

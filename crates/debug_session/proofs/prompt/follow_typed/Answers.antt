@@ -1,5 +1,5 @@
 use Rattle.std.proofs.Common.{Some, refl, sym, ap, ◌∙◌}
-use Rattle.debug_session.specs.Prompt.{ObeysAtPrompt, MovesAgain, AnswersTyped, at_prompt}
+use Rattle.debug_session.specs.Prompt.{ObeysRequest, MovesAgain, AnswersTyped, at_prompt}
 use Rattle.debug_session.proofs.Followed.{is_again, is_obeyed, is_refused}
 use Rattle.debug_session.proofs.Left.{typed_as}
 use Rattle.debug_session.proofs.prompt.follow_typed.Goals as goal
@@ -26,8 +26,8 @@ returns-in-Some-Ok-clause-answers c =
     let start = c.args.dialogue.now.debugger.start in
     let old = at_prompt c.args.dialogue.now in
     let asked = c.in-Some-Ok.asked in
-    typed_as c.args.naming.now c.args.dialogue.now c.obey_at_prompt.new.dialogue (ObeysAtPrompt c.args.naming.now start asked old) (AnswersTyped c.args.naming.now start c.args.line.now old) c.obey_at_prompt.result c.obey_at_prompt.new.said
-    (λ at said obeys. is_obeyed c.args.naming.now start c.args.line.now old at said asked (ap (λ r. Some r) (sym c.in-Some-Ok.field-0-is) ∙ c.in-Some-Ok.ensures) obeys) c.obey_at_prompt.ensures.obeys
+    typed_as c.args.naming.now c.args.dialogue.now c.obey_request.new.dialogue (ObeysRequest c.args.naming.now start asked old) (AnswersTyped c.args.naming.now start c.args.line.now old) c.obey_request.result c.obey_request.new.said
+    (λ at said obeys. is_obeyed c.args.naming.now start c.args.line.now old at said asked (ap (λ r. Some r) (sym c.in-Some-Ok.field-0-is) ∙ c.in-Some-Ok.ensures) obeys) c.obey_request.ensures.obeys
 
 pub returns-in-Some-Ok-clause-start : goal.returns-in-Some-Ok-clause-start
-returns-in-Some-Ok-clause-start c = c.obey_at_prompt.ensures.start
+returns-in-Some-Ok-clause-start c = c.obey_request.ensures.start

@@ -15,9 +15,9 @@ returns-in-Ok-clause-ok c =
     let out = c.args.out.now.items in
     let made = c.append_lines.new.out.items in
     let all = c.append_where.new.out.items in
-    on_ok {P = AddsPlace d.start c.args.report.bound (session_state d) made all} {Q = AddsMove d.start c.args.from c.args.report (session_state d) out all} c.append_where.result
-    (λ place. move_reported d.start c.args.from c.args.report (session_state d) out made all c.in-Ok.ensures.ok place)
-    (subst (λ (e : Debugging). OnOk c.append_where.result (AddsPlace e.start c.args.report.bound (session_state e) made all)) c.append_lines.ensures.same c.append_where.ensures.ok)
+    on_ok {P = AddsPlace c.args.naming.now d.start c.args.report.bound (session_state d) made all} {Q = AddsMove c.args.naming.now d.start c.args.from c.args.report (session_state d) out all} c.append_where.result
+    (λ place. move_reported c.args.naming.now d.start c.args.from c.args.report (session_state d) out made all c.in-Ok.ensures.ok place)
+    (subst (λ (e : Debugging). OnOk c.append_where.result (AddsPlace c.args.naming.now e.start c.args.report.bound (session_state e) made all)) c.append_lines.ensures.same c.append_where.ensures.ok)
 
 pub returns-in-Ok-clause-same : goal.returns-in-Ok-clause-same
 returns-in-Ok-clause-same c = c.append_where.ensures.same ∙ c.append_lines.ensures.same

@@ -13,9 +13,9 @@ returns-in-Ok-clause-ok c =
     let out = c.args.out.now.items in
     let made = c.append_where.new.out.items in
     let all = c.append_ahead.new.out.items in
-    let place : AddsPlace d.start d.shown.position (session_state d) out made = subst (λ n. AddsPlace d.start n (session_state d) out made) c.position-here.ensures.count c.in-Ok.ensures.ok in
+    let place : AddsPlace c.args.naming.now d.start d.shown.position (session_state d) out made = subst (λ n. AddsPlace c.args.naming.now d.start n (session_state d) out made) c.position-here.ensures.count c.in-Ok.ensures.ok in
     on_ok {P = all ≡ made ++ (next_text d.start d.shown ++ known_line c.args.known)} {Q = all ≡ out ++ where_text d.start d.shown c.args.known} c.append_ahead.result
-    (λ more. where_reported d.start (session_state d) c.args.known out made all place more)
+    (λ more. where_reported c.args.naming.now d.start (session_state d) c.args.known out made all place more)
     (subst (λ (e : Debugging). OnOk c.append_ahead.result (all ≡ made ++ (next_text e.start e.shown ++ known_line c.args.known))) c.append_where.ensures.same c.append_ahead.ensures.ok)
 
 pub returns-in-Ok-clause-same : goal.returns-in-Ok-clause-same

@@ -54,5 +54,5 @@ returns g c now =
     let called = subst (λ (n : Naming). IsNamingOf input (limits_of p) n) (sym opens.naming) c.in_ok-naming.ensures in (
       opens.room,
       λ ended after left.
-          typed_end c.args.sharing.now.groups input p c.in_ok-prompt.prompt ended now after c.requires means c.in_ok-partition.ensures.named opens.debugger opens.memo called left,
+          typed_end c.args.sharing.now.groups input p c.in_ok-prompt.prompt ended now after c.requires means c.in_ok-partition.ensures.named opens.debugger opens.memo opens.displays called left,
     )

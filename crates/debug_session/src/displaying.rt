@@ -1,0 +1,239 @@
+//! Displays that are set, taken away and shown.
+ghost use Rattle.std.specs.Prelude.{◌≡◌, ◌<◌, ◌≤◌, ◌⊎◌, ◌++◌, Contains, MatchBool, length};
+ghost use Rattle.debug_session.specs.Answers.{refusal_line};
+ghost use Rattle.debug_session.specs.Displays.{Reads, present_line, display_listing, ObeysDisplays};
+ghost use Rattle.debug_session.specs.Numbered.{HasNumber};
+ghost use Rattle.debug_session.specs.Prompt.{at_prompt, ObeysDisplay};
+ghost use Rattle.debug_session.specs.Readouts.{present, ShowsBehind, TellsBehind};
+
+use crate::dialogue::Dialogue;
+use crate::display::{DisplayCommand, DisplayItem, MOST_DISPLAYS, item_at, number_of_display};
+use crate::naming::Naming;
+use crate::numbered::has_number;
+use crate::readout::Readout;
+use crate::refusal::Refusal;
+use crate::said::Said;
+use crate::typed_move::present_time;
+use debugger::Debugger;
+use flow_waits::ScenarioNames;
+use sim_time::Time;
+
+/// Tells all displays, with the values that they have at a moment.
+#[tactic(none)]
+fn tell_displays(
+    debugger: &Debugger,
+    names: &ScenarioNames,
+    time: Time,
+    displays: &[DisplayItem],
+    said: &mut Said,
+)
+    ensures { (said.new ≡ display_listing names.now (present debugger.now time) displays.now) ⊎ (said.new ≡ refusal_line Refusal.M) }
+{
+    let readout = Readout {
+        debugger,
+        left: None,
+        time,
+    };
+    match said.say_displays(names, &readout, displays) {
+        Ok(()) => {}
+        Err(_) => said.say_refused(Refusal::M),
+    }
+}
+
+/// Tells the display of a number, with the values that it has at a moment. The answer is whether there was memory for it.
+#[tactic(none)]
+fn tell_display(
+    debugger: &Debugger,
+    names: &ScenarioNames,
+    time: Time,
+    number: u64,
+    item: DisplayItem,
+    said: &mut Said,
+) -> bool
+    ensures { MatchBool result (said.new ≡ present_line names.now (present debugger.now time) number item) (said.new ≡ refusal_line Refusal.M) }
+{
+    let readout = Readout {
+        debugger,
+        left: None,
+        time,
+    };
+    match said.say_display(names, &readout, number, item) {
+        Ok(()) => true,
+        Err(_) => {
+            said.say_refused(Refusal::M);
+            false
+        }
+    }
+}
+
+/// Displays something that is not displayed yet, where there is room for it.
+#[tactic(none)]
+fn add_display(
+    debugger: &Debugger,
+    names: &ScenarioNames,
+    time: Time,
+    item: DisplayItem,
+    displays: &mut Vec<DisplayItem>,
+    said: &mut Said,
+)
+    requires fresh { ¬ Contains displays.old.items item }
+    requires room { length displays.old.items < 64 }
+    ensures { ObeysDisplays names.now (present debugger.now time) (DisplayCommand.Add item) displays.old.items displays.new.items said.new }
+{
+    let number = displays.as_slice().len() as u64 + 1;
+    if tell_display(debugger, names, time, number, item, said) {
+        match displays.push(item) {
+            Ok(()) => {}
+            Err(_) => said.say_refused(Refusal::M),
+        }
+    }
+}
+
+/// Whether something more can be displayed.
+fn has_room(displays: &[DisplayItem]) -> bool
+    ensures { MatchBool result (length displays.now < 64) (64 ≤ length displays.now) }
+{
+    displays.len() < MOST_DISPLAYS
+}
+
+/// Displays something, and tells its number.
+#[tactic(none)]
+fn set_display(
+    debugger: &Debugger,
+    names: &ScenarioNames,
+    time: Time,
+    item: DisplayItem,
+    displays: &mut Vec<DisplayItem>,
+    said: &mut Said,
+)
+    ensures { ObeysDisplays names.now (present debugger.now time) (DisplayCommand.Add item) displays.old.items displays.new.items said.new }
+{
+    let set = displays.as_slice();
+    match number_of_display(set, item) {
+        Some(number) => {
+            let _is_told = tell_display(debugger, names, time, number, item, said);
+        }
+        None => {
+            if has_room(set) {
+                add_display(debugger, names, time, item, displays, said);
+            } else {
+                said.say_refused(Refusal::B4);
+            }
+        }
+    }
+}
+
+/// Takes the display of a number away.
+#[tactic(none)]
+fn take_display(
+    names: &ScenarioNames,
+    number: u64,
+    displays: &mut Vec<DisplayItem>,
+    said: &mut Said,
+)
+    requires { HasNumber displays.old.items number }
+    ensures { (now : Reads) → ObeysDisplays names.now now (DisplayCommand.TakeAway number) displays.old.items displays.new.items said.new }
+{
+    let index = number as usize - 1;
+    let item = item_at(displays.as_slice(), index);
+    match said.say_undisplayed(names, number, item) {
+        Ok(()) => {
+            let _taken = displays.remove(index);
+        }
+        Err(_) => said.say_refused(Refusal::M),
+    }
+}
+
+/// Takes a display away, where one has the number.
+#[tactic(none)]
+fn undisplay(names: &ScenarioNames, number: u64, displays: &mut Vec<DisplayItem>, said: &mut Said)
+    ensures { (now : Reads) → ObeysDisplays names.now now (DisplayCommand.TakeAway number) displays.old.items displays.new.items said.new }
+{
+    if has_number(displays.as_slice(), number) {
+        take_display(names, number, displays, said);
+    } else {
+        said.say_refused(Refusal::B5);
+    }
+}
+
+/// Does what is asked of displays, whose values are those of a moment.
+#[tactic(none)]
+fn change_displays(
+    debugger: &Debugger,
+    names: &ScenarioNames,
+    time: Time,
+    asked: DisplayCommand,
+    displays: &mut Vec<DisplayItem>,
+    said: &mut Said,
+)
+    ensures { ObeysDisplays names.now (present debugger.now time) asked displays.old.items displays.new.items said.new }
+{
+    match asked {
+        DisplayCommand::All => {
+            tell_displays(debugger, names, time, displays.as_slice(), said);
+        }
+        DisplayCommand::Add(item) => set_display(debugger, names, time, item, displays, said),
+        DisplayCommand::TakeAway(number) => undisplay(names, number, displays, said),
+    }
+}
+
+/// Does what is asked of the displays of a session.
+#[tactic(none)]
+pub(crate) fn obey_display(
+    dialogue: &mut Dialogue,
+    naming: &Naming,
+    asked: DisplayCommand,
+    said: &mut Said,
+)
+    ensures obeyed { ObeysDisplay naming.now dialogue.old.debugger.start asked (at_prompt dialogue.old) (at_prompt dialogue.new) said.new }
+    ensures start { dialogue.new.debugger.start ≡ dialogue.old.debugger.start }
+{
+    match present_time(&mut dialogue.debugger) {
+        Ok(time) => change_displays(
+            &dialogue.debugger,
+            &naming.names,
+            time,
+            asked,
+            &mut dialogue.displays,
+            said,
+        ),
+        Err(_) => said.say_refused(Refusal::M),
+    }
+}
+
+/// Tells displays behind the answer to a move from a moment. The answer is whether they could be told.
+#[tactic(none)]
+fn tell_behind(
+    debugger: &mut Debugger,
+    names: &ScenarioNames,
+    displays: &[DisplayItem],
+    before: Time,
+    said: &mut Said,
+) -> bool
+    ensures told { MatchBool result (TellsBehind names.now displays.now before debugger.old said.old said.new) (said.new ≡ refusal_line Refusal.M) }
+    ensures same { debugger.new ≡ debugger.old }
+{
+    match said.say_behind(debugger, names, displays, before) {
+        Ok(()) => true,
+        Err(_) => {
+            said.say_refused(Refusal::M);
+            false
+        }
+    }
+}
+
+/// Tells displays behind the answer to a move from a moment. Where they cannot be told, the move is undone.
+#[tactic(none)]
+pub(crate) fn show_behind(
+    debugger: &mut Debugger,
+    names: &ScenarioNames,
+    displays: &[DisplayItem],
+    before: Time,
+    said: &mut Said,
+)
+    ensures { ShowsBehind names.now displays.now before debugger.old debugger.new said.old said.new }
+{
+    if !tell_behind(debugger, names, displays, before, said) {
+        let _undone = debugger.undo_move();
+    }
+}
