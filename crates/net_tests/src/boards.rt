@@ -15,7 +15,7 @@ use std::thread::Threads;
 use window_core::Group;
 use work_board::{Board, Piece, Seat, Slot};
 
-const ROUNDS: usize = 10_000;
+const ROUNDS: usize = 1_000;
 
 const THREADS: usize = 16;
 
