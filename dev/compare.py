@@ -28,6 +28,7 @@ Hypothesis neither draws cases here nor shrinks them. To draw one of `runs` took
 planted differences at its 312 lines, and was no shorter.
 """
 import argparse
+import dataclasses
 import functools
 import glob
 import itertools
@@ -348,9 +349,11 @@ def debug(pick, args):
 
 
 def prompts(pick, args):
-    """Sessions at a prompt, over texts and images; now and then one that is refused."""
+    """Sessions at a prompt, over texts and images; now and then of segments of one byte, or one that is refused."""
     for _ in range(args.count):
         scenario = short_scenario(pick)
+        if pick.random() < 0.08:
+            scenario.flows = [dataclasses.replace(flow, mss=1) for flow in scenario.flows]
         data = image.save(scenario) if pick.random() < 0.1 else spelling.spelt(scenario, pick, sessions.GRAMMAR)
         scenario = command_line.read(data)
         if pick.random() < 0.03:

@@ -16,7 +16,8 @@ import collections, concurrent.futures, os, subprocess, sys, tempfile
 from clone import BUILT as program, TOP as top, read
 from tcpsim_model import command_line, prompt
 COMMANDS = b'break kind data\nrun\nrun\nback 1\nuntil 2040000\nbak 1\n'
-TYPED = b'break stall\nrun\nwhy 0\nrun\nbreak drop\nreverse\nreverse\nuntil 2s\nlines 3\nstate flow 0\nreverse\n'
+TYPED = (b'break stall\nrun\nwhy 0\nrun\nbreak drop\ndisplay flow f\nreverse\nreverse\nstalls\nuntil 2s\ndisplay wait a\nlines 3\nstate flow 0\nreverse\n'
+         b'display\nbreaks\n')
 PROMPT = b'(tcpsim) '
 OPTIONS = ([], ['--groups', 'each', '--workers', '1'], ['--groups', 'each', '--workers', '2'])
 # A command that changes nothing and is answered with one line.

@@ -11,7 +11,7 @@ import pytest
 import compare
 from compare import debugger, prompt
 from clone import TOP, ran
-from tcpsim_model import conditions, grammar, marked, naming, waits
+from tcpsim_model import conditions, displays, grammar, marked, naming, waits
 from tcpsim_model.scenario import Refused
 
 ENOUGH = 400        # sessions of each draw; a fault has to show in one
@@ -30,7 +30,8 @@ right = {name: getattr(place, name) for place, name in (
     (at_prompt, 'answer'), (at_prompt, 'quits'), (at_prompt, 'on_break'), (at_prompt, 'where'), (at_prompt, 'on_where'), (at_prompt, 'of_node'),
     (at_prompt, 'of_flow'), (at_prompt, 'move'), (prompt, 'time_in'), (prompt, 'numbered'), (prompt.Marked, 'is_met'), (waits, 'standing'),
     (waits, 'waiting'), (prompt, 'edits'), (naming.Names, 'number_of'), (naming.Names, 'sort_of'),
-    (marked.Valued, 'changed_from'), (marked, 'of_port'), (marked, 'is_so'), (prompt, 'words_of'))}
+    (marked.Valued, 'changed_from'), (marked, 'of_port'), (marked, 'is_so'), (prompt, 'words_of'), (at_prompt, 'whose'), (at_prompt, 'on_clear'),
+    (displays.Display, 'told'), (displays.Displays, 'values'), (displays.Displays, 'add'), (prompt, 'stalls_of'), (displays, 'text_of'))}
 right['is_met on values'] = marked.Valued.is_met
 
 
@@ -147,8 +148,52 @@ def droptail_counts_nothing(port, now):
     return {**found, b'count': found[b'count'] or 0}
 
 
-def names_the_congestion_window(net, flow):
-    return right['standing'](net, flow).replace('rwnd', 'cwnd')
+def names_the_congestion_window(*of):
+    return right['standing'](*of).replace('rwnd', 'cwnd')
+
+
+def told_after_each_move(self, name, *numbers):
+    told = right['move'](self, name, *numbers)
+    if name != 'back' or not self.debugger.lines:
+        return told
+    before, place, after = told.rpartition('at ')
+    return f'{before}{right["whose"](self)}{place}{after}'
+
+
+def displays_before_the_place(self, name, *numbers):
+    lines = right['move'](self, name, *numbers).splitlines(True)
+    return ''.join(sorted(lines, key=lambda line: not line.startswith('display ')))
+
+
+def shown_after_moves_that_moved(self, name, *numbers):
+    before = self.debugger.net.position
+    told = right['move'](self, name, *numbers)
+    return told if self.debugger.net.position != before else ''.join(line for line in told.splitlines(True) if not line.startswith('display '))
+
+
+def displays_are_cleared(self, words):
+    told = right['on_clear'](self, words)
+    self.displays.set.clear()
+    return told
+
+
+def the_last_display_is_set_again(self, new):
+    right['add'](self, new)
+    self.set.append(self.set.pop(self.set.index(new)))
+    return len(self.set) - 1
+
+
+def stalls_up_to_here(self, words):
+    return ''.join(f'goto {position}: {self.told.called("flow", flow)} is stalled at {time} ns\n'
+                   for position, flow, time in right['stalls_of'](self.debugger.scenario) if position <= self.debugger.net.position) or 'no stall\n'
+
+
+def known_to_the_end(self, words):
+    self.ends = True
+    return right_stalls(self, words)
+
+
+right_stalls = at_prompt.on_stalls
 
 
 # What is wrong in each program: since which step it can be, and what is changed.
@@ -201,9 +246,28 @@ FAULTS = {
     'drop-tail counts 0': (11, marked, 'of_port', droptail_counts_nothing),
     'where none waits a wait is 0': (11, marked, 'is_so', lambda value, sign, bound: right['is_so'](value or 0, sign, bound)),
     'a sign stands apart': (11, prompt, 'words_behind_break', lambda words, steps: words),
-    'a time is told without its unit': (11, prompt, 'words_of', lambda it: right['words_of'](it).replace('0ns', '0')),
+    'a time is told without its unit': (11, prompt, 'words_of', lambda *of: right['words_of'](*of).replace('0ns', '0')),
     'a moment is only forwards': (11, marked.Valued, 'moment', marked.Valued.until),
     'a word with a unit is no moment': (11, prompt, 'UNIT', ()),
+    'answers have numbers': (13, prompt, 'names_told', lambda scenario, _steps: naming.Numbers(scenario)),
+    'an image has the names of nothing': (13, prompt, 'Names', naming.Numbers),
+    'a link that becomes free is not told': (13, at_prompt, 'whose', lambda self: right['whose'](self) if self.debugger.lines[-1].flow is not None else ''),
+    'back tells of the last line': (13, at_prompt, 'move', told_after_each_move),
+    'a count of 1 is plural': (13, waits, 'is_one', lambda count, _steps: False),
+    'displays are told first': (13, at_prompt, 'move', displays_before_the_place),
+    'where nothing moved none is told': (13, at_prompt, 'move', shown_after_moves_that_moved),
+    'what was is left out': (13, displays.Display, 'told', lambda self, names, values, before: right['told'](self, names, values, values)),
+    'what was is what is shown first': (13, displays.Displays, 'values', lambda self, net, now: [
+        {**it, b'cwnd': '4000'} if b'cwnd' in it and net.position else it for it in right['values'](self, net, now)]),
+    'clear takes displays away': (13, at_prompt, 'on_clear', displays_are_cleared),
+    'one that is displayed goes to the end': (13, displays.Displays, 'add', the_last_display_is_set_again),
+    'a 64th display is refused': (13, displays, 'MOST_DISPLAYS', 63),
+    'a wait of 0 is none': (13, displays, 'text_of', lambda name, value: right['text_of'](name, value or None) if name == b'wait' else right['text_of'](name, value)),
+    'd is display': (13, at_prompt, 'NAMES', {b'display': 13, **prompt.NAMES}),
+    'the first stall alone is listed': (13, prompt, 'stalls_of', lambda scenario: right['stalls_of'](scenario)[:1]),
+    'stalls up to the position are listed': (13, at_prompt, 'on_stalls', stalls_up_to_here),
+    'stalls knows the run': (13, at_prompt, 'on_stalls', known_to_the_end),
+    'a value word is no topic': (13, prompt, 'VALUE_WORDS', ()),
     'a word of four bytes has no nearest name': (1, prompt, 'MOST_WORD', 3),
     'the last of the nearest is told': (1, prompt, 'edits', lambda word, name: right['edits'](word, name) - list(prompt.NAMES).index(name) / 99),
     'a 64th breakpoint is refused': (1, debugger, 'MOST_BREAKS', 63),

@@ -13,7 +13,8 @@ import page_templates
 from page_use import at_prompt, choose, element, look, run, text_of, write
 
 pytest_plugins = 'page_fixtures'
-LINES = ['step 5', 'why 0', 'break drop', 'run', 'where', 'goto 30', 'state', 'back 2', 'lines 4', 'stpe', 'reverse', 'until 1s', '', 'breaks', 'help why', 'step', 'state flow 0']
+LINES = ['step 5', 'why 0', 'break drop', 'run', 'where', 'goto 30', 'state', 'back 2', 'lines 4', 'stpe', 'reverse', 'until 1s', '', 'breaks', 'help why', 'step', 'state flow 0',
+         'stalls', 'display flow f', 'back', 'undisplay 1', 'display x']
 
 
 def whole_session(browser, lines):
@@ -103,19 +104,27 @@ def test_history_and_completion(at_debugger):
     browser.press('Tab')
     assert browser.value(value) == 'break node '
     offered = browser.json('[...document.querySelectorAll(".goes-on button")].map(e => e.textContent)')
-    assert offered == [f'{k} ({name})' for k, name in enumerate(browser.json('page.facts.nodes.map(it => it.name)'))]
+    assert offered == [f'{name} (node {k})' for k, name in enumerate(browser.json('page.facts.nodes.map(it => it.name)'))]
     look(browser, 'completion')
     browser.click(element('.goes-on button'))
     browser.type('ki')
     browser.press('Tab')
     browser.type('r')
     browser.press('Tab')
-    assert browser.value(value) == 'break node 0 kind rto '
+    assert browser.value(value) == 'break node s kind rto '
     browser.press('Enter')
-    browser.wait('document.querySelector("#debugger pre").textContent.includes("break 1: node 0 kind rto")')
+    browser.wait('document.querySelector("#debugger pre").textContent.includes("break 1: node s kind rto")')
+    for typed in ('displ', 'fli'):
+        browser.type(typed)
+        browser.press('Tab')
+    browser.press('Tab')
+    assert browser.value(value) == 'display flight f '
+    browser.press('Enter')
+    browser.wait('document.querySelector("#debugger pre").textContent.includes("display 1: flight f = ")')
     # Each name of the help is offered, and the key leads on where there is nothing to take.
     names = browser.json('simulator.prompt.completion.names')
-    assert {'step', 'back', 'run', 'reverse', 'until', 'goto', 'where', 'state', 'break', 'breaks', 'delete', 'clear', 'lines', 'why', 'names', 'help', 'quit'} == {*names}
+    assert {'step', 'back', 'run', 'reverse', 'until', 'goto', 'where', 'state', 'break', 'breaks', 'delete', 'clear', 'lines', 'display', 'undisplay', 'why', 'stalls',
+            'names', 'help', 'quit'} == {*names}
     assert browser.json('simulator.prompt.completion.topics') == ['numbers', 'trace', 'kinds', 'stall', 'values']
     assert browser.json('simulator.prompt.completion.kinds') == ['start', 'rto', 'delack', 'free', 'data', 'ack']
     write(browser, '#debugger input', 'step 3')
@@ -126,7 +135,7 @@ def test_history_and_completion(at_debugger):
     browser.click(element('[data-tab=debug]'))
     browser.click(element('#debugger input'))
     browser.press('ArrowUp')
-    assert browser.value(value) == 'break node 0 kind rto '
+    assert browser.value(value) == 'display flight f '
 
 
 def test_a_line_is_completed_as_soon_as_the_program_has_told_its_names(at_debugger):

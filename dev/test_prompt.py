@@ -21,10 +21,11 @@ import tty
 import pytest
 
 import clone
-from clone import PROGRAM, TOP, outcome, paths, ran, read, read_text
+from clone import PROGRAM, TOP, outcome, paths, ran, read
 from tcpsim_model import debugger, prompt, sessions, simulate
 from tcpsim_model.scenario import Refused
 from tcpsim_model.command_line import read as scenario_in
+from test_prompt_pages import page
 
 pytestmark = pytest.mark.built
 PROMPT = b'(tcpsim) '
@@ -66,6 +67,10 @@ LINES = {
          b'', b'', b'br wait 0>2ms flow f', b'r', b'', b'c', b'br phase ca', b'br dups=2', b'br rto>1s', b'br next>=4000', b'br count a>0', b'br flight=0', b'br time>=3.01s', b'br una=4000 drop',
          b'br nxt<1 ssthresh<=1', b'breaks', b'back 99', b'r', b'', b'', b'', b'', b'', b'', b'', b'c', b'goto 1.5s', b'', b'goto 4160us', b'goto 0s', b'g 999s', b'goto 3', b'goto 4160001ns',
          b'help values', b'h v', b'help goto', b'help break', b'help'],
+    13: [b'back 999', b'stalls', b'display', b'display cwnd f', b'di flow f', b's', b'', b'disp link a', b'display cwnd 0', b's 3', b'', b'b 2', b'', b'stal', b'display', b'run', b'c',
+         b'undisplay 2', b'und 1', b'display phase f', b'display rto f', b'display wait a', b'display count b', b'br stall', b're', b'', b'goto 25', b'w f', b'u 2s', b'', b'goto 0', b's 0',
+         b'br change cwnd f', b'br queue b>0 link a node r', b'r', b'breaks', b'd 1', b'display', b'und 5', b'und 1', b'und 1', b'und 1', b'und 1', b'display', b's', b'help display', b'h di',
+         b'help undisplay', b'h und', b'help stalls', b'h stall', b'help state', b'help why', b'help numbers', b'help cwnd', b'help queue', b'help'],
 }
 REFUSALS = {
     0: [(b'bak 1', b'B1'), (b'step 01', b'B3'), (b'break flow 1', b'B3'), (b'run 1', b'B2'), (b'break', b'B2')],
@@ -74,7 +79,7 @@ REFUSALS = {
         (b'u 01s', b'B3'), (b'u 1000000.000000001s', b'B3'), (b'u 1S', b'B3'), (b'br n 0', b'B1'), (b'br kind', b'B2'),
         (b'clear x', b'B2'), (b'step\t1', b'B1'), (b'quit now', b'B2')],
     2: [(b'breaks 1', b'B2'), (b'delete', b'B2'), (b'd 1 2', b'B2'), (b'd 01', b'B3'), (b'd x', b'B3'), (b'd 0', b'B5'), (b'd 1', b'B5'),
-        (b'delete 99999999999999999999999', b'B5'), (b'help stepp', b'B1'), (b'h x y', b'B1'), (b'h s t', b'B2'), (b'help stalls', b'B1'), (b'h k rto', b'B2')],
+        (b'delete 99999999999999999999999', b'B5'), (b'help stepp', b'B1'), (b'h x y', b'B1'), (b'h s t', b'B2'), (b'help stallss', b'B1'), (b'h k rto', b'B2')],
     3: [(b'lines 1 2', b'B2'), (b'l 1001', b'B3'), (b'l 01', b'B3'), (b'l x', b'B3')],
     4: [(b'state 1', b'B1'), (b'state kind rto', b'B1'), (b'state n 1', b'B1'), (b'state flows 1 2', b'B1'), (b'state node', b'B2'),
         (b'state link 0 1', b'B2'), (b'state node 2', b'B3'), (b'state link 2', b'B3'), (b'state flow 1', b'B3'), (b'state flow 00', b'B3')],
@@ -94,6 +99,10 @@ REFUSALS = {
     11: [(b'br cwnd', b'B2'), (b'br cwnd<', b'B2'), (b'br cwnd 3', b'B2'), (b'br cwn<3', b'B1'), (b'br cwnd<3 4', b'B1'), (b'br cwnd<x', b'B3'), (b'br cwnd<3 cwnd>1', b'B2'), (b'br phase xx', b'B3'),
          (b'br queue f>1', b'B3'), (b'br wait a>1.5', b'B3'), (b'br change cwnd a', b'B3'), (b'br change x f', b'B1'), (b'br change cwnd', b'B2'), (b'br stall cwnd<3', b'B2'),
          (b'br time>=1 s', b'B1'), (b'goto 1.0ns', b'B3'), (b'goto 1s 2', b'B2'), (b'step<3', b'B1')],
+    13: [(b'display foo', b'B1'), (b'display foo f f', b'B1'), (b'display time', b'B1'), (b'display cwnd<3', b'B1'), (b'displays', b'B1'), (b'display cwnd', b'B2'), (b'di cwnd f f', b'B2'),
+         (b'display link', b'B2'), (b'display cwnd x', b'B3'), (b'display cwnd a', b'B3'), (b'display cwnd 1', b'B3'), (b'display queue f', b'B3'), (b'display link 2', b'B3'),
+         (b'display flow 00', b'B3'), (b'undisplay', b'B2'), (b'und 1 2', b'B2'), (b'und x', b'B3'), (b'und 01', b'B3'), (b'und 0', b'B5'), (b'und 1', b'B5'),
+         (b'undisplay 99999999999999999999999', b'B5'), (b'stalls f', b'B2'), (b'stallss', b'B1'), (b'print cwnd', b'B1'), (b'help cwn', b'B1'), (b'help display x', b'B2')],
 }
 
 
@@ -126,25 +135,6 @@ def debug(path, given, *options):
     """A session whose lines are all there: its status, what it answers, and what it notes."""
     status, noted, out = outcome(['debug', path, *options], given)
     return status, out, noted
-
-
-def page():
-    """What docs/DEBUGGING.md shows: of each session its file, its lines and what is answered, and of each command of
-    the shell what it prints. A line `...` stands for some lines that are left out. What tcpsim-debug shows has a test of
-    its own."""
-    blocks = re.findall(r'^```\n(.*?)^```$', read_text('docs', 'DEBUGGING.md'), re.M | re.S)
-    sessions_, commands = [], []
-    for block in blocks:
-        for line in block.splitlines() if not block.startswith('$ bin/tcpsim-debug ') else ():
-            if started := re.fullmatch(r'\$ crates/tcpsim/out/tcpsim debug (\S+)', line):
-                sessions_.append((os.path.join(TOP, started[1]), [], ['']))
-            elif line.startswith('{ '):
-                commands.append((line, ['']))
-            elif line.startswith('(tcpsim) '):
-                sessions_[-1][1].append(line.removeprefix('(tcpsim) ').encode())
-            else:
-                (commands[-1] if commands else sessions_[-1])[-1][0] += r'(?:.*\n)+' if line == '...' else re.escape(line + '\n')
-    return sessions_, commands
 
 
 class Typed:
@@ -332,7 +322,7 @@ def test_the_hunts_of_the_examples():
 def test_the_page():
     """What docs/DEBUGGING.md shows is what is answered, by the model where the page has steps of the grammar that the program lacks."""
     shown, commands = page()
-    assert (len(shown), len(commands)) == (4, 1)
+    assert (len(shown), len(commands)) == (6, 1)
     for path, lines, (answer,) in shown:
         status, out, _ = debug(path, b''.join(line + b'\n' for line in lines)) if STEPS == prompt.STEPS else (0, model(path, lines, prompt.STEPS), b'')
         assert status == 0

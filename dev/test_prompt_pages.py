@@ -1,14 +1,15 @@
 """Tests of what docs/FORMATS.md says of the debugger's prompt, by the model of python/tcpsim_model: names cut short, times,
-and an example of each refusal."""
+and an example of each refusal. And of what docs/DEBUGGING.md shows of it."""
+import os
 import re
 
-from clone import paths, read, read_text
+from clone import TOP, paths, read, read_text
 from tcpsim_model import prompt
 from tcpsim_model.scenario import Refused
 from tcpsim_model.texts import topics_in
 from tcpsim_model.command_line import read as scenario_in
 
-SHOWN = 12      # of the grammar's steps, those that the page has
+SHOWN = 13      # of the grammar's steps, those that the page has
 
 
 def session():
@@ -69,3 +70,33 @@ def test_refusals():
         code = words(noted)[0].removeprefix('refused ')
         for line in words(examples) if 'after' not in examples else ():
             assert refusal(line) == code, line
+
+
+def page():
+    """What docs/DEBUGGING.md shows: of each session its file, its lines and what is answered, and of each command of
+    the shell what it prints. A line `...` stands for some lines that are left out. What tcpsim-debug shows has a test of
+    its own."""
+    blocks = re.findall(r'^```\n(.*?)^```$', read_text('docs', 'DEBUGGING.md'), re.M | re.S)
+    sessions_, commands = [], []
+    for block in blocks:
+        for line in block.splitlines() if not block.startswith('$ bin/tcpsim-debug ') else ():
+            if started := re.fullmatch(r'\$ crates/tcpsim/out/tcpsim debug (\S+)', line):
+                sessions_.append((os.path.join(TOP, started[1]), [], ['']))
+            elif line.startswith('{ '):
+                commands.append((line, ['']))
+            elif line.startswith('(tcpsim) '):
+                sessions_[-1][1].append(line.removeprefix('(tcpsim) ').encode())
+            else:
+                (commands[-1] if commands else sessions_[-1])[-1][0] += r'(?:.*\n)+' if line == '...' else re.escape(line + '\n')
+    return sessions_, commands
+
+
+def test_what_the_hunts_show():
+    """Behind the first session, which shows how lines are typed, each finds a cause by at most five commands."""
+    (_, *hunts), _ = page()
+    assert len(hunts) == 5
+    for path, lines, (answer,) in hunts:
+        typed = prompt.Prompt(scenario_in(read(path)), SHOWN)
+        assert re.fullmatch(answer, ''.join(map(typed.answer, lines))), path
+    text = read_text('docs', 'DEBUGGING.md')
+    assert all(block.count('\n(tcpsim) ') <= 5 for block in re.findall(r'^```\n\$ crates/(.*?)^```$', text, re.M | re.S))

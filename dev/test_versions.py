@@ -21,6 +21,7 @@ from tcpsim_model import conditions, figures, grammar, image, missing, prompt, t
 from tcpsim_model.text import assemble
 
 MISSING = 12        # the number of the prompt from which on `why` tells what is missing
+DISPLAYS = 13       # the number from which on there are displays
 BY_TIME = 4         # the number of the figures' format from which on they are there by time and with names
 SAMPLES = 'three_losses', 'newreno_in_a_network', 'codel_drops_before_it_sends', 'two_flows_over_a_router', 'delayed_acknowledgement'
 # Of each format, what its samples come to under each number that it had. A row stays; a change adds one.
@@ -36,7 +37,8 @@ SUMS = {
                9: '2b3ffb7d232e7f32ed4c4fdef66fa8fb9482c1ae70ba3c084103ccf6512d9213',
                10: 'cff69870124a5b401b163837671e65512d3d52bcf73fde372ebe619b716632c3',
                11: 'fe1e51fe010477e647b1fc14b05a0ced0f6a31bdefda7804b66192481e6be577',
-               12: '23c350c43fc0e83f030db4aa4c8329e64c2746bce63438ea117cb4a7e69c58ba'},
+               12: '23c350c43fc0e83f030db4aa4c8329e64c2746bce63438ea117cb4a7e69c58ba',
+               13: '62508fa529c07614945c53bebc6f8b35ae0341feaa659ad1287491a4f3300237'},
 }
 
 
@@ -52,7 +54,8 @@ def prompt_words(number):
     """All that the prompt's grammar has: its names with the steps that they came with, conditions, topics."""
     names = sorted((name, step) for name, step in grammar.NAMES.items() if step <= number)
     fates = [repr(missing.FATES).encode()] if number >= MISSING else []
-    return [repr(names).encode(), *conditions.behind(number), *sorted(texts.topics_in(number)), *fates]
+    displays = [*conditions.DISPLAYED, *conditions.VALUE_WORDS] if number >= DISPLAYS else []
+    return [repr(names).encode(), *conditions.behind(number), *sorted(texts.topics_in(number)), *fates, *displays]
 
 
 def named_by_time(scenario):

@@ -194,12 +194,12 @@ def test_nodes_have_their_ends_links_and_packets(answer):
 
 
 def test_what_a_flow_waits_for_is_told(answer, put):
-    """The lines that a move passed are the trace's, and left out here."""
+    """The lines that a move passed are the trace's, and left out here with that on the last of them."""
     for text, moves in waits.ROWS:
         lines = ['break stall 0', *(line for move, _ in moves for line in (move, 'why 0'))]
-        wanted = ''.join(['break 1: stall 0\n', *(told for _, told in moves)])
+        wanted = ''.join(['break 1: stall f\n', *(told for _, told in moves)])
         status, _, output = answer(['debug', put('run.txt', text)], ''.join(f'{it}\n' for it in lines).encode())
-        told = [it for it in output.decode().splitlines(True) if not it[0].isdigit() and not it.startswith('.. ')]
+        told = [it for it in output.decode().splitlines(True) if not it[0].isdigit() and not it.startswith(('.. ', 'of '))]
         assert (status, ''.join(told)) == (0, wanted)
 
 # ---- texts

@@ -140,8 +140,8 @@ REFUSED = ['bak', 'step 3', 'back x', 'back 2', 'quit 1', 'back 9', 'break node 
 # What is answered to `step 3`, `back 2`, `back 9` and `run`.
 ONE, EQUAL = ([f'{line}\n' for line in example(name)[1]] for name in ('one_segment', 'equal_times'))
 BEGINNING, END = 'at 0 of the run, time 0 ns, the beginning\n', 'at 5 of the run, time 3080000 ns, the end\n'
-MOVED = ''.join((*ONE[:3], 'at 3 of the run, time 2040000 ns\n', ONE[2], ONE[1], 'at 1 of the run, time 0 ns\n', ONE[0], BEGINNING,
-                 *ONE[:5], END))
+MOVED = ''.join((*ONE[:3], 'of node r, flow f\n', 'at 3 of the run, time 2040000 ns\n', ONE[2], ONE[1], 'at 1 of the run, time 0 ns\n', ONE[0],
+                 BEGINNING, *ONE[:5], 'of node s, flow f\n', END))
 
 # Breakpoints have numbers, and help is typed.
 BREAKPOINTS = ['breaks', 'break node 1', 'br drop', 'break kind delack', 'break drop', 'delete 1', 'breaks', 'delete 3', 'd 0',
@@ -149,11 +149,11 @@ BREAKPOINTS = ['breaks', 'break node 1', 'br drop', 'break kind delack', 'break 
 
 NUMBERED = '''\
 no breakpoint
-break 1: node 1
+break 1: node r
 break 2: drop
 break 3: kind delack
 break 2: drop
-deleted 1: node 1
+deleted 1: node r
 break 1: drop
 break 2: kind delack
 clear
@@ -167,12 +167,12 @@ delete 1
 LINES = ['lines', 'b', 'br kind free', 'br node 1', 'r', 's', '', 'b', 'l 2', 'l 1001', 'l 1 2', 'lines 0', 'c', 'u 1s', 'l 1', 's']
 
 TOLD = ''.join((
-    BEGINNING, 'break 1: kind free\n', 'break 2: node 1\n',
-    *ONE[:2], 'at 2 of the run, time 1040000 ns\n', 'break 1: kind free\n',
-    ONE[2], 'at 3 of the run, time 2040000 ns\n', 'break 2: node 1\n',
-    ONE[3], 'at 4 of the run, time 2080000 ns\n', 'break 1: kind free\n',
+    BEGINNING, 'break 1: kind free\n', 'break 2: node r\n',
+    *ONE[:2], 'of node s, link a\n', 'at 2 of the run, time 1040000 ns\n', 'break 1: kind free\n',
+    ONE[2], 'of node r, flow f\n', 'at 3 of the run, time 2040000 ns\n', 'break 2: node r\n',
+    ONE[3], 'of node r, link b\n', 'at 4 of the run, time 2080000 ns\n', 'break 1: kind free\n',
     ONE[3], 'at 3 of the run, time 2040000 ns\n',
-    *ONE[1:3], 'clear\n', *ONE[3:5], END, ONE[4], END))
+    *ONE[1:3], 'clear\n', *ONE[3:5], 'of node s, flow f\n', END, ONE[4], END))
 
 # Breakpoints of several conditions over two flows of equal times, and words that are none.
 CONDITIONS = ['br kind data flow 1', 'br link 4', 'br byte 0 link 2 node 2 flow 0', 'br  flow 1 kind data', 'breaks', 'r', '', 're',
@@ -180,25 +180,45 @@ CONDITIONS = ['br kind data flow 1', 'br link 4', 'br byte 0 link 2 node 2 flow 
               'br link 1 0', 'br drop byte 9000000000001', 'br byte 9000000000000 link 7 drop kind delack flow 1 node 4', 'd 1', 'r']
 
 MATCHED = '''\
-break 1: flow 1 kind data
-break 2: link 4
-break 3: node 2 flow 0 link 2 byte 0
-break 1: flow 1 kind data
-break 1: flow 1 kind data
-break 2: link 4
-break 3: node 2 flow 0 link 2 byte 0
+break 1: flow y kind data
+break 2: link e
+break 3: node q flow x link c byte 0
+break 1: flow y kind data
+break 1: flow y kind data
+break 2: link e
+break 3: node q flow x link c byte 0
 ''' + ''.join(EQUAL[:5]) + f'''\
+of node q, flow x
 at 5 of the run, time 2040000 ns
-break 3: node 2 flow 0 link 2 byte 0
-{EQUAL[5]}at 6 of the run, time 2040000 ns, the end
-break 1: flow 1 kind data
-{EQUAL[5]}{EQUAL[4]}at 5 of the run, time 2040000 ns
-break 3: node 2 flow 0 link 2 byte 0
-break 4: node 4 flow 1 kind delack drop link 7 byte 9000000000000
-deleted 1: flow 1 kind data
-{EQUAL[5]}at 6 of the run, time 2040000 ns, the end
-break 1: link 4
+break 3: node q flow x link c byte 0
+{EQUAL[5]}of node q, flow y
+at 6 of the run, time 2040000 ns, the end
+break 1: flow y kind data
+{EQUAL[5]}{EQUAL[4]}of node q, flow x
+at 5 of the run, time 2040000 ns
+break 3: node q flow x link c byte 0
+break 4: node v flow y kind delack drop link i byte 9000000000000
+deleted 1: flow y kind data
+{EQUAL[5]}of node q, flow y
+at 6 of the run, time 2040000 ns, the end
+break 1: link e
 '''
+
+# Displays have numbers and are shown after each move, with what they were before it; stalls are listed.
+DISPLAYS = ['stalls', 'display', 'di cwnd f', 'display link a', 'di cwnd 0', 's', '', 'display x', 'display cwnd', 'display cwnd a', 'und 3', 'und 1',
+            'b', 's 0', 'clear', 'run', 'display flow f', 'back 99', 'undisplay 01']
+SHOWN = ''.join((
+    'no stall\nno display\ndisplay 1: cwnd f = 4000\ndisplay 2: link a: queue = 0, wait = -, count = -\ndisplay 1: cwnd f = 4000\n',
+    ONE[0], 'of node s, flow f\nat 1 of the run, time 0 ns\ndisplay 1: cwnd f = 4000\ndisplay 2: link a: queue = 0, wait = -, count = -\n',
+    ONE[1], 'of node s, link a\nat 2 of the run, time 1040000 ns\ndisplay 1: cwnd f = 4000\ndisplay 2: link a: queue = 0, wait = -, count = -\n',
+    'undisplayed 1: cwnd f\n',
+    ONE[1], 'at 1 of the run, time 0 ns\ndisplay 1: link a: queue = 0, wait = -, count = -\n',
+    'at 1 of the run, time 0 ns\ndisplay 1: link a: queue = 0, wait = -, count = -\nclear\n',
+    *ONE[1:5], 'of node s, flow f\n', END, 'display 1: link a: queue = 0, wait = -, count = -\n',
+    'display 2: flow f: cwnd = 5000, flight = 0, ssthresh = 64000, una = 1000, nxt = 1000, rto = 1000000000ns, dups = 0, phase = ss, next = 1000\n',
+    *ONE[4::-1], BEGINNING, 'display 1: link a: queue = 0, wait = -, count = -\n',
+    'display 2: flow f: cwnd = 4000 (was 5000), flight = 0, ssthresh = 64000, una = 0 (was 1000), nxt = 0 (was 1000), rto = 1000000000ns, dups = 0, '
+    'phase = ss, next = 0 (was 1000)\n'))
 
 
 # What the codes mean.
@@ -206,7 +226,7 @@ MEANT = {
     'B1': 'B1: no command has this name, or no sort of breakpoint',
     'B2': 'B2: the number of words is another',
     'B3': 'B3: a word is no number, or out of its range; there is no such node, flow or kind',
-    'B5': 'B5: there is no breakpoint of this number',
+    'B5': 'B5: there is no breakpoint of this number, or no display',
 }
 
 
@@ -228,6 +248,9 @@ NO_TIME = [*refused('B3'), 'tcpsim: a time has a unit, ns, us, ms or s, as 1.5s:
 NO_SORT = [*refused('B1'), 'tcpsim: conditions are node N, flow F, kind K, drop, link L, byte B, cwnd, flight, ssthresh, una, nxt, rto, dups, phase, next, '
            'queue L, wait L, count L, time, change V; or stall: see help break']
 
+NO_ITEM = [*refused('B1'), 'tcpsim: displays are flow F, link L, cwnd F, flight F, ssthresh F, una F, nxt F, rto F, dups F, phase F, next F, '
+           'queue L, wait L, count L: see help display']
+
 # The lines that are typed, how many of them are read and one more where the input ends, what is answered, and what is
 # told of lines that are refused.
 LINES_TYPED = [
@@ -235,6 +258,7 @@ LINES_TYPED = [
     (REFUSED, 9, MOVED, NO_NAME + refused('B3', 'B2') + OUTSIDE),
     (BREAKPOINTS, 16, NUMBERED, refused('B5', 'B5', 'B5', 'B3', 'B1')),
     (LINES, 17, TOLD, refused('B3', 'B2')),
+    (DISPLAYS, 20, SHOWN, NO_ITEM + refused('B2', 'B3') + ['tcpsim: a is a link: see help numbers', OUTSIDE[-1]] + refused('B5', 'B3')),
 ]
 
 # The same over two flows of equal times.

@@ -11,7 +11,7 @@ def text(flow, *lost):
     return f'sim 10000000000\n{THERE}flow f n0 n1 {flow}\n' + ''.join(f'lose a {number}\n' for number in lost)
 
 
-# Each row is a text and moves over its run, with what is told of where each comes to: whether flow 0 is stalled there that was
+# Each row is a text and moves over its run, with what is told of where each comes to: whether the flow is stalled there that was
 # not before, at which the move `run` stops, and what it waits for.
 ROWS = [
     # Of four segments that leave at the start the last two are lost, as is the one that their acknowledgement lets go: the
@@ -19,42 +19,42 @@ ROWS = [
     (text('1000 5 0 64000 200000000', 3, 4, 5), [
         ('step 0', '''\
 at 0 of the run, time 0 ns, the beginning
-flow 0 is not started: it starts at 0 ns
+flow f is not started: it starts at 0 ns
 alarms: start at 0 ns
 '''),
         ('step 1', '''\
 at 1 of the run, time 0 ns
-flow 0 sends no more: 4000 bytes in flight, a segment of 1000, cwnd 4000
-waits: data 1000 at place 1 of link 0
-under way: data 0 to node 1 at 2040000 ns
+flow f sends no more: 4000 bytes in flight, a segment of 1000, cwnd 4000
+waits: data 1000 at place 1 of link a
+under way: data 0 to node n1 at 2040000 ns
 alarms: rto at 1000000000 ns
 missing at the receiver: byte 0
 '''),
         ('run', '''\
 at 7 of the run, time 4120000 ns
-break 1: stall 0
-flow 0 is stalled: 0 duplicate acknowledgements, and its retransmission timer is due at 1004120000 ns
+break 1: stall f
+flow f is stalled: 0 duplicate acknowledgements, and its retransmission timer is due at 1004120000 ns
 alarms: rto at 1004120000 ns
-missing at the receiver: byte 2000, data 2000 lost by name at link 0 in line 1
+missing at the receiver: byte 2000, data 2000 lost by name at link a in line 1
 '''),
         ('run', '''\
 at 10 of the run, time 1006160000 ns
-break 1: stall 0
-flow 0 is stalled: 0 duplicate acknowledgements, and its delayed acknowledgement is due at 1206160000 ns
+break 1: stall f
+flow f is stalled: 0 duplicate acknowledgements, and its delayed acknowledgement is due at 1206160000 ns
 alarms: delack at 1206160000 ns, rto at 3004120000 ns
-missing at the receiver: byte 3000, data 3000 lost by name at link 0 in line 1
+missing at the receiver: byte 3000, data 3000 lost by name at link a in line 1
 '''),
         ('run', '''\
 at 19 of the run, time 1211320000 ns, the end
-flow 0 is complete: all 5000 bytes are acknowledged
+flow f is complete: all 5000 bytes are acknowledged
 '''),
     ]),
     # The receiver's window holds one segment and not two.
     (text('1000 3 0 1999 200000000'), [
         ('step 1', '''\
 at 1 of the run, time 0 ns
-flow 0 sends no more: 1000 bytes in flight, a segment of 1000, rwnd 1999
-under way: data 0 to node 1 at 2040000 ns
+flow f sends no more: 1000 bytes in flight, a segment of 1000, rwnd 1999
+under way: data 0 to node n1 at 2040000 ns
 alarms: rto at 1000000000 ns
 missing at the receiver: byte 0
 '''),
@@ -63,9 +63,9 @@ missing at the receiver: byte 0
     (text('1000 3 0 64000 200000000'), [
         ('step 1', '''\
 at 1 of the run, time 0 ns
-flow 0 has sent all 3000 bytes: 0 are acknowledged
-waits: data 1000 at place 1 of link 0, data 2000 at place 2 of link 0
-under way: data 0 to node 1 at 2040000 ns
+flow f has sent all 3000 bytes: 0 are acknowledged
+waits: data 1000 at place 1 of link a, data 2000 at place 2 of link a
+under way: data 0 to node n1 at 2040000 ns
 alarms: rto at 1000000000 ns
 missing at the receiver: byte 0
 '''),
@@ -81,8 +81,8 @@ flow f n1 n0 1000 1 0 64000 200000000
 ''', [
         ('run', '''\
 at 3 of the run, time 800000000 ns
-break 1: stall 0
-flow 0 is stalled: 0 duplicate acknowledgements, and its delayed acknowledgement is due at 1000000000 ns
+break 1: stall f
+flow f is stalled: 0 duplicate acknowledgements, and its delayed acknowledgement is due at 1000000000 ns
 alarms: delack at 1000000000 ns, rto at 1000000000 ns
 missing at the sender: an acknowledgement above 0
 '''),
@@ -93,10 +93,10 @@ missing at the sender: an acknowledgement above 0
     (text('3000 9 0 64000 0', 1), [
         ('step 13', '''\
 at 13 of the run, time 15240000 ns
-flow 0 may send at its next acknowledgement: 12000 bytes in flight, a segment of 3000, cwnd 15000
-under way: data 0 to node 1 at 19280000 ns
+flow f may send at its next acknowledgement: 12000 bytes in flight, a segment of 3000, cwnd 15000
+under way: data 0 to node n1 at 19280000 ns
 alarms: rto at 1000000000 ns
-missing at the receiver: byte 0, data 0 lost by name at link 0 in line 1
+missing at the receiver: byte 0, data 0 lost by name at link a in line 1
 '''),
     ]),
 ]

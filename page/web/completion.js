@@ -19,19 +19,24 @@ class Completion {
       if (!this.names && line.value.trim()) this.learn().then(() => this.take());
     });
   }
-  // Asks the program once for its names, and for those of conditions and kinds.
+  // Asks the program once for its names, for those of conditions and kinds, and for what can be displayed.
   learn() { return this.learned || (this.learned = this.askAll()); }
   async askAll() {
     const first = text => text.split('\n').filter(line => /^[a-z]/.test(line)).map(line => line.split(/[ :]/)[0]);
     const help = await this.ask('help'), conditions = first(await this.ask('help break')).slice(1, -1);
     const kinds = (await this.ask('help kinds')).split('\n').slice(1).filter(line => /^[a-z]+ [FL]\b/.test(line)).map(line => line.split(' ')[0]);
     const line = name => help.split('\n').find(one => one.startsWith(`${name} `)) || '';
-    Object.assign(this, {conditions, kinds, names: first(help), topics: line('help').split(/a command, /)[1].split(/, | or /),
+    const displayed = new Map();
+    for (const row of (await this.ask('help display')).split('\n')) {
+      const [, word, place, several] = /^([a-z]+) ([FL])  +(?:a value of [a-z]+ [FL]: (.*))?/.exec(row) || [];
+      if (word) for (const one of several ? several.split(/, | or /) : [word]) displayed.set(one, place === 'F' ? 'flow' : 'link');
+    }
+    Object.assign(this, {conditions, kinds, displayed, names: first(help), topics: line('help').split(/a command, /)[1].split(/, | or /),
       parts: [...line('state').matchAll(/(\w+) [NLF]\b/g)].map(([, part]) => part)});
     this.draw();
   }
-  // The numbers that there are of a sort, each with its name in the text.
-  numbers(sort) { return this.facts[`${sort}s`].map(({name}, k) => [String(k), name]); }
+  // The names that there are of a sort, each with its number.
+  called(sort) { return this.facts[`${sort}s`].map(({name}, k) => [name, `${sort} ${k}`]); }
   // What the last word can be: [word, what it is called] each.
   ones() {
     if (!this.names) return [];
@@ -40,12 +45,14 @@ class Completion {
     let ones = [];
     if (!before.length) ones = this.line.value.trim() ? this.names : [];
     else if (name === 'help' && before.length === 1) ones = [...this.names, ...this.topics];
-    else if (name === 'why' && before.length === 1) ones = this.numbers('flow');
+    else if (name === 'why' && before.length === 1) ones = this.called('flow');
+    else if (name === 'display' && before.length === 1) ones = [...this.displayed.keys()];
+    else if (name === 'display' && before.length === 2 && this.displayed.has(behind)) ones = this.called(this.displayed.get(behind));
     else if (name === 'state' && before.length === 1) ones = this.parts;
     else if (name === 'state' || name === 'break') {
-      if (before.length > 1 && ['node', 'link', 'flow'].includes(behind)) ones = this.numbers(behind);
+      if (before.length > 1 && ['node', 'link', 'flow'].includes(behind)) ones = this.called(behind);
       else if (before.length > 1 && behind === 'kind') ones = this.kinds;
-      else if (name === 'break' && behind === 'stall') ones = this.numbers('flow');
+      else if (name === 'break' && behind === 'stall') ones = this.called('flow');
       else if (name === 'break' && behind !== 'byte') ones = this.conditions.filter(one => !before.slice(1).includes(one));
     }
     return ones.map(one => [one].flat()).filter(([word]) => word.startsWith(last) && word !== last);

@@ -19,7 +19,7 @@ class Prompt {
     const form = document.createElement('form'), label = document.createElement('label'), button = document.createElement('button');
     label.textContent = 'tcpsim debug> ';
     this.line = document.createElement('input');
-    Object.assign(this.line, {autocomplete: 'off', autocapitalize: 'off', spellcheck: false, placeholder: 'help; step 3; until 2s; break drop; run; state'});
+    Object.assign(this.line, {autocomplete: 'off', autocapitalize: 'off', spellcheck: false, placeholder: 'help; stalls; step 3; until 2s; break drop; run; display flow 0'});
     button.textContent = 'do it';
     label.append(this.line);
     form.append(label, button);

@@ -21,6 +21,10 @@ OF_RECEIVER = {b'next': (SIGN, NUMBER)}
 OF_CHANGE = {*OF_SENDER, *OF_RECEIVER} - {b'phase'}
 OF_LINK = {b'queue': (LINK, SIGN, NUMBER), b'wait': (LINK, SIGN, TIME), b'count': (LINK, SIGN, NUMBER)}
 OF_VALUES = {**BEHIND, **OF_SENDER, **OF_RECEIVER, **OF_LINK, b'time': (SIGN, TIME), b'change': (VALUE, FLOW)}
+# The words of values, behind `help` since step 13.
+VALUE_WORDS = (*OF_SENDER, *OF_RECEIVER, *OF_LINK, b'time', b'change')
+# What can be displayed since step 13, with the sort that stands behind it; of a flow and a link all their values.
+DISPLAYED = {b'flow': FLOW, b'link': LINK, **dict.fromkeys((*OF_SENDER, *OF_RECEIVER), FLOW), **dict.fromkeys(OF_LINK, LINK)}
 # What stands behind the sorts that have a node, a link or a flow alone behind them, in whatever command.
 NAMED = {b'node': NODE, b'link': LINK, b'flow': FLOW, b'stall': FLOW}
 
@@ -80,16 +84,17 @@ def read(place, word, names):
     return word.decode()
 
 
-def words_of(breakpoint):
-    """A breakpoint's words behind `break`."""
+def words_of(breakpoint, names):
+    """A breakpoint's words behind `break`; `names` has what nodes, links and flows are called."""
     if isinstance(breakpoint[0], tuple):
-        return ' '.join(map(words_of, breakpoint))
+        return ' '.join(words_of(condition, names) for condition in breakpoint)
     sort, value = breakpoint
     words = () if value is None else value if isinstance(value, tuple) else (value,)
     told = sort.decode()
     for place, word in zip(OF_VALUES.get(sort, (FLOW,)), words):
         signed = place == SIGN or told.endswith(('<', '=', '>'))
-        told += f'{"" if signed else " "}{word}{"ns" if place == TIME else ""}'
+        named = names.name_of(place, word) if place in (NODE, LINK, FLOW) else word
+        told += f'{"" if signed else " "}{named}{"ns" if place == TIME else ""}'
     return told
 
 
@@ -100,6 +105,8 @@ def named_in(name, words, steps):
         return [(FLOW, word) for word in words[:1]]
     if name == b'state' or words[:1] == [b'stall']:
         return [(NAMED[words[0]], word) for word in words[1:2] if words[0] in NAMED]
+    if name == b'display':
+        return [(DISPLAYED[words[0]], words[1])]
     sorts = behind(steps)
     return [(place, word) for part in parted(words_behind_break(words, steps), steps) for place, word in zip(sorts.get(part[0], ()), part[1:])
             if place in (NODE, LINK, FLOW)]

@@ -8,7 +8,8 @@ MOST_LINE = 65_536      # bytes
 MOST_WORD = 32          # bytes of a word whose nearest name is told
 # The names that a first word can begin, the first of them first, and the step that each came with.
 NAMES = {b'step': 1, b'back': 1, b'break': 1, b'breaks': 2, b'run': 1, b'reverse': 6, b'until': 1, b'state': 1, b'lines': 3,
-         b'delete': 2, b'clear': 1, b'help': 2, b'quit': 1, b'why': 5, b'goto': 9, b'where': 9, b'names': 10}
+         b'delete': 2, b'clear': 1, b'help': 2, b'quit': 1, b'why': 5, b'goto': 9, b'where': 9, b'names': 10, b'display': 13,
+         b'undisplay': 13, b'stalls': 13}
 # Names that go before a topic behind `help`; others go behind it.
 BEFORE_TOPICS = tuple(name for name, step in NAMES.items() if step <= 8)
 # Of each name in the order of `help`: how it is used, what it does, what else there is to say, and an example.
@@ -102,8 +103,8 @@ MEANINGS = {
     'B1': 'B1: no command has this name, or no sort of breakpoint',
     'B2': 'B2: the number of words is another',
     'B3': 'B3: a word is no number, or out of its range; there is no such node, flow or kind',
-    'B4': 'B4: a 65th breakpoint',
-    'B5': 'B5: there is no breakpoint of this number',
+    'B4': 'B4: a 65th breakpoint, or a 65th display',
+    'B5': 'B5: there is no breakpoint of this number, or no display',
 }
 # What a refusal tells of besides, since step 9: behind `break` the conditions, of the names that other debuggers have what does the
 # same, and of a time its units.
@@ -115,7 +116,7 @@ ELSEWHERE = {
 }
 UNITS_TOLD = 'a time has a unit, ns, us, ms or s, as 1.5s: see help until'
 # The commands that can have the number of a node, a link or a flow: where one is refused, those that there are are told.
-NUMBERED = (b'break', b'state', b'why')
+NUMBERED = (b'break', b'state', b'why', b'display')
 PLACES = {b'ns': 0, b'us': 3, b'ms': 6, b's': 9}     # of a time's unit: how many digits a nanosecond is behind it
 UNIT = tuple(PLACES)
 TIME = re.compile(rb'(0|[1-9][0-9]*)(?:(?:\.([0-9]+))?(ns|us|ms|s))?')

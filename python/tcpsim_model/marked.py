@@ -58,6 +58,13 @@ class Marked(Debugger):
         return matches((sort, value), line)
 
 
+def stalls_of(scenario):
+    """The stalls of a whole run in its order, of one position by number: of each the position, the flow and the moment."""
+    on = Marked(scenario)
+    on.run()
+    return [(position, flow, on.lines[position - 1].time) for position, (_, stalled) in enumerate(on.marks, 1) for flow in sorted(stalled)]
+
+
 def of_end(end):
     """The values of a sender or a receiver by their names; of a router none."""
     if end is None:

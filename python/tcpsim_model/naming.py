@@ -1,5 +1,5 @@
 """What nodes, links and flows are called at a prompt: by their numbers, and since step 10 of its grammar by the names that a
-text gives them."""
+text gives them. Since step 13 answers have these names too."""
 from tcpsim_model.debugger import number_to
 from tcpsim_model.text import FLOW, LINK, NODE
 
@@ -20,6 +20,13 @@ class Numbers:
     def sort_of(self, _word):
         """The sort whose name a word is, or None."""
         return None
+
+    def name_of(self, _sort, number):
+        """What answers call one of a sort."""
+        return str(number)
+
+    def called(self, sort, number):
+        return f'{sort} {self.name_of(sort, number)}'
 
     def listed(self):
         """All names."""
@@ -42,10 +49,18 @@ class Names(Numbers):
     def sort_of(self, word):
         return self.meant[word][0] if word in self.meant else None
 
+    def name_of(self, sort, number):
+        return self.names[sort, number]
+
     def listed(self):
-        return ''.join(f'{sort} {number} {self.names[sort, number]}\n' for sort in SORTS for number in range(self.counts[sort]))
+        return ''.join(f'{sort} {number} {self.name_of(sort, number)}\n' for sort in SORTS for number in range(self.counts[sort]))
 
 
 def names_in(scenario, steps):
-    """What a grammar of so many steps calls a scenario's nodes, links and flows."""
+    """What a scenario's nodes, links and flows are called in the lines that a grammar of so many steps reads."""
     return Names(scenario) if steps >= 10 and scenario.names else Numbers(scenario)
+
+
+def names_told(scenario, steps):
+    """What they are called in its answers."""
+    return Names(scenario) if steps >= 13 and scenario.names else Numbers(scenario)

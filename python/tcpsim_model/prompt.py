@@ -18,23 +18,25 @@ none reads lines as a session whose commands are all there (`debugger.obey`).
 10. Nodes, links and flows by the names of a text.
 11. Breakpoints on values; to a moment, either way.
 12. Of a flow that waits what is missing, and the drops of it.
+13. Names in answers; behind the last line of a move whose it is; displays; all stalls of a run.
 """
-from tcpsim_model.conditions import NAMED, conditions_in, named_in, words_behind_break, words_of
+from tcpsim_model.conditions import NAMED, VALUE_WORDS, conditions_in, named_in, words_behind_break, words_of
 from tcpsim_model.debugger import MOST, breakpoint_of, number_to, obey, set_breakpoint, words_in, words_wanted
-from tcpsim_model.grammar import (BEFORE_TOPICS, ELSEWHERE, MEANINGS, MOST_LINE, MOST_WORD, NAMES, NUMBERED, UNIT, UNITS_TOLD, at_most, count_in, edits,
+from tcpsim_model.displays import Displays, display_of
+from tcpsim_model.grammar import (BEFORE_TOPICS, MEANINGS, MOST_LINE, MOST_WORD, NAMES, NUMBERED, UNIT, UNITS_TOLD, at_most, count_in, edits,
                                   printable, time_in, usage)
-from tcpsim_model.marked import Marked, Valued
+from tcpsim_model.marked import Marked, Valued, stalls_of
 from tcpsim_model.missing import missing
-from tcpsim_model.naming import names_in
+from tcpsim_model.naming import Names, names_in, names_told
 from tcpsim_model.scenario import Refused
 from tcpsim_model.simulate import line_text
-from tcpsim_model.text import FLOW, NUMBER
-from tcpsim_model.texts import help_in, last_of_help, sorts_told, topics_in
+from tcpsim_model.text import FLOW, LINK, NODE, NUMBER
+from tcpsim_model.texts import elsewhere, help_in, last_of_help, topics_in, words_there
 from tcpsim_model.waits import why
 
-STEPS = 12
+STEPS = 13
 # How many of them the program has.
-BUILT = 12
+BUILT = 13
 PROMPT = '(tcpsim) '
 MOST_SHOWN = 10         # lines that a move passed
 MOST_LINES = 1_000      # of `lines`
@@ -60,7 +62,8 @@ class Prompt:
 
     def __init__(self, scenario, steps=BUILT):
         self.debugger = (Valued if steps >= 11 else Marked)(scenario)
-        self.steps, self.names = steps, names_in(scenario, steps)
+        self.steps, self.names, self.told = steps, names_in(scenario, steps), names_told(scenario, steps)
+        self.displays = Displays(self.told)
         self.last = None        # the last move: its name and its numbers
         self.known, self.ends = 0, False        # the greatest position where the session was; whether the run ends there
 
@@ -74,6 +77,8 @@ class Prompt:
     def topic_of(self, word):
         """The first name that the word begins, else the first topic, else a name that goes behind the topics."""
         first = any(name.startswith(word) for name in BEFORE_TOPICS if self.NAMES[name] <= self.steps)
+        if self.steps >= 13 and word in VALUE_WORDS:
+            return b'values'
         return next((topic for topic in topics_in(self.steps) if topic.startswith(word) and not first), None) or self.name_of(word)
 
     def quits(self, line):
@@ -115,9 +120,10 @@ class Prompt:
         """The line that tells what there is in the place of a word that is none: the nearest name to one that begins none."""
         names = [name for name, step in self.NAMES.items() if step <= self.steps]
         if self.steps >= 9 and word:
-            begun = next((name for name in (*names, *ELSEWHERE) if name.startswith(word)), None)
-            if begun == b'break' or begun in ELSEWHERE:
-                return f'tcpsim: {sorts_told(self.steps) if begun == b"break" else ELSEWHERE[begun]}\n'
+            there = {**words_there(self.steps), **elsewhere(self.steps)}
+            begun = next((name for name in (*names, *there) if name.startswith(word)), None)
+            if begun in there:
+                return f'tcpsim: {there[begun]}\n'
         if len(word) > MOST_WORD or any(name.startswith(word) for name in names):
             return ''
         nearest = min(names, key=lambda name: edits(word, name))
@@ -142,7 +148,7 @@ class Prompt:
 
     def move(self, name, *numbers):
         self.last = name, *numbers
-        before, position = self.debugger.lines, self.debugger.net.position
+        before, position, values = self.debugger.lines, self.debugger.net.position, self.values()
         getattr(self.debugger, name)(*numbers)
         if self.steps < 3:
             return self.debugger.net.dump()
@@ -156,14 +162,26 @@ class Prompt:
         if name == 'reverse' and now > 0:
             passed.append(line_text(now, self.debugger.lines[-1]))
         idle = f'nothing was done: no event before {numbers[0]} ns is left\n' if name == 'until' and now == position else ''
-        return idle + last_shown(passed) + matched
+        return idle + last_shown(passed) + (self.whose() if stops else '') + matched + ''.join(self.displays.lines(self.values(), values))
+
+    def time(self):
+        return self.debugger.lines[-1].time if self.debugger.lines else 0
+
+    def values(self):
+        """Those of the displays here."""
+        return self.displays.values(self.debugger.net, self.time())
+
+    def whose(self):
+        """The line that names the node of the last line, and its flow, or the link that becomes free; none where there are no names."""
+        line, called = self.debugger.lines[-1], self.told.called
+        whose = called(LINK, int(line.names)) if line.flow is None else called(FLOW, line.flow)
+        return f'of {called(NODE, line.node)}, {whose}\n' if isinstance(self.told, Names) else ''
 
     def where(self):
         """The line that says where in the run the session is."""
         net = self.debugger.net
-        time = self.debugger.lines[-1].time if net.position else 0
         end = ', the end' if not net.due() else '' if net.position else ', the beginning'
-        return f'at {net.position} of the run, time {time} ns{end}\n'
+        return f'at {net.position} of the run, time {self.time()} ns{end}\n'
 
     def what_matched(self):
         """The line of the first breakpoint that matches the last line, if one does."""
@@ -249,8 +267,13 @@ class Prompt:
         if len(words) != 1:
             raise Refused('B2')
         flow = self.names.number_of(FLOW, words[0])
-        told = missing(self.debugger.net, flow, self.debugger.drops) if self.steps >= 12 else ''
-        return why(self.debugger.net, flow) + told
+        told = missing(self.debugger.net, flow, self.debugger.drops, self.told) if self.steps >= 12 else ''
+        return why(self.debugger.net, flow, self.told, self.steps) + told
+
+    def on_stalls(self, words):
+        at_most(words, 0)
+        return ''.join(f'goto {position}: {self.told.called(FLOW, flow)} is stalled at {time} ns\n'
+                       for position, flow, time in stalls_of(self.debugger.scenario)) or 'no stall\n'
 
     def on_names(self, words):
         at_most(words, 0)
@@ -283,20 +306,24 @@ class Prompt:
             name = conditions[-1][1][0]
             old = self.debugger.changed_from(conditions[-1][1], position)
             told = f' ({name} from {old}{"ns" * (name == "rto")})'
-        return f'break {place + 1}: {words_of(conditions)}{told}\n'
+        return f'break {place + 1}: {words_of(conditions, self.told)}{told}\n'
 
     def on_breaks(self, words):
         at_most(words, 0)
         return ''.join(map(self.named, range(len(self.debugger.breaks)))) or 'no breakpoint\n'
 
     def on_delete(self, words):
-        if len(words) != 1:
-            raise Refused('B2')
-        if not NUMBER.fullmatch(words[0]):
-            raise Refused('B3')
-        if len(words[0]) > 2 or not 1 <= int(words[0]) <= len(self.debugger.breaks):
-            raise Refused('B5')
-        return f'deleted {words[0].decode()}: {words_of(self.debugger.breaks.pop(int(words[0]) - 1))}\n'
+        taken = self.debugger.breaks.pop(place_in(words, self.debugger.breaks))
+        return f'deleted {words[0].decode()}: {words_of(taken, self.told)}\n'
+
+    def on_display(self, words):
+        place = self.displays.add(display_of(words, self.names)) if words else 0
+        lines = self.displays.lines(self.values(), self.values())
+        return lines[place] if words else ''.join(lines) or 'no display\n'
+
+    def on_undisplay(self, words):
+        taken = self.displays.set.pop(place_in(words, self.displays.set))
+        return f'undisplayed {words[0].decode()}: {taken.words(self.told)}\n'
 
     def on_help(self, words):
         rows, topics = help_in(self.steps), topics_in(self.steps)
@@ -308,6 +335,17 @@ class Prompt:
             return topics[topic]
         _, _, more, example = rows[topic]
         return f'{usage(topic, rows)}{more}{example}\n'
+
+
+def place_in(words, of):
+    """The place from 0 of what the one word behind a name counts from 1."""
+    if len(words) != 1:
+        raise Refused('B2')
+    if not NUMBER.fullmatch(words[0]):
+        raise Refused('B3')
+    if len(words[0]) > 2 or not 1 <= int(words[0]) <= len(of):
+        raise Refused('B5')
+    return int(words[0]) - 1
 
 
 def typed(scenario, lines, steps=BUILT):

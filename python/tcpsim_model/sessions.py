@@ -1,7 +1,8 @@
 """Random lines that are typed at a prompt: valid ones, names cut short, times in each unit, refused ones, empty
 lines, long ones, and spaces of all kinds."""
 from tcpsim_model.debugger import KINDS, MOST, MOST_BREAKS
-from tcpsim_model.conditions import BEHIND, NAMED, OF_LINK, OF_RECEIVER, OF_SENDER, OF_VALUES, PHASES, SIGNS, TIME
+from tcpsim_model.conditions import BEHIND, DISPLAYED, NAMED, OF_LINK, OF_RECEIVER, OF_SENDER, OF_VALUES, PHASES, SIGNS, TIME, VALUE_WORDS
+from tcpsim_model.displays import MOST_DISPLAYS
 from tcpsim_model.grammar import MOST_LINE, NAMES, PLACES, TOPICS
 
 # Numbers and times of a wrong form or out of range, and some at a bound.
@@ -16,9 +17,10 @@ WRONG_TIMES = (b'1.5', b'1.s', b'.5s', b's', b'ms', b'.', b'.s', b'01s', b'00.5s
                b'1.' + b'0' * 30 + b's')
 NO_COMMANDS = (b'bak', b'stepp', b'Step', b'S', b'steps', b'runn', b'x', b'?', b'---', b'#', b'# step', b'0', b'w', b'why', b'quitt',
                b'exit', b'cl ear', b'unti1', b'\xff', b'\0', b'step\t1', b'step\r', b'\tstep', b'\t', b'\r', b'\xc2\xa0', b'\x0b',
-               b'step\xc2\xa01', b'run\x0c', b'gotos', b'goto', b'whe', b'where 1', b'print', b'p', b'print 3', b'watch', b'wa', b'inf', b'i', b'break foo', b'bre', b'infos')
+               b'step\xc2\xa01', b'run\x0c', b'gotos', b'goto', b'whe', b'where 1', b'print', b'p', b'print 3', b'watch', b'wa', b'inf', b'i', b'break foo', b'bre', b'infos', b'stal', b'stall', b'di',
+               b'undo', b'und', b'display foo', b'dispaly', b'stallss')
 # Words of the grammar, which a text can have for names.
-GRAMMAR = (*BEHIND, b'cwnd', b'queue', b'next', *KINDS, b'stall', b'names', b'state', b'why')
+GRAMMAR = (*BEHIND, b'cwnd', b'queue', b'next', *KINDS, b'stall', b'names', b'state', b'why', b'display', b'stalls')
 SPACES = (b' ', b' ', b' ', b' ', b' ', b'  ', b'   ', b'      ')
 
 
@@ -147,6 +149,18 @@ def part(pick, scenario, steps):
     return [sort, place(pick, scenario, steps, sort, *(pick.randrange(count) for _ in range(4)), count)]
 
 
+def displayed(pick, scenario, steps):
+    """The words behind `display`, most of them right."""
+    if pick.random() < 0.15:
+        return []
+    item = pick.choice((b'flow', b'link', *DISPLAYED))
+    count = counts(scenario)[DISPLAYED[item].encode()]
+    whose = place(pick, scenario, steps, DISPLAYED[item].encode(), *(pick.randrange(count) for _ in range(6)), count)
+    if pick.random() < 0.07:
+        item = pick.choice((b'flo', b'node', b'time', b'drop', b'Cwnd', b'change', b'stall', b'cwnd=', b'f', b'display'))
+    return [item, whose]
+
+
 def words_behind(pick, name, scenario, moments, steps):
     """Words that go with a name."""
     if name in (b'step', b'back'):
@@ -163,11 +177,14 @@ def words_behind(pick, name, scenario, moments, steps):
         return part(pick, scenario, steps)
     if name == b'lines':
         return [number(pick, 0, 1, 3, 9, 10, 11, 40, 999, 1000, 1001)] if pick.random() < 0.6 else []
-    if name == b'delete':
+    if name == b'display':
+        return displayed(pick, scenario, steps)
+    if name in (b'delete', b'undisplay'):
         return [number(pick, 0, 1, 1, 1, 2, 2, 3, 5, 64, 65, 100)]
     if name == b'help':
         return pick.choice(([], [cut_short(pick, pick.choice(list(NAMES)))], [cut_short(pick, pick.choice(list(NAMES)))],
-                            [cut_short(pick, pick.choice(list(TOPICS)))], [pick.choice((b'n', b'k', b's', b'w', b'g'))], [pick.choice(NO_COMMANDS[:-3])]))
+                            [cut_short(pick, pick.choice((*TOPICS, *VALUE_WORDS)))], [pick.choice((b'n', b'k', b's', b'w', b'g', b'd', b'u'))],
+                            [pick.choice(NO_COMMANDS)]))
     return []
 
 
@@ -212,7 +229,8 @@ def any_line(pick, scenario, moments, steps):
         return pick.choice((b'', b'', b'', b' ', b'   '))
     if chance < 0.17:
         return pick.choice(NO_COMMANDS)
-    weights = {b'quit': 0.08, b'clear': 0.5, b'run': 2, b'reverse': 2, b'step': 2, b'break': 2 if steps < 11 else 3, b'until': 2, b'goto': 2}
+    weights = {b'quit': 0.08, b'clear': 0.5, b'run': 2, b'reverse': 2, b'step': 2, b'break': 2 if steps < 11 else 3, b'until': 2, b'goto': 2,
+               b'display': 3}
     names = [name for name, step in NAMES.items() if step <= max(steps, 1) or pick.random() < 0.05]
     name = pick.choices(names, [weights.get(name, 1) for name in names])[0]
     words = [cut_short(pick, name) if steps else name, *words_behind(pick, name, scenario, moments, steps)]
@@ -232,6 +250,12 @@ def many_breaks(pick, scenario):
     return many
 
 
+def many_displays(pick, scenario):
+    """Of all that can be displayed more than there may be, where the scenario has so much."""
+    many = [b'display %s %d' % (item, number) for item, sort in DISPLAYED.items() for number in range(counts(scenario)[sort.encode()])]
+    return pick.sample(many, min(len(many), MOST_DISPLAYS + 5))
+
+
 def any_session(pick, scenario, moments, steps):
     """The bytes that are typed."""
     count = 300 if pick.random() < 0.01 else pick.choice((0, 1, 2, 5, 10, 20, 40, 40))
@@ -242,4 +266,9 @@ def any_session(pick, scenario, moments, steps):
         lines[len(many) // 2:len(many) // 2] = [any_line(pick, scenario, moments, steps) for _ in range(5)]
         if steps >= 2:
             lines += [b'breaks'] + [b'delete %d' % pick.randint(1, len(many)) for _ in range(5)] + [b'breaks', pick.choice(many)]
+    if steps >= 13 and pick.random() < 0.15:
+        lines += [b'stalls', b'break stall', pick.choice((b'run', b'run', b'goto 99999', b'reverse')), *(b'why %d' % n for n in range(len(scenario.flows)))]
+    if steps >= 13 and pick.random() < 0.04:
+        many = many_displays(pick, scenario)
+        lines = [*many, *lines, pick.choice(many), b'display', *(b'undisplay %d' % pick.randint(1, len(many)) for _ in range(5)), many[-1], b'step']
     return b'\n'.join(lines) + pick.choice((b'', b'\n'))

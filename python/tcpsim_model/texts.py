@@ -1,8 +1,9 @@
 """What help says of the prompt's grammar after each of its steps: what `grammar` has, which is that of the ninth, and what a later
 step says in its place or besides."""
-from tcpsim_model.grammar import HELP, LAST_OF_HELP, NAMES, SORTS_TOLD, TOPICS
+from tcpsim_model.conditions import DISPLAYED
+from tcpsim_model.grammar import ELSEWHERE, HELP, LAST_OF_HELP, NAMES, SORTS_TOLD, TOPICS
 
-# Of each later step: rows of `help`, each with the name before which it stands if it is new.
+# Of each later step: rows of `help`.
 ROWS = {
     10: {
         b'state': ('state [PART]', 'show all of the state, or of it: node N, link L or flow F',
@@ -31,8 +32,29 @@ ROWS[12] = {
 ROWS[11][b'break'] = ('break COND..', 'stop where all match: node N, flow F, kind K, drop, link L, byte B, a value; or stall [F]',
     ROWS[10][b'break'][2].replace('stall [F]    ', 'cwnd<3000    and other values of a sender, a receiver, a link, or of the time: help values\nstall [F]    '),
     'break flow 0 kind rto')
+ROWS[13] = {
+    b'state': (*HELP[b'state'][:2], ROWS[10][b'state'][2]
+        + 'Of a link offered= and sent= count packets. queue= has those that wait: 4:d:7000@102299200 is data 7000 of flow 4, queued\n'
+        'at 102299200 ns; a is an acknowledgement. Of a sender high= is the greatest nxt= so far, lt= the bytes of limited transmit.\n',
+        'state flow 0'),
+    b'why': ('why F', 'tell what flow F waits for', ROWS[10][b'why'][2].removesuffix('\n')
+        + ' It tells the first byte that is missing\n'
+        'at its receiver, or else the acknowledgement that is missing at its sender, and each drop of that by its line: help goto.\n', 'why 0'),
+    b'stalls': ('stalls', 'list all stalls of the run, each with a goto that goes there',
+        'It lists them as goto 25: flow f is stalled at 9280000 ns: only an alarm of the flow goes on with it from there: help stall.\n'
+        'The session stays where it is.\n', 'stalls'),
+    b'display': ('display [IT]', 'show flow F, link L or a value of either after each move; alone, list them',
+        'flow F       all values of flow F\n'
+        'link L       all values of link L\n'
+        'cwnd F       a value of flow F: cwnd, flight, ssthresh, una, nxt, rto, dups, phase or next\n'
+        'queue L      a value of link L: queue, wait or count\n'
+        'Behind a value stands what it was before the move, where that was another: cwnd f = 8000 (was 4000). A - is no value.\n'
+        'What the values are: help values. Displays are counted from 1.\n', 'display cwnd 0'),
+    b'undisplay': ('undisplay I', 'take display I away',
+        'I is its number, as display lists it; those behind it move up by one.\n', 'undisplay 1'),
+}
 # Before which row of `help` those of a later step stand.
-BEFORE = {b'names': b'help'}
+BEFORE = {b'names': b'help', b'display': b'why', b'undisplay': b'why', b'stalls': b'names'}
 SORTS = {
     11: 'conditions are node N, flow F, kind K, drop, link L, byte B, cwnd, flight, ssthresh, una, nxt, rto, dups, phase, next, queue L, wait L, '
         'count L, time, change V; or stall: see help break',
@@ -62,6 +84,22 @@ PAGES = {
         'flow F beside these asks for the sender or the receiver of flow F, else it is any.\n'
         'break cwnd<3000 flow 0\n'},
 }
+PAGES[13] = {
+    b'numbers': ''.join(PAGES[10][b'numbers'].splitlines(True)[:2])
+        + 'Lines of the trace and states have the numbers, other answers the names. names lists both. In the shell, tcpsim dis FILE\n'
+        'names all by their numbers: n0, l0, f0. Bytes of a flow are counted from 0 too, breakpoints and displays from 1.\n'
+        'names\n',
+    b'stall': ''.join(TOPICS[b'stall'].splitlines(True)[:4])
+        + 'for each stall; stalls lists them all. lines 1 shows the event, which has the number of that flow, or drops a packet of\n'
+        'it. why F tells which alarm is due, and when, and what was dropped.\n'
+        'break stall\n',
+}
+# Behind a command whose words are refused, what there is to type in their place.
+DISPLAYS_TOLD = f'displays are {", ".join(f"{name.decode()} {sort[0].upper()}" for name, sort in DISPLAYED.items())}: see help display'
+# What later steps say in the place of what other debuggers call it.
+INSTEAD = {
+    13: {b'print': 'display shows a value after each move, state flow F all of a flow, state link L of a link: see help display'},
+}
 
 
 def later(of, steps):
@@ -69,12 +107,17 @@ def later(of, steps):
     return [of[step] for step in sorted(of) if step <= steps]
 
 
+def replaced(first, of, steps):
+    """What there is at first, with what the later steps have in its place or besides."""
+    found = dict(first)
+    for said in later(of, steps):
+        found.update(said)
+    return found
+
+
 def help_in(steps):
     """The rows of `help`, in their order."""
-    found = dict(HELP)
-    for rows in later(ROWS, steps):
-        found.update(rows)
-    order = list(HELP)
+    found, order = replaced(HELP, ROWS, steps), list(HELP)
     for name, before in BEFORE.items():
         order.insert(order.index(before), name)
     return {name: found[name] for name in order if name in found and NAMES[name] <= steps}
@@ -86,12 +129,15 @@ def last_of_help(steps):
 
 def topics_in(steps):
     """The pages of what is no name, in their order."""
-    found = dict(TOPICS)
-    for pages in later(PAGES, steps):
-        found.update(pages)
-    return found
+    return replaced(TOPICS, PAGES, steps)
 
 
-def sorts_told(steps):
-    """What is told behind `break` where no condition is."""
-    return [SORTS_TOLD, *later(SORTS, steps)][-1]
+def words_there(steps):
+    """Of a command that takes words of some sorts, which these are."""
+    displays = {b'display': DISPLAYS_TOLD} if steps >= NAMES[b'display'] else {}
+    return {b'break': [SORTS_TOLD, *later(SORTS, steps)][-1], **displays}
+
+
+def elsewhere(steps):
+    """Of names that other debuggers have, what does the same."""
+    return replaced(ELSEWHERE, INSTEAD, steps)

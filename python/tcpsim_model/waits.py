@@ -1,39 +1,47 @@
-"""What a flow waits for: first how it stands, then where its packets are, then its alarms."""
+"""What a flow waits for: first how it stands, then where its packets are, then its alarms. Counts of 1 are told in the singular
+since step 13 of the prompt's grammar."""
 from tcpsim_model.simulate import DELACK, RTO, START
+from tcpsim_model.text import FLOW, LINK, NODE
 
 
-class Numbers:
-    """What answers call a node, a link or a flow: by its number."""
-
-    def called(self, sort, number):
-        return f'{sort} {number}'
-
-
-def why(net, flow, names=Numbers()):
-    """What `why` answers of a flow of the net."""
-    lines = [f'{names.called("flow", flow)} {standing(net, flow)}']
+def why(net, flow, names, steps):
+    """What `why` answers of a flow of the net; `names` has what nodes, links and flows are called."""
+    lines = [f'{names.called(FLOW, flow)} {standing(net, flow, steps)}']
     lines += [f'{head}: {", ".join(found)}' for head, found in (
         ('waits', waiting(net, flow, names)), ('under way', under_way(net, flow, names)), ('alarms', alarms(net, flow))) if found]
     return ''.join(line + '\n' for line in lines)
 
 
-def standing(net, flow):
+def standing(net, flow, steps):
     """How a flow stands: the first of these that holds."""
     sender = net.flows[flow].sender
     end = net.ends[sender]
     if START in net.alarms[sender]:
         return f'is not started: it starts at {net.alarms[sender][START]} ns'
     if end.una == end.total:
-        return f'is complete: all {end.total} bytes are acknowledged'
+        return f'is complete: all {counted(end.total, "byte", steps)} {be(end.total, steps)} acknowledged'
     if net.is_stalled(flow):
-        return f'is stalled: {end.dups} duplicate acknowledgements, and {awaited(net, flow)}'
+        return f'is stalled: {counted(end.dups, "duplicate acknowledgement", steps)}, and {awaited(net, flow)}'
     if end.nxt == end.total:
-        return f'has sent all {end.total} bytes: {end.una} are acknowledged'
+        return f'has sent all {counted(end.total, "byte", steps)}: {end.una} {be(end.una, steps)} acknowledged'
     flight = end.nxt - end.una
+    told = f'{counted(flight, "byte", steps)} in flight, a segment of {end.mss}'
     if flight + end.mss > min(end.cwnd, end.rwnd):
         window, size = ('cwnd', end.cwnd) if end.cwnd <= end.rwnd else ('rwnd', end.rwnd)
-        return f'sends no more: {flight} bytes in flight, a segment of {end.mss}, {window} {size}'
-    return f'may send at its next acknowledgement: {flight} bytes in flight, a segment of {end.mss}, cwnd {end.cwnd}'
+        return f'sends no more: {told}, {window} {size}'
+    return f'may send at its next acknowledgement: {told}, cwnd {end.cwnd}'
+
+
+def is_one(count, steps):
+    return count == 1 and steps >= 13
+
+
+def counted(count, noun, steps):
+    return f'{count} {noun}{"" if is_one(count, steps) else "s"}'
+
+
+def be(count, steps):
+    return 'is' if is_one(count, steps) else 'are'
 
 
 def awaited(net, flow):
@@ -59,13 +67,13 @@ def alarms(net, flow):
 
 def waiting(net, flow, names):
     """The packets of a flow that wait, queue by queue, each with its place there from 1."""
-    return [f'{sort_of(packet)} at place {place} of {names.called("link", port.number)}' for port in net.ports
+    return [f'{sort_of(packet)} at place {place} of {names.called(LINK, port.number)}' for port in net.ports
             for place, (packet, _) in enumerate(port.queue.entries, 1) if packet[0] == flow]
 
 
 def under_way(net, flow, names):
     """The packets of a flow on their way over a link, in the order in which they arrive."""
-    return [f'{sort_of(packet)} to {names.called("node", node)} at {time} ns' for time, node, source, _, packet in sorted(net.pending, key=lambda it: it[:4])
+    return [f'{sort_of(packet)} to {names.called(NODE, node)} at {time} ns' for time, node, source, _, packet in sorted(net.pending, key=lambda it: it[:4])
             if source != 0 and packet[0] == flow]
 
 

@@ -239,7 +239,7 @@ def test_ctrl_c_ends_a_move_and_keeps_the_session(terminal, long):
     position = int(re.search(r'^at (\d+) of the run', moved, re.M)[1])
     session.ask('delete 1')
     kept = {line: session.ask(line) for line in ('breaks', 'lines 3', 'state')}
-    assert kept['breaks'] == 'break 1: flow 0 kind rto\nbreak 2: stall\n' and position > 7
+    assert kept['breaks'] == 'break 1: flow f kind rto\nbreak 2: stall\n' and position > 7
     for line in ('until 1000000s', 'step 1000000000000'):
         session.ask('clear')
         session.ask('break kind rto flow 0')
@@ -288,6 +288,23 @@ def test_ctrl_c_at_the_prompt_clears_the_line(terminal):
     session.clear()
     assert soon(lambda: session.ask('state').startswith('at 0\n'))
     assert session.process() == before
+
+
+def test_displays_are_kept(terminal, long):
+    session = terminal(long)
+    session.begin()
+    for line in ('display flow f', 'display cwnd f', 'display queue a', 'undisplay 2', 'step 7'):
+        session.ask(line)
+    kept = {line: session.ask(line) for line in ('display', 'breaks', 'state')}
+    assert [line.split(' = ')[0] for line in kept['display'].splitlines()] == ['display 1: flow f: cwnd', 'display 2: queue a']
+    assert 'ended; the session is at 7 of the run, with its 2 displays\n' in session.interrupt('until 1000000s')
+    assert {line: session.ask(line) for line in kept} == kept
+    session.ask('break stall')
+    assert 'with its breakpoint and its 2 displays\n' in session.interrupt('stalls')
+    assert {line: session.ask(line) for line in ('display', 'state')} == {line: kept[line] for line in ('display', 'state')}
+    # A move says what was before it, which the process that was started again saw too.
+    assert session.ask('').splitlines()[-2].startswith('display 1: flow f: cwnd = ') and session.ask('display').startswith('display 1: flow f: ')
+    assert session.end('quit\r') == 0
 
 
 # ---- a program that dies
@@ -403,14 +420,14 @@ SORTS = ['node', 'flow', 'kind', 'drop', 'link', 'byte']
     ('break flow ', list('01')), ('break stall ', list('01')), ('break stall 1 ', []), ('break byte ', []), ('why ', list('01')),
     ('delete ', list('12')), ('help ', ['numbers', 'trace', 'kinds', 'stall', *COMMANDS]), ('step ', []), ('run ', []), ('until ', []), ('x ', [])])
 def test_words_that_fit(completion, before, words):
-    assert [word for word, _ in completion.words(before, ('drop', 'stall 1'))] == words
+    assert [word for word, _ in completion.words(before, {'breakpoint': ('drop', 'stall 1')})] == words
 
 
 def test_words_have_their_meaning(completion):
     assert dict(completion.words(''))['why'] == 'tell what flow F waits for'
     assert dict(completion.words('break '))['drop'] == 'a packet is dropped'
     assert dict(completion.words('break kind '))['rto'] == 'the retransmission timer of flow F ends'
-    assert completion.words('delete ', ('drop', 'stall 1')) == [('1', 'drop'), ('2', 'stall 1')]
+    assert completion.words('delete ', {'breakpoint': ('drop', 'stall 1'), 'display': ('flow fa',)}) == [('1', 'drop'), ('2', 'stall 1')]
 
 
 @pytest.mark.parametrize('before, words', [
@@ -445,7 +462,8 @@ def test_tab(terminal):
     session = terminal(TWO)
     session.begin()
     assert session.complete('rev').endswith('reverse ')
-    assert session.complete('sta').endswith('state ')
+    assert session.complete('stat').endswith('state ') and session.complete('stal').endswith('stalls ')
+    assert session.complete('display fli').endswith('display flight ')
     assert session.complete('break ki').endswith('break kind ')
     assert session.complete('break kind del').endswith('break kind delack ')
     session.type('bre\t')
@@ -502,6 +520,8 @@ def test_colours(terminal):
     assert '\033[31mdrop=lost:0:4000\033[0m' in moved and '\033[36mstart\033[0m' in moved
     assert re.sub(r'\033\[\d+m', '', moved) == at_once(TWO, 'step 6')[0]
     assert '\033[31mrefused B1' in session.ask('stpe')
+    assert session.ask('display cwnd f') == 'display 1: cwnd f = 5000\n'
+    assert session.ask('back').endswith('display 1: cwnd f = 4000\033[1m (was 5000)\033[0m\n')
     session = terminal(TWO, NO_COLOR='', TERM='dumb')
     session.begin()
     assert '\033' not in session.ask('step 6')

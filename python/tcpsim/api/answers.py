@@ -97,7 +97,7 @@ class Why:
     under_way: tuple[PacketUnderWay, ...]
     alarms: tuple[Alarm, ...]
     missing: Missing | None     # None where nothing is
-    text: str                   # in words, with the scenario's names
+    text: str                   # the prompt's answer
 
     @property
     def stalled(self) -> bool:
@@ -111,36 +111,30 @@ class Why:
 REASONS = {'lost by name': 'lost', 'dropped (full)': 'full', 'dropped (codel)': 'codel'}
 
 
-def missing_of(line: str, names: Names) -> Missing:
+def missing_of(line: str) -> Missing:
     """What the last line of an answer to `why` tells."""
     head, *drops = line.split(', ')
     at, byte = re.fullmatch(r'missing at the (receiver|sender): .* (\d+)', head).groups()
-    found = (re.fullmatch(r'(\w+) (\d+) (.*) at link (\d+) in line (\d+)', drop).groups() for drop in drops)
-    return Missing(at, int(byte), tuple(PastDrop(kind, int(number), REASONS[reason], names.links[link], int(n))
+    found = (re.fullmatch(r'(\w+) (\d+) (.*) at link (\w+) in line (\d+)', drop).groups() for drop in drops)
+    return Missing(at, int(byte), tuple(PastDrop(kind, int(number), REASONS[reason], link, int(n))
                                         for kind, number, reason, link, n in found))
 
 
-def why_of(text: str, names: Names) -> Why:
-    """What `why` answered."""
+def why_of(text: str) -> Why:
+    """What `why` answered over a text, whose names it has."""
     parts = {'waits': (), 'under way': (), 'alarms': ()}
     first, *others = text.splitlines()
-    missing = next((missing_of(line, names) for line in others if line.startswith('missing ')), None)
+    missing = next((missing_of(line) for line in others if line.startswith('missing ')), None)
     for line in others:
         head, _, rest = line.partition(': ')
         parts[head] = tuple(rest.split(', '))
-    waits = (re.fullmatch(r'(\w+) (\d+) at place (\d+) of link (\d+)', word) for word in parts['waits'])
-    ways = (re.fullmatch(r'(\w+) (\d+) to node (\d+) at (\d+) ns', word) for word in parts['under way'])
-    alarms = (re.fullmatch(r'(\w+) at (\d+) ns', word) for word in parts['alarms'])
-    _, number, stands = first.split(' ', 2)
-    flow = names.flows[number]
-    text = '\n'.join([f'flow {flow} {stands}', *others])
-    text = re.sub(r'(of|at) link (\d+)', lambda found: f'{found[1]} link {names.links[found[2]]}', text)
-    text = re.sub(r'to node (\d+)', lambda found: f'to node {names.nodes[found[1]]}', text)
-    return Why(flow, stands, tuple(WaitingPacket(kind, int(no), int(place), names.links[link]) for kind, no, place, link in
-                                   (found.groups() for found in waits)),
-               tuple(PacketUnderWay(kind, int(no), names.nodes[node], int(time)) for kind, no, node, time in
-                     (found.groups() for found in ways)),
-               tuple(Alarm(found[1], int(found[2])) for found in alarms), missing, text)
+    waits = (re.fullmatch(r'(\w+) (\d+) at place (\d+) of link (\w+)', word).groups() for word in parts['waits'])
+    ways = (re.fullmatch(r'(\w+) (\d+) to node (\w+) at (\d+) ns', word).groups() for word in parts['under way'])
+    alarms = (re.fullmatch(r'(\w+) at (\d+) ns', word).groups() for word in parts['alarms'])
+    _, flow, stands = first.split(' ', 2)
+    return Why(flow, stands, tuple(WaitingPacket(kind, int(number), int(place), link) for kind, number, place, link in waits),
+               tuple(PacketUnderWay(kind, int(number), node, int(time)) for kind, number, node, time in ways),
+               tuple(Alarm(kind, int(time)) for kind, time in alarms), missing, text.rstrip('\n'))
 
 
 # ---- the state

@@ -204,7 +204,7 @@ class DebugSession:
 
     def why(self, flow: str | int) -> Why:
         """What a flow waits for."""
-        return why_of(self.ask(f'why {self._number("flow", flow)}'), self.names)
+        return why_of(self.ask(f'why {self._number("flow", flow)}'))
 
     @property
     def state(self) -> NetNow:

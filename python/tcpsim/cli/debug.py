@@ -52,7 +52,7 @@ def hold(words: list[str], source: bytes) -> int:
     try:
         signal.signal(signal.SIGINT, nothing)
         completion = Completion(session.ask)
-        keyboard = Keyboard(PROMPT.decode(), lambda before: completion.words(before, session.breakpoints))
+        keyboard = Keyboard(PROMPT.decode(), lambda before: completion.words(before, session.counted))
         note(HINT)
         while (line := keyboard.line()) is not None:
             try:

@@ -4,11 +4,14 @@ names, from `names`, and from the numbers that it names where one is refused. No
 A line of `help` is a usage and what it does: `why F        tell what flow F waits for`. Words in capitals are places; behind
 a colon stand the words that can fill them, each with a place of its own: `.. or of it: node N, link L or flow F`. On the
 page of a command has each of these a row as well; where it ends with `: help kinds`, the rows of that page fill its place.
+Where the line lists no words for a place of several letters, the rows have them: `flow F       all values of flow F`. A row
+can stand for several: `queue L      a value of link L: queue, wait or count`.
 """
 from __future__ import annotations
 
 import re
-from collections.abc import Callable, Sequence
+from collections.abc import Callable, Mapping, Sequence
+from types import MappingProxyType
 
 from tcpsim.prompt import Answer
 
@@ -25,8 +28,12 @@ SORTS = re.compile(r'conditions are ([A-Za-z, ]+); or ')
 # A row of `names`, where the program has it: a sort, a number, and the name.
 NAMED = re.compile(r'^(([a-z])[a-z]* \d+) (\S+)$', re.M)
 COMMANDS = 'a command'          # in a list: any of them
-OF_A_BREAKPOINT = re.compile(r'breakpoint ([A-Z])\b')
+COUNTED_FROM_1 = re.compile(r'\b(breakpoint|display) ([A-Z])\b')
+# A row of a page with a word and its place, and what it means; the words where it is one of several.
+PLACED = re.compile(r'^([a-z]+) ([A-Z])  +([^ ].*)$', re.M)
+ONE_OF = re.compile(r'a [a-z]+ of [a-z]+ [A-Z]: (.*)$')
 NO_NUMBER = '?'
+NONE: Mapping[str, Sequence[str]] = MappingProxyType({})
 
 Word = tuple[str, str]          # and what it means
 
@@ -44,6 +51,12 @@ class Usage:
         self.rows = dict(ROW.findall(page())) if listed else {}
         self.items, self.alone = ({found[1]: found[2] for found in map(ITEM.fullmatch, BETWEEN.split(part)) if found}
                                   for part in listed.partition(ALONE)[::2])
+        if self.place and len(self.place) > 1 and not listed:
+            for word, place, meaning in PLACED.findall(page()):
+                several = ONE_OF.match(meaning)
+                words = BETWEEN.split(several[1]) if several else [word]
+                self.items.update(dict.fromkeys(words, place))
+                self.rows.update(dict.fromkeys(words, meaning.partition(': ')[0]))
 
     def words(self, items: dict[str, str | None]) -> list[Word]:
         """Words that are listed, with what they mean."""
@@ -72,8 +85,9 @@ class Completion:
             for sort in {row[1] for row in rows}:
                 self._numbers[sort.upper()] = [(name, numbered) for numbered, of, name in rows if of == sort]
 
-    def words(self, before: str, breakpoints: Sequence[str] = ()) -> list[Word]:
-        """What can stand behind the words of a line, each with what it means."""
+    def words(self, before: str, counted: Mapping[str, Sequence[str]] = NONE) -> list[Word]:
+        """What can stand behind the words of a line, each with what it means. `counted` has the words of the breakpoints and of
+        the displays."""
         given = before.split()
         if not given:
             return [(name, usage.what) for name, usage in self._usages.items()]
@@ -86,13 +100,14 @@ class Completion:
             return [word for topic in topics for word in self._rows[topic]] or self._numbers.get(last, [])
         if not given[1:]:
             found = usage.words({**usage.items, **usage.alone}) + (self.words('') if usage.commands else [])
-            return found or self._filling(usage, breakpoints)
+            return found or self._filling(usage, counted)
         if not usage.many or set(given[1:]) & set(usage.alone) or given[-1] in usage.signed:
             return []
         return usage.words({word: place for word, place in usage.items.items() if word not in given[1:]})
 
-    def _filling(self, usage, breakpoints):
+    def _filling(self, usage, counted):
         """The numbers that can fill the one place of a command."""
-        if usage.place in OF_A_BREAKPOINT.findall(usage.what):
-            return [(str(number), words) for number, words in enumerate(breakpoints, 1)]
+        for what, place in COUNTED_FROM_1.findall(usage.what):
+            if place == usage.place:
+                return [(str(number), words) for number, words in enumerate(counted.get(what, ()), 1)]
         return self._numbers.get(usage.place, [])

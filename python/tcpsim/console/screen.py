@@ -17,7 +17,9 @@ COLOURS = (
     (re.compile(r'(\bdrop=\S+)'), (RED,)),
     (re.compile(r'^(at \d+ of the run, .*)$', re.M), (BOLD,)),
     (re.compile(r'^(\.\. \d+ more)$', re.M), (FAINT,)),
+    (re.compile(r'^(of node \w+, .*)$', re.M), (FAINT,)),
     (re.compile(r'^(break \d+: .*)$', re.M), (GREEN,)),
+    (re.compile(r'( \(was [^)]*\))'), (BOLD,)),
 )
 # less ends where all is on the screen, takes colours, and leaves what it showed, as git has it.
 LESS = 'FRX'

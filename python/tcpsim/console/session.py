@@ -18,9 +18,9 @@ from tcpsim.prompt import Answer, Prompt, PromptEnded
 
 # What a move is answered: where in the run it came to. Where the session is can be asked too, and is no move.
 MOVED = re.compile(r'^at (\d+) of the run, .*$(?!\nnext: )', re.M)
-# What a session keeps beside its position: the command that lists it, a line of the list, and the command that sets it.
-LISTS = (('breaks', re.compile(r'^break \d+: (.*)$', re.M), 'break'),
-         ('display', re.compile(r'^display \d+: ([^:]*)', re.M), 'display'))
+# What a session keeps beside its position: what it is, the command that lists it, a line of the list, and the command that sets it.
+LISTS = (('breakpoint', 'breaks', re.compile(r'^break \d+: (.*)$', re.M), 'break'),
+         ('display', 'display', re.compile(r'^display \d+: (\w+ \w+)', re.M), 'display'))
 
 
 class Lost(Refused):
@@ -59,9 +59,10 @@ class Session:
             raise
 
     @property
-    def breakpoints(self) -> list[str]:
-        """The words of the breakpoints, in the order of their numbers."""
-        return [line.partition(' ')[2] for line in self._kept.lines if line.startswith('break ')]
+    def counted(self) -> dict[str, list[str]]:
+        """The words of the breakpoints and of the displays, in the order of their numbers."""
+        return {what: [line.removeprefix(f'{setting} ') for line in self._kept.lines if line.startswith(f'{setting} ')]
+                for what, _, _, setting in LISTS}
 
     def ask(self, line: str) -> Answer:
         """What a line is answered. Interrupted where Ctrl-C came meanwhile; Lost where the process was killed; PromptEnded
@@ -97,7 +98,7 @@ class Session:
         moves = MOVED.findall(answer.text)
         if moves:
             self._anew = False
-        listed = tuple(f'{setting} {words}' for listing, row, setting in LISTS
+        listed = tuple(f'{setting} {words}' for _, listing, row, setting in LISTS
                        for words in row.findall(self._prompt.ask(listing).text))
         return Kept(int(moves[-1]), listed, line if line.strip() else self._kept.move) if moves else \
             Kept(self._kept.position, listed, self._kept.move)
@@ -107,9 +108,8 @@ class Session:
         self._prompt, self._anew = Prompt(self._words, self._source, self._kept.again()), True
 
     def _where(self):
-        count = len(self.breakpoints)
-        has = f', with {"its breakpoint" if count == 1 else f"its {count} breakpoints"}' if count else ''
-        return f'the session is at {self._kept.position} of the run{has}'
+        has = [f'its {what}' if len(words) == 1 else f'its {len(words)} {what}s' for what, words in self.counted.items() if words]
+        return f'the session is at {self._kept.position} of the run{", with " * bool(has)}{" and ".join(has)}'
 
 
 def how_ended(status: int) -> str:
