@@ -1,12 +1,9 @@
 -- The first breakpoint that matches a line, and whether a run is at its end.
-use Rattle.std.proofs.Common.{◌≡◌, ◌<◌, ◌≤◌, ◌+◌, ◌∙◌, ℕ, List, ◌∷◌, ◌++◌, Bool, true, false, length, take, drop, get_or, refl, sym, ap, subst, arith, Option, Some, None, length-append, true≢false, Result, Ok, Err, IfOk}
-use Rattle.std.specs.Prelude.{◌↔◌, IsTrue, is_some}
-use Rattle.std.proofs.Math.Seq.{get_or-append_seam}
+use Rattle.std.proofs.Common.{◌≡◌, ◌<◌, ◌≤◌, ◌+◌, ◌∙◌, ℕ, List, ◌∷◌, ◌++◌, Bool, true, false, length, take, drop, get_or, sym, ap, subst, arith, Some, Result, Ok, Err, IfOk}
 use Rattle.std.proofs.lemmas.List.{drop_more, length-take-le, take-append-drop, get_or-take}
 use Rattle.node_core.specs.TraceLine.{TraceLine}
 use Rattle.table_run.specs.State.{State}
 use Rattle.debugger.specs.declared.breaks.Break.{Break}
-use Rattle.debugger.specs.declared.breaks.Hit.{Hit}
 use Rattle.debugger.specs.declared.seen.Seen.{Seen}
 use Rattle.debugger.specs.Seen.{seen_in}
 use Rattle.debugger.specs.Breaks.{Matches, IsHit, HitsFirst, IsFirstHit}
@@ -39,20 +36,6 @@ module _ (breaks : List Break) (old : State) (line : TraceLine) (new : State) wh
 
   pub hits_none : (n : ℕ) → length breaks ≤ n → NoneOfFirst n → ¬ IsHit breaks old line new
   hits_none n all none = λ has. none has.0 has.1 (omega (arith, has.2, all)) (subst (λ (c : Break). Matches c old line new) (sym has.3) has.4)
-
-  -- one of them matches where there is a first
-  pub hit_first : (hit : Hit) → HitsFirst breaks old line new hit → IsHit breaks old line new
-  hit_first hit first = (length first.before, hit.breakpoint, within, there, first.matches)
-    where
-      within : length first.before < length breaks
-      within = let size = ap length first.parted in let both = length-append first.before (hit.breakpoint ∷ first.after) in omega (arith, size, both)
-
-      there : get_or breaks (length first.before) hit.breakpoint ≡ hit.breakpoint
-      there = ap (λ l. get_or l (length first.before) hit.breakpoint) first.parted ∙ get_or-append_seam first.before hit.breakpoint first.after hit.breakpoint
-
-  pub found_any : (o : Option Hit) → IsFirstHit breaks old line new o → IsTrue (is_some o) ↔ IsHit breaks old line new
-  found_any None none = (λ e. absurd (true≢false (sym e)), λ hit. absurd (none hit))
-  found_any (Some hit) first = (λ _. hit_first hit first, λ _. refl)
 
 -- what is told of the line to a position
 pub last_event : (start : State) (breaks : List Break) (old new : Reached) (line : TraceLine) (p : ℕ) (r : Result LastEvent MoveFault) → Passes start old → Stepped old (Some line) new → p ≡ new.position

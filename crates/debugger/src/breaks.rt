@@ -5,8 +5,7 @@ ghost use Rattle.node_core.specs.TraceLine.{shown};
 ghost use Rattle.net_machine.specs.Run.{Reached, IsRun, Stepped};
 ghost use Rattle.flow_waits.specs.Stalled.{becomes_stalled as becomes_stalled_by};
 ghost use Rattle.debugger.specs.Breaks.{flow_of, kind_of, byte_of, is_drop, is_drop_of_byte, link_of_act, is_at_link, is_sent_of, sends_own, asking, asks_nothing, IsOfByte, MeetsLine, Stalls, Matches, MayMatch, IsHit, IsFirstHit, asks_unshown, AsksUnshown, IsLineHit, IsMayHit, IsTakenOut};
-ghost use Rattle.debugger.specs.Values.{MeetsKept};
-ghost use Rattle.debugger.specs.Seen.{MeetsStates, seen_in, AreSeen};
+ghost use Rattle.debugger.specs.Seen.{seen_in, AreSeen};
 
 use crate::seen::Seen;
 use crate::values::{ValueCondition, Values, are_same_values};
@@ -370,24 +369,19 @@ impl Break {
     ) -> Result<bool, AllocError>
         ensures { (before : Reached) → IsRun before → Stepped before (Some (shown line.now)) net.now → was.now ≡ seen_in before.state self.now.values → IfOk result (λ found. IsTrue found ↔ Matches self.now before.state (shown line.now) net.now.state) }
     {
-        if self.meets_line(line) {
-            self.meets_more(was, alloc, net, line)
+        // First what `may_hit` has left open: it has looked at the line.
+        if self.values.meets_after(was, net, line) {
+            self.meets_shown(alloc, net, line)
         } else {
             Ok(false)
         }
     }
 
-    /// Whether what lines do not show is as asked after a line, after which a net stands.
-    fn meets_more(
-        &self,
-        was: &Seen,
-        alloc: Global,
-        net: &Net,
-        line: &Line,
-    ) -> Result<bool, AllocError>
-        ensures { (before : Reached) → IsRun before → Stepped before (Some (shown line.now)) net.now → was.now ≡ seen_in before.state self.now.values → IfOk result (λ found. IsTrue found ↔ ((MeetsKept self.now.values line.now.after × MeetsStates self.now.values before.state (shown line.now) net.now.state) × IfSome self.now.stall (λ flow. Stalls flow before.state net.now.state))) }
+    /// Whether a line, after which a net stands, meets the conditions on what lines show, and stalls the flow that is asked for.
+    fn meets_shown(&self, alloc: Global, net: &Net, line: &Line) -> Result<bool, AllocError>
+        ensures { (before : Reached) → IsRun before → Stepped before (Some (shown line.now)) net.now → IfOk result (λ found. IsTrue found ↔ (MeetsLine self.now (shown line.now) × IfSome self.now.stall (λ flow. Stalls flow before.state net.now.state))) }
     {
-        if self.values.meets_after(was, net, line) {
+        if self.meets_line(line) {
             stalls_as_asked(self.stall, alloc, net, line)
         } else {
             Ok(false)
@@ -478,12 +472,12 @@ fn is_same(a: &Break, b: &Break) -> bool
     }
 }
 
-/// The breakpoint at an index.
-fn break_at(breaks: &[Break], index: usize) -> Break
+/// The breakpoint at an index, where it lies.
+fn break_at(breaks: &[Break], index: usize) -> &Break
     requires { index < length breaks.now }
-    ensures { (other : Break) → slice_index_or breaks.now index other ≡ result }
+    ensures { (other : Break) → slice_index_or breaks.now index other ≡ result.now }
 {
-    breaks[index]
+    &breaks[index]
 }
 
 /// Whether a breakpoint is among these.
@@ -492,19 +486,19 @@ pub fn is_among(breaks: &[Break], b: Break) -> bool
 {
     for index in 0..breaks.len() {
         let other = break_at(breaks, index);
-        if is_same(&other, &b) {
+        if is_same(other, &b) {
             return true;
         }
     }
     false
 }
 
-/// What the breakpoint at an index saw.
-fn seen_at(seen: &[Seen], index: usize) -> Seen
+/// What the breakpoint at an index saw, where it lies.
+fn seen_at(seen: &[Seen], index: usize) -> &Seen
     requires { index < length seen.now }
-    ensures { (other : Seen) → slice_index_or seen.now index other ≡ result }
+    ensures { (other : Seen) → slice_index_or seen.now index other ≡ result.now }
 {
-    seen[index]
+    &seen[index]
 }
 
 /// The first of these breakpoints that matches a line, after which a net stands, with what they saw of the state
@@ -522,11 +516,11 @@ fn first_of(
     for index in 0..breaks.len() {
         let breakpoint = break_at(breaks, index);
         let was = seen_at(seen, index);
-        match breakpoint.matches(&was, alloc, net, line) {
+        match breakpoint.matches(was, alloc, net, line) {
             Ok(true) => {
                 return Ok(Some(Hit {
                     number: index as u64 + 1,
-                    breakpoint,
+                    breakpoint: *breakpoint,
                     was: was.change,
                 }));
             }
@@ -535,6 +529,29 @@ fn first_of(
         }
     }
     Ok(None)
+}
+
+/// Whether one of these breakpoints matches a line, after which a net stands, with what they saw of the state before it.
+fn one_matches(
+    breaks: &[Break],
+    seen: &[Seen],
+    alloc: Global,
+    net: &Net,
+    line: &Line,
+) -> Result<bool, AllocError>
+    requires { length seen.now ≡ length breaks.now }
+    ensures { (before : Reached) → IsRun before → Stepped before (Some (shown line.now)) net.now → AreSeen breaks.now before.state seen.now → IfOk result (λ found. IsTrue found ↔ IsHit breaks.now before.state (shown line.now) net.now.state) }
+{
+    for index in 0..breaks.len() {
+        let b = break_at(breaks, index);
+        let was = seen_at(seen, index);
+        match b.matches(was, alloc, net, line) {
+            Ok(true) => return Ok(true),
+            Ok(false) => {}
+            Err(fault) => return Err(fault),
+        }
+    }
+    Ok(false)
 }
 
 /// The breakpoints that are set, in the order in which they were.
@@ -651,15 +668,17 @@ impl Breaks {
     }
 
     /// Whether one of them matches a line, after which a net stands, with what they saw of the state before it.
-    #[tactic(none)]
     pub fn hits(&self, seen: &[Seen], net: &Net, line: &Line) -> Result<bool, AllocError>
         requires { length seen.now ≡ length self.now }
         ensures { (before : Reached) → IsRun before → Stepped before (Some (shown line.now)) net.now → AreSeen self.now before.state seen.now → IfOk result (λ found. IsTrue found ↔ IsHit self.now before.state (shown line.now) net.now.state) }
     {
-        match self.first_hit(seen, net, line) {
-            Ok(hit) => Ok(hit.is_some()),
-            Err(fault) => Err(fault),
-        }
+        one_matches(
+            self.items.as_slice(),
+            seen,
+            *self.items.allocator(),
+            net,
+            line,
+        )
     }
 
     /// Whether one of them may match a line, by which no flow becomes stalled where that is quiet.

@@ -50,7 +50,7 @@ fn phase_in(flow: u16, net: &Net) -> Reading
     ensures { result ≡ as_phase (sender_of flow net.now.state.parts) }
 {
     match fields_in(flow, net.nodes()) {
-        Some(fields) => Reading::Phase(phase_of(&SenderShown::of(&fields))),
+        Some(fields) => Reading::Phase(phase_of(&SenderShown::of(fields))),
         None => Reading::Nothing,
     }
 }

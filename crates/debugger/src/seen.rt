@@ -252,14 +252,14 @@ fn sender_value(value: SenderValue, fields: &SenderFields) -> u64
     }
 }
 
-/// What the sender at a node keeps, where it is the one that is asked for.
-fn fields_for(flow: u16, node: &Node) -> Option<SenderFields>
-    ensures { result ≡ sender_for flow (sender_in node.now.part.role) }
+/// What the sender at a node keeps, where it lies, if it is the one that is asked for.
+fn fields_for(flow: u16, node: &Node) -> Option<&SenderFields>
+    ensures { option_copied result ≡ sender_for flow (sender_in node.now.part.role) }
 {
     match node.sender() {
         Some((own, sender)) => {
             if own == flow {
-                Some(*sender.as_fields())
+                Some(sender.as_fields())
             } else {
                 None
             }
@@ -268,9 +268,9 @@ fn fields_for(flow: u16, node: &Node) -> Option<SenderFields>
     }
 }
 
-/// What the sender of a flow keeps.
-pub(crate) fn fields_in(flow: u16, nodes: &[Node]) -> Option<SenderFields>
-    ensures { result ≡ sender_of flow (parts_of nodes.now) }
+/// What the sender of a flow keeps, where it lies.
+pub(crate) fn fields_in(flow: u16, nodes: &[Node]) -> Option<&SenderFields>
+    ensures { option_copied result ≡ sender_of flow (parts_of nodes.now) }
 {
     for node in nodes {
         if let Some(fields) = fields_for(flow, node) {
@@ -285,7 +285,7 @@ fn sender_value_in(value: SenderValue, flow: u16, nodes: &[Node]) -> Option<u64>
     ensures { result ≡ option_map (sender_value value) (sender_of flow (parts_of nodes.now)) }
 {
     match fields_in(flow, nodes) {
-        Some(fields) => Some(sender_value(value, &fields)),
+        Some(fields) => Some(sender_value(value, fields)),
         None => None,
     }
 }

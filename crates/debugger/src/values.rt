@@ -1,5 +1,5 @@
 //! Conditions on values: those of a flow's sender and receiver, those of a link, and the moment.
-ghost use Rattle.std.specs.Prelude.{◌≡◌, ◌↔◌, IsTrue, IfSome, Some};
+ghost use Rattle.std.specs.Prelude.{◌≡◌, ◌↔◌, IsTrue, IfSome, Some, option_copied};
 ghost use Rattle.node_core.specs.TraceLine.{shown};
 ghost use Rattle.net_machine.specs.Run.{Reached, IsRun, Stepped};
 ghost use Rattle.debugger.specs.Values.{no_values, asking_value, HoldsOf, phase_of, cwnd_after, flight_after, ssthresh_after, una_after, nxt_after, phase_after, next_after, MeetsWindows, MeetsBytes, MeetsValues, sender_after, after_at, rto_after, dups_after, asks_kept, MeetsKept};
@@ -276,9 +276,9 @@ fn is_in_phase(asked: Option<Phase>, after: &After) -> bool
     }
 }
 
-/// What the sender at a node of a net keeps, where one is.
-fn fields_at(net: &Net, node: u16) -> Option<SenderFields>
-    ensures { result ≡ sender_after (after_at net.now.state node) }
+/// What the sender at a node of a net keeps, where it lies; none where there is no sender.
+fn fields_at(net: &Net, node: u16) -> Option<&SenderFields>
+    ensures { option_copied result ≡ sender_after (after_at net.now.state node) }
 {
     let nodes = net.nodes();
     let place = usize::from(node);
@@ -286,7 +286,7 @@ fn fields_at(net: &Net, node: u16) -> Option<SenderFields>
         return None;
     }
     match nodes[place].sender() {
-        Some((_, sender)) => Some(*sender.as_fields()),
+        Some((_, sender)) => Some(sender.as_fields()),
         None => None,
     }
 }

@@ -2,18 +2,17 @@ use Rattle.std.proofs.Common.{sym, ◌∙◌, true≢false}
 use Rattle.std.specs.Prelude.{◌↔◌, IsTrue, IfSome}
 use Rattle.std.proofs.lemmas.Result.{IfOk-weaker}
 use Rattle.node_core.specs.TraceLine.{shown}
-use Rattle.debugger.specs.Breaks.{Stalls, Matches}
-use Rattle.debugger.specs.Values.{MeetsKept}
-use Rattle.debugger.specs.Seen.{MeetsStates}
+use Rattle.debugger.specs.Breaks.{MeetsLine, Stalls, Matches}
 use Rattle.debugger.proofs.breaks.Break.matches.Goals as goal
 
-pub returns-then-meets_line : goal.returns-then-meets_line
-returns-then-meets_line c = λ before is stepped was.
+pub returns-then-meets_after : goal.returns-then-meets_after
+returns-then-meets_after c = λ before is stepped was.
     let self = c.args.self.now in
     let line = shown c.args.line.now in
     let after = c.args.net.now.state in
-    IfOk-weaker c.meets_more.result (λ found. IsTrue found ↔ ((MeetsKept self.values line.after × MeetsStates self.values before.state line after) × IfSome self.stall (λ flow. Stalls flow before.state after))) (λ found. IsTrue found ↔ Matches self before.state line after)
-    (λ found e. (λ t. record { meets = c.meets_line.ensures.0 c.if-meets_line.true; kept = (e.0 t).0.0; states = (e.0 t).0.1; stalls = (e.0 t).1 }, λ matched. e.1 ((matched.kept, matched.states), matched.stalls))) (c.meets_more.ensures before is stepped was)
+    let more = (c.meets_after.ensures before is stepped was).0 c.if-meets_after.true in
+    IfOk-weaker c.meets_shown.result (λ found. IsTrue found ↔ (MeetsLine self line × IfSome self.stall (λ flow. Stalls flow before.state after))) (λ found. IsTrue found ↔ Matches self before.state line after)
+    (λ found e. (λ t. record { meets = (e.0 t).0; kept = more.0; states = more.1; stalls = (e.0 t).1 }, λ matched. e.1 (matched.meets, matched.stalls))) (c.meets_shown.ensures before is stepped)
 
-pub returns-else-meets_line : goal.returns-else-meets_line
-returns-else-meets_line c = λ before is stepped was. (λ t. absurd (true≢false (sym t)), λ matched. absurd (true≢false (sym (c.meets_line.ensures.1 matched.meets) ∙ c.if-meets_line.false)))
+pub returns-else-meets_after : goal.returns-else-meets_after
+returns-else-meets_after c = λ before is stepped was. (λ t. absurd (true≢false (sym t)), λ matched. absurd (true≢false (sym ((c.meets_after.ensures before is stepped was).1 (matched.kept, matched.states)) ∙ c.if-meets_after.false)))
