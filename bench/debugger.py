@@ -257,14 +257,31 @@ def counted():
     return step, cost(('run',), b'', path) / events
 
 
-def values():
-    """Of each breakpoint that matches nowhere the instructions of `run` to the end of one flow, and of `reverse` from there to the
-    beginning, with those of `break kind rto` first; nothing without valgrind."""
-    path = one_flow()
-    for condition in ('kind rto', 'cwnd<1', 'rto>999s', 'phase fr', 'time>=999999s', 'queue 0>60000', 'wait 0>999s', 'change ssthresh 0') if has_valgrind() else ():
+def values(path, conditions):
+    """Of each breakpoint that matches nowhere the instructions of `run` to the end, and of `reverse` from there to the beginning;
+    nothing without valgrind."""
+    for condition in conditions if has_valgrind() else ():
         line = f'break {condition}\n'.encode()
         there, back = (cost(('debug',), lines, path) for lines in (line + b'run\n', line + b'run\nreverse\n'))
         yield condition, there, back - there
+
+
+def in_one_flow():
+    return values(one_flow(), ('kind rto', 'cwnd<1', 'rto>999s', 'phase fr', 'time>=999999s', 'queue 0>60000', 'wait 0>999s', 'change ssthresh 0'))
+
+
+def in_islands():
+    return values(path_of('value islands', islands(12, 2, 2_000)), ('kind start node 1', 'rto>999s', 'queue 0>60000', 'change ssthresh 40'))
+
+
+def value_table(found):
+    """A row for each breakpoint, over the first of them."""
+    (first, *least), *_ = found
+    rows = []
+    for condition, *costs in found:
+        times = max(it / of for it, of in zip(costs, least))
+        rows.append((f'`break {condition}`', *(f'{it / 10**6:,.0f}' for it in costs), f'{times:.2f}', f'{VALUE}', within(times, VALUE)))
+    return table(('Breakpoint', '`run`', '`reverse`', f'Times `break {first}`', 'At most', 'Within'), rows)
 
 
 def shown(seconds):
@@ -305,15 +322,13 @@ def page(args, before):
         last = (shown(stall), f'{stall / rto:.2f}', f'{STALL}', within(stall / rto, STALL)) if stall else ('no such breakpoint', '', f'{STALL}', '')
         rows.append((f'{name}: {events:,} events', shown(rto), *last))
     yield from table(('Run', '`break kind rto`', '`break stall`', 'Times', 'At most', 'Within'), rows)
-    if found := list(values()):
+    if found := list(in_one_flow()):
         yield '## A breakpoint on a value\n'
         yield 'Millions of instructions of `run` to the end of a flow of 26,000 segments, and of `reverse` from there. No breakpoint matches.\n'
-        _, *least = found[0]
-        rows = []
-        for condition, *costs in found:
-            times = max(it / of for it, of in zip(costs, least))
-            rows.append((f'`break {condition}`', *(f'{it / 10**6:,.0f}' for it in costs), f'{times:.2f}', f'{VALUE}', within(times, VALUE)))
-        yield from table(('Breakpoint', '`run`', '`reverse`', 'Times `break kind rto`', 'At most', 'Within'), rows)
+        yield from value_table(found)
+        yield ('The same in `islands` of bench/scenarios.py, with 104 nodes and 48 flows of 2,000 segments. '
+               '`break change` looks for its flow among all nodes at each event.\n')
+        yield from value_table(list(in_islands()))
     yield '## With groups and workers\n'
     crews = grouped(args.rounds, before)
     at = next(iter(crews.values()))[0]
