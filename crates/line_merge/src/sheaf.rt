@@ -1,5 +1,6 @@
 //! The lines of a window, group by group: threads can merge them in parts.
 ghost use Rattle.std.specs.Prelude.{◌≡◌, ◌==◌, ◌+◌, ◌<◌, ◌≤◌, [], length, None, IfSome};
+ghost use Rattle.sim_time.specs.declared.limits.TheConstants.{MOST_EVENTS};
 ghost use Rattle.node_core.specs.TraceLine.{shown};
 ghost use Rattle.line_merge.specs.Ahead.{HasNext};
 ghost use Rattle.line_merge.specs.Merged.{AreApart, IsSpot, all_of, line_at, line_in, rests};
@@ -64,7 +65,7 @@ impl Sheaf {
         requires few { length lists.items ≤ 64 }
         requires apart { AreApart lists.items }
         requires count { count ≡ length (all_of lists.items) }
-        requires few_lines { count ≤ 1000000000000000 }
+        requires few_lines { count ≤ MOST_EVENTS }
         ensures { result ≡ record { first = first; lists = lists.items } }
     {
         Sheaf {

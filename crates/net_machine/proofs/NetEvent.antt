@@ -2,6 +2,7 @@
 use Rattle.std.proofs.Common.{◌≡◌, ◌≢◌, ℕ, ◌+◌, ◌<◌, List, [], set, replicate, refl, sym, subst, ◌∙◌, Some, None, Option}
 use Rattle.std.specs.Option.{option_map}
 use Rattle.sim_time.specs.declared.key.Key.{Key}
+use Rattle.sim_time.specs.declared.limits.TheConstants.{MOST_EVENTS}
 use Rattle.packet_chain.specs.Stamped.{Stamped}
 use Rattle.tournament.specs.Keyed.{least, next_key}
 use Rattle.node_core.specs.declared.event.Event.{Event}
@@ -31,12 +32,12 @@ HaveCome ends nodes link packets new = new ≡ come_over ends nodes link packets
 pub record IsNetDue (nodes : List NodeState) (ends : List LinkEnds) (out : List (List Stamped)) (end position place : ℕ) : Type 0 where
   pub is : IsNet nodes ends out end position
   pub first : IsFirst nodes place
-  pub fits : position < 1000000000000000
+  pub fits : position < MOST_EVENTS
   pub soon : (k : Key) (v : Event) → least (node_at nodes place).pending ≡ Some (k, v) → k.time < end
   pub pending : next_key (node_at nodes place).pending ≢ None
 
 pub net_due : (nodes : List NodeState) (all_ends ends : List LinkEnds) (out : List (List Stamped)) (end position node place : ℕ) (r : Reached) → ends ≡ all_ends → IsNet nodes all_ends out end position → reached nodes end position ≡ r → option_map (λ (entry : Key × Event). entry.0.node) (due r.state) ≡ Some node
-    → r.position < 1000000000000000 → place ≡ node → IsNetDue nodes ends out end position place
+    → r.position < MOST_EVENTS → place ≡ node → IsNetDue nodes ends out end position place
 net_due nodes all_ends ends out end position node place r ends_are net same due_is few at =
     let is : IsNet nodes ends out end position = subst (λ (e : List LinkEnds). IsNet nodes e out end position) (sym ends_are) net in
     let d = due_at nodes end position node r same due_is in
@@ -44,7 +45,7 @@ net_due nodes all_ends ends out end position node place r ends_are net same due_
     record {
       is = is;
       first = first;
-      fits = subst (λ (x : Reached). x.position < 1000000000000000) (sym same) few;
+      fits = subst (λ (x : Reached). x.position < MOST_EVENTS) (sym same) few;
       soon = λ k v here. subst (λ (q : Key). q.time < end) (its_key nodes ends out end position is place first d.key d.next k v here) d.in_time;
       pending = pending_first nodes end node place d first;
     }

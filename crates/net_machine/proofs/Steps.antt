@@ -7,6 +7,7 @@ use Rattle.std.specs.Option.{option_map, option_and_then}
 use Rattle.std.specs.FinMap as fin
 use Rattle.std.specs.List.Sorted.{IsStrictlyIncreasing}
 use Rattle.sim_time.specs.declared.key.Key.{Key}
+use Rattle.sim_time.specs.declared.limits.TheConstants.{MOST_EVENTS}
 use Rattle.packet_chain.specs.Stamped.{Stamped}
 use Rattle.tournament.specs.Keyed.{apply, changed, least, next_key, entering, EachKey}
 use Rattle.tournament.proofs.Maps.{same_some}
@@ -39,7 +40,7 @@ apply_both [] ds m = refl
 apply_both (c ∷ cs) ds m = apply_both cs ds (changed m c.0 c.1)
 
 -- one step more is a run too
-abbrev pub run_step : (r : Reached) (line : TraceLine) (new : State) → IsRun r → r.position < 1000000000000000 → step r.state ≡ Some (line, new) → IsRun record { state = new; position = r.position + 1 }
+abbrev pub run_step : (r : Reached) (line : TraceLine) (new : State) → IsRun r → r.position < MOST_EVENTS → step r.state ≡ Some (line, new) → IsRun record { state = new; position = r.position + 1 }
 run_step r line new is_run fits is = record {
   scenario = is_run.scenario;
   lines = is_run.lines ++ line ∷ [];
@@ -76,7 +77,7 @@ module _ (nodes : List NodeState) (ends : List LinkEnds) (out : List (List Stamp
     effect_is = ap (λ (p : PartState). row p k v) part_is
 
     -- the event can be run
-    pub ready : position < 1000000000000000 → IsRunnable (node_at nodes place).part k v
+    pub ready : position < MOST_EVENTS → IsRunnable (node_at nodes place).part k v
     ready few = subst (λ (p : PartState). IsRunnable p k v) part_is (runnable is.run.scenario position is.run.lines (net_state nodes end) is.run.is_scenario is.run.is k v due_here few)
 
     stay : LinksStay (node_at nodes place).part.links (row (node_at nodes place).part k v).part.links (row (node_at nodes place).part k v).leaving
@@ -124,7 +125,7 @@ module _ (nodes : List NodeState) (ends : List LinkEnds) (out : List (List Stamp
       quiet_wired : IsWired is.run.scenario.links ran
       quiet_wired = wired_fired is.run.scenario.links nodes is.wired place first.within (node_after nodes place k v) refl eff.leaving stay none
 
-      pub quiet_net : position < 1000000000000000 → IsNet ran ends (replicate 16 []) end (position + 1)
+      pub quiet_net : position < MOST_EVENTS → IsNet ran ends (replicate 16 []) end (position + 1)
       quiet_net fits = record { run = run_step (reached nodes end position) (line_of (k, v) eff) (net_state ran end) is.run fits quiet_step; placed = placed_ran; wired = quiet_wired; ends_are = is.ends_are; out_empty = refl }
 
     -- a packet left over a link
@@ -208,7 +209,7 @@ module _ (nodes : List NodeState) (ends : List LinkEnds) (out : List (List Stamp
       came_next = ap (λ (i : Incoming). i.came + 1) coming_is ∙ ap (λ n. n + 1) wire.came ∙ ap (λ (link : LinkState). link.port.sent + 1) (sym old_is) ∙ sym sent_next
 
       -- it can come to the link's end
-      pub can_come : position < 1000000000000000 → CanCome ends ran link (packet_left l)
+      pub can_come : position < MOST_EVENTS → CanCome ends ran link (packet_left l)
       can_come fits = record {
         there = to_within;
         within = entry_within;
@@ -253,5 +254,5 @@ module _ (nodes : List NodeState) (ends : List LinkEnds) (out : List (List Stamp
       wired_last = subst (IsWired is.run.scenario.links) (sym (λ i. set ran (to_node i) (delivered (node_at ran (to_node i)) (to_index i) (packet_left l))))
           (wired_delivered is.run.scenario.links nodes is.wired place first.within (node_after nodes place k v) refl eff.leaving stay l left link known from_here exit_here sent_next (packet_left l) refl _ refl)
 
-      pub come_net : position < 1000000000000000 → IsNet last ends (replicate 16 []) end (position + 1)
+      pub come_net : position < MOST_EVENTS → IsNet last ends (replicate 16 []) end (position + 1)
       come_net fits = record { run = run_step (reached nodes end position) (line_of (k, v) eff) (net_state last end) is.run fits come_step; placed = placed_last; wired = wired_last; ends_are = is.ends_are; out_empty = refl }

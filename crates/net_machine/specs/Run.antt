@@ -1,5 +1,6 @@
 -- Which states a net can be in, and what a step does.
 use Rattle.std.specs.Prelude.{◌≡◌, ℕ, ◌+◌, ◌≤◌, List, Option, None, Some}
+use Rattle.sim_time.specs.declared.limits.TheConstants.{MOST_EVENTS}
 use Rattle.scenario_image.specs.declared.parts.ScenarioParts.{ScenarioParts}
 use Rattle.scenario_image.specs.Scenario.{IsScenario}
 use Rattle.node_core.specs.TraceLine.{TraceLine}
@@ -16,7 +17,7 @@ pub record IsRun (r : Reached) : Type 0 where
   pub scenario : ScenarioParts
   pub lines : List TraceLine
   pub is_scenario : IsScenario scenario
-  pub position_fits : r.position ≤ 1000000000000000
+  pub position_fits : r.position ≤ MOST_EVENTS
   pub is : ComesTo scenario r.position lines r.state
 
 -- what a step answers, and where it leaves the net

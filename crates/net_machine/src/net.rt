@@ -1,6 +1,7 @@
 //! One event at a time: the least pending key below the end.
 ghost use Rattle.std.specs.Prelude.{◌≡◌, ◌≢◌, ◌+◌, if◌then◌else◌, ◌<◌, false, IfOk, OnOk, OnErr, IfErr, None, Some, Ok, Err};
 ghost use Rattle.std.specs.Option.{option_map};
+ghost use Rattle.sim_time.specs.declared.limits.TheConstants.{MOST_EVENTS};
 ghost use Rattle.tournament.specs.Keyed.{next_key};
 ghost use Rattle.node_core.specs.TraceLine.{shown};
 ghost use Rattle.table_run.specs.State.{initial, due};
@@ -20,12 +21,9 @@ use node_core::{After, Event, Line, Node, Outbox};
 use port::Acts;
 use scenario_image::Scenario;
 use scenario_image::limits::MOST_ROUTER_LINKS;
-use sim_time::{Key, Time};
+use sim_time::{Key, MOST_EVENTS, Time};
 use std::alloc::{AllocError, Global};
 use std::marker::Model;
-
-/// The most events of a run.
-pub const MOST_EVENTS: u64 = 1_000_000_000_000_000;
 
 /// Why no step was made.
 #[derive(Clone, Copy, Debug, PartialEq, Eq)]
@@ -176,7 +174,7 @@ impl Net {
     #[inline(always)]
     pub fn fire_into(&mut self, next: Due, line: &mut Line) -> Result<(), AllocError>
         requires due { option_map due_of (due self.old.state) ≡ Some next }
-        requires few { self.old.position < 1000000000000000 }
+        requires few { self.old.position < MOST_EVENTS }
         ensures ok { OnOk result (Stepped self.old (Some (shown line.new)) self.new) }
         ensures err { OnErr result (self.new ≡ self.old) }
     {
@@ -191,9 +189,9 @@ impl Net {
     pub fn run_due(&mut self, next: Option<Due>, line: &mut Line) -> Result<bool, StepFault>
         requires { next ≡ option_map due_of (due self.old.state) }
         ensures ok { IfOk result (λ fired. Stepped self.old (if fired then Some (shown line.new) else None) self.new) }
-        ensures full { IfErr result (λ fault. fault ≡ StepFault.CountFull → (due self.old.state ≢ None) × (self.old.position ≡ 1000000000000000)) }
+        ensures full { IfErr result (λ fault. fault ≡ StepFault.CountFull → (due self.old.state ≢ None) × (self.old.position ≡ MOST_EVENTS)) }
         ensures none { due self.old.state ≡ None → result ≡ Ok false }
-        ensures count { due self.old.state ≢ None → self.old.position ≡ 1000000000000000 → result ≡ Err StepFault.CountFull }
+        ensures count { due self.old.state ≢ None → self.old.position ≡ MOST_EVENTS → result ≡ Err StepFault.CountFull }
         ensures err { OnErr result (self.new ≡ self.old) }
     {
         let Some(next) = next else {
@@ -213,9 +211,9 @@ impl Net {
     #[inline(always)]
     pub fn step_into(&mut self, line: &mut Line) -> Result<bool, StepFault>
         ensures ok { IfOk result (λ fired. Stepped self.old (if fired then Some (shown line.new) else None) self.new) }
-        ensures full { IfErr result (λ fault. fault ≡ StepFault.CountFull → (due self.old.state ≢ None) × (self.old.position ≡ 1000000000000000)) }
+        ensures full { IfErr result (λ fault. fault ≡ StepFault.CountFull → (due self.old.state ≢ None) × (self.old.position ≡ MOST_EVENTS)) }
         ensures none { due self.old.state ≡ None → result ≡ Ok false }
-        ensures count { due self.old.state ≢ None → self.old.position ≡ 1000000000000000 → result ≡ Err StepFault.CountFull }
+        ensures count { due self.old.state ≢ None → self.old.position ≡ MOST_EVENTS → result ≡ Err StepFault.CountFull }
         ensures err { OnErr result (self.new ≡ self.old) }
     {
         let next = self.next_due();
@@ -225,9 +223,9 @@ impl Net {
     /// Runs the event of the least key below the end, where there is one, and tells of it.
     pub fn step(&mut self) -> Result<Option<Line>, StepFault>
         ensures ok { IfOk result (λ reported. Stepped self.old (option_map shown reported) self.new) }
-        ensures full { IfErr result (λ fault. fault ≡ StepFault.CountFull → (due self.old.state ≢ None) × (self.old.position ≡ 1000000000000000)) }
+        ensures full { IfErr result (λ fault. fault ≡ StepFault.CountFull → (due self.old.state ≢ None) × (self.old.position ≡ MOST_EVENTS)) }
         ensures none { due self.old.state ≡ None → result ≡ Ok None }
-        ensures count { due self.old.state ≢ None → self.old.position ≡ 1000000000000000 → result ≡ Err StepFault.CountFull }
+        ensures count { due self.old.state ≢ None → self.old.position ≡ MOST_EVENTS → result ≡ Err StepFault.CountFull }
         ensures err { OnErr result (self.new ≡ self.old) }
     {
         let mut line = Line {

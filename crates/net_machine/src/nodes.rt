@@ -3,6 +3,7 @@ ghost use Rattle.std.specs.Prelude.{◌≡◌, ◌≢◌, ◌+◌, ◌<◌, ◌�
 ghost use Rattle.std.specs.Option.{option_map};
 ghost use Rattle.std.specs.List.Sorted.{IsStrictlyIncreasing};
 ghost use Rattle.sim_time.specs.declared.key.Key.{Key};
+ghost use Rattle.sim_time.specs.declared.limits.TheConstants.{MOST_EVENTS};
 ghost use Rattle.tournament.specs.Leading.{rank_at};
 ghost use Rattle.tournament.specs.Timed.{AreInPlace};
 ghost use Rattle.tournament.specs.Keyed.{least, next_key, EachKey};
@@ -157,7 +158,7 @@ impl Nodes {
         requires pending { next_key (node_at self.old place).pending ≢ None }
         requires due { (k : Key) (v : Event) → least (node_at self.old place).pending ≡ Some (k, v) → IsRunnable (node_at self.old place).part k v }
         requires chains { length (node_at self.old place).part.links ≤ length out.old }
-        requires room { All (λ chain. length chain < 1000000000000000) out.old }
+        requires room { All (λ chain. length chain < MOST_EVENTS) out.old }
         ensures fired { OnOk result (HasFired (node_at self.old place) (node_at self.new place) out.old out.new (shown line.new)) }
         ensures others { OnOk result (self.new ≡ slice_set self.old place (node_at self.new place)) }
         ensures leaving { IfOk result (λ index. index ≡ option_map (λ (leaving : Leaving). leaving.index) (row (node_at self.old place).part line.new.key line.new.event).leaving) }

@@ -1,5 +1,6 @@
 //! Some of a net's nodes, and the one way in which they run their events.
 ghost use Rattle.std.specs.Prelude.{◌≡◌, [], OnOk, OnErr, replicate};
+ghost use Rattle.sim_time.specs.declared.limits.TheConstants.{MOST_EVENTS};
 ghost use Rattle.node_core.specs.TraceLine.{shown};
 ghost use Rattle.net_machine.specs.Region.{CanRun, CanGoOn, HasHappened};
 
@@ -54,7 +55,7 @@ pub trait Region {
         requires pending { next_key (node_at (nodes self.old) (number_at self.old at)).pending ≢ None }
         requires due { let node = node_at (nodes self.old) (number_at self.old at) in (k : Key) (v : Event) → least node.pending ≡ Some (k, v) → IsRunnable node.part k v }
         requires chains { length (node_at (nodes self.old) (number_at self.old at)).part.links ≤ length out.old }
-        requires room { All (λ chain. length chain < 1000000000000000) out.old }
+        requires room { All (λ chain. length chain < MOST_EVENTS) out.old }
         ensures fired { let number = number_at self.old at in OnOk result (HasFired (node_at (nodes self.old) number) (node_at (nodes self.new) number) out.old out.new (shown line.new)) }
         ensures put { let number = number_at self.old at in OnOk result (self.new ≡ put self.old number (node_at (nodes self.new) number)) }
         ensures count { OnOk result (length (nodes self.new) ≡ length (nodes self.old)) }

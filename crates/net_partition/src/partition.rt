@@ -6,14 +6,12 @@ ghost use Rattle.net_partition.specs.Partition.{is_partition, group_in, greatest
 
 use crate::found::found_groups;
 use scenario_image::Scenario;
+use scenario_image::limits::MOST_NODES;
 use std::alloc::AllocError;
 use std::marker::Model;
 
-/// The most nodes of a net.
-const MOST_NODES: usize = 256;
-
 /// The most groups.
-const MOST_GROUPS: u8 = 64;
+pub(crate) const MOST_GROUPS: u8 = 64;
 
 /// The group of each node of a net. Groups are numbered from 0 to the greatest that a node is in,
 /// and some may have no node.

@@ -1,5 +1,6 @@
 -- What a watched run says of the net and of who watches it.
 use Rattle.std.specs.Prelude.{◌≡◌, ◌≢◌, ◌<◌, Bool, true, false, None, Result, Ok, Err}
+use Rattle.sim_time.specs.declared.limits.TheConstants.{MOST_EVENTS}
 use Rattle.table_run.specs.State.{due}
 use Rattle.net_machine.specs.declared.net.StepFault.{StepFault}
 use Rattle.net_machine.specs.declared.net.StepFault.TheVariants.{NoMemory, CountFull}
@@ -23,7 +24,7 @@ goes_on (Err fault) = true
 -- why no event was run: memory was refused, or one more is due after 10^15
 abbrev pub IsStepFault : Reached → StepFault → Type 0
 IsStepFault new NoMemory = Unit {0}
-IsStepFault new CountFull = (due new.state ≢ None) × (new.position ≡ 1000000000000000)
+IsStepFault new CountFull = (due new.state ≢ None) × (new.position ≡ MOST_EVENTS)
 
 -- why a run ended there
 abbrev pub IsRunEnd : Type 0 → Reached → Reached → Result RunEnd StepFault → Type 0

@@ -4,6 +4,7 @@ use Rattle.std.proofs.Math.ListN.{get_or-map}
 use Rattle.std.proofs.lemmas.List.Sums.{count_by-le-length}
 use Rattle.std.specs.Prelude.{◌==◌}
 use Rattle.sim_time.specs.declared.key.Key.{Key}
+use Rattle.sim_time.specs.declared.limits.TheConstants.{MOST_EVENTS}
 use Rattle.node_core.specs.declared.event.Event.{Event}
 use Rattle.node_core.specs.Part.{PartState}
 use Rattle.node_core.specs.Ready.{IsRunnable}
@@ -53,7 +54,7 @@ module _ (g : GroupValue) (on : IsOnRun g) (k : Key) (v : Event) (is_due : due (
   pub effect_is : effect_of in_run.state (k, v) ≡ row (member g k.node).part k v
   effect_is = ap (λ (p : PartState). row p k v) part_is
 
-  pub ready : g.position + length g.lines < 1000000000000000 → IsRunnable (member g k.node).part k v
+  pub ready : g.position + length g.lines < MOST_EVENTS → IsRunnable (member g k.node).part k v
   ready fits = subst (λ (p : PartState). IsRunnable p k v) part_is
       (runnable_by on.scenario (g.position + in_run.steps) (on.before ++ in_run.lines) in_run.state on.is_group.in_run.is_scenario comes k v in_run.is_due (let most = few in omega (arith, most, fits)))
 

@@ -1,6 +1,7 @@
 -- An event of a group: what it leaves as it was, and how it ends where nothing leaves the node.
 use Rattle.std.proofs.Common.{◌≡◌, ◌≢◌, ℕ, ◌+◌, ◌<◌, ◌≤◌, List, [], ◌∷◌, ◌++◌, length, set, refl, sym, ap, subst, ◌∙◌, Some, None, Option, arith, length-append}
 use Rattle.sim_time.specs.declared.key.Key.{Key}
+use Rattle.sim_time.specs.declared.limits.TheConstants.{MOST_EVENTS}
 use Rattle.tournament.specs.Keyed.{apply, least}
 use Rattle.tournament.proofs.Maps.{not_some}
 use Rattle.node_core.specs.declared.event.Event.{Event}
@@ -38,7 +39,7 @@ pub record HasRun (g : GroupValue) (end place : ℕ) (k : Key) (v : Event) : Typ
   pub first : IsFirst (seated g.seats) place
   pub here : least (member g place).pending ≡ Some (k, v)
   pub early : k.time < end
-  pub fits : g.position + length g.lines < 1000000000000000
+  pub fits : g.position + length g.lines < MOST_EVENTS
 
 module _ {g : GroupValue} {end place : ℕ} {k : Key} {v : Event} (e : HasRun g end place k v) where
   -- what the event does
@@ -108,7 +109,7 @@ module _ {g : GroupValue} {end place : ℕ} {k : Key} {v : Event} (e : HasRun g 
   pub mine : group place ≡ g.number
   mine = own_place g e.is e.on end e.below place e.first k v e.here e.early
 
-  pub fits_more : g.position + length (g.lines ++ reported ∷ []) ≤ 1000000000000000
+  pub fits_more : g.position + length (g.lines ++ reported ∷ []) ≤ MOST_EVENTS
   fits_more = let more = length-append g.lines (reported ∷ []) in omega (arith, e.fits, more)
 
   -- NOTHING LEFT

@@ -7,6 +7,7 @@ use Rattle.std.specs.List.{AllByRecursion}
 use Rattle.std.specs.Option.{option_map, unwrap_or}
 use Rattle.std.specs.FinMap as fin
 use Rattle.sim_time.specs.declared.key.Key.{Key}
+use Rattle.sim_time.specs.declared.limits.TheConstants.{MOST_EVENTS}
 use Rattle.scenario_image.specs.declared.parts.ScenarioParts.{ScenarioParts}
 use Rattle.scenario_image.specs.declared.parts.LinkPart.{LinkPart}
 use Rattle.scenario_image.specs.Scenario.{IsScenario}
@@ -76,7 +77,7 @@ module _ (g : GroupValue) (is : IsGroup g) (on : IsOnRun g) (end : ℕ) (below :
     pub own_place : group_in g.entries place ≡ g.number
     own_place = ap (group_in g.entries) (sym node_is) ∙ (in_run g on k v is_due).its_own
 
-    pub runnable_here : g.position + length g.lines < 1000000000000000 → IsRunnable (member g place).part k v
+    pub runnable_here : g.position + length g.lines < MOST_EVENTS → IsRunnable (member g place).part k v
     runnable_here fits = subst (λ n. IsRunnable (member g n).part k v) node_is (ready g on k v is_due fits)
 
     pub stay_here : LinksStay (member g place).part.links (row (member g place).part k v).part.links (row (member g place).part k v).leaving

@@ -2,6 +2,7 @@
 use Rattle.std.proofs.Common.{◌≡◌, ◌≢◌, ℕ, ◌+◌, ◌<◌, ◌≤◌, ◌==◌, Bool, true, List, length, get_or, refl, sym, ap, subst, ◌∙◌, Some, None, Option, is_some, ⊎_elim, arith, eqb-true}
 use Rattle.std.proofs.lemmas.Bool.{cases_lt}
 use Rattle.std.proofs.lemmas.List.{length-map, get_or_past, get_or-map}
+use Rattle.sim_time.specs.declared.limits.TheConstants.{MOST_EVENTS}
 use Rattle.tournament.specs.Keyed.{EachKey}
 use Rattle.node_core.specs.Node.{NodeState}
 use Rattle.node_core.specs.TraceLine.{TraceLine}
@@ -77,7 +78,7 @@ module _ (g : GroupValue) (is : IsGroup g) where
       pub wires : length held ≡ length g.held
       pub by_link : AreByLink held
       pub there : (link : ℕ) → (wire_at held link).node ≡ (wire_at g.held link).node
-      pub fits : g.position + length lines ≤ 1000000000000000
+      pub fits : g.position + length lines ≤ MOST_EVENTS
 
     pub kept : AreKept → IsGroup new
     kept k = record {

@@ -4,6 +4,7 @@ use Rattle.std.specs.Option.{option_map}
 use Rattle.std.specs.Result.{OnOk, is_err}
 use Rattle.std.proofs.lemmas.List.{length-map, length-take-le, map-append, take_more_set, take-set}
 use Rattle.sim_time.specs.declared.key.Key.{Key}
+use Rattle.sim_time.specs.declared.limits.TheConstants.{MOST_EVENTS}
 use Rattle.tournament.specs.Keyed.{next_key}
 use Rattle.tournament.specs.Timed.{time_of}
 use Rattle.tournament.proofs.Maps.{not_some, same_some}
@@ -45,7 +46,7 @@ pub has_fired_into : (s : Inside) (end place : ℕ) → s.count ≤ length s.lin
 has_fired_into s end place within d made room kept line new has = has_fired d (shown line) new has (map shown (take (s.count + 1) (set made s.count line))) (reported_more s.lines.items made s.count line room kept)
 
 -- the least event of a group state is below a moment
-pub due_below : (s : Inside) → IsGroupState s → (g : GroupValue) → group_of s ≡ g → IsOnRun g → (end : ℕ) → end ≤ g.until → (place time : ℕ) → IsFirst (nodes_of s.area) place → Some time ≡ time_of (next_key (net_pending (nodes_of s.area))) → time < end → s.position + s.count < 1000000000000000 → IsDueBelow end (group_of s) place
+pub due_below : (s : Inside) → IsGroupState s → (g : GroupValue) → group_of s ≡ g → IsOnRun g → (end : ℕ) → end ≤ g.until → (place time : ℕ) → IsFirst (nodes_of s.area) place → Some time ≡ time_of (next_key (net_pending (nodes_of s.area))) → time < end → s.position + s.count < MOST_EVENTS → IsDueBelow end (group_of s) place
 due_below s is g same on end below place time first next soon few =
     let reported = reported_count s.lines.items s.count is.count in
     record {

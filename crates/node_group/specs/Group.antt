@@ -2,6 +2,7 @@
 use Rattle.std.specs.Prelude.{◌≡◌, ◌≢◌, ◌<◌, ◌≤◌, ◌+◌, ◌==◌, ℕ, Bool, true, false, List, [], map as each, length, Some, None}
 use Rattle.scenario_image.specs.declared.parts.ScenarioParts.{ScenarioParts}
 use Rattle.sim_time.specs.declared.key.Key.{Key}
+use Rattle.sim_time.specs.declared.limits.TheConstants.{MOST_EVENTS}
 use Rattle.tournament.specs.Keyed.{least, next_key, EachKey}
 use Rattle.node_core.specs.declared.event.Event.{Event}
 use Rattle.node_core.specs.EventQueueState.{Incoming, incoming_at}
@@ -83,7 +84,7 @@ pub record IsGroup (g : GroupValue) : Type 0 where
   pub wires : length g.held ≡ length g.links
   pub by_link : AreByLink g.held
   pub ends_there : (link : ℕ) → link < length g.links → (wire_at g.held link).node ≡ (place_at g.links link).node
-  pub fits : g.position + length g.lines ≤ 1000000000000000
+  pub fits : g.position + length g.lines ≤ MOST_EVENTS
 
 -- the group is that of its number in a window that opened at a state of a scenario's run
 pub record IsGroupIn (p : ScenarioParts) (before : List TraceLine) (edge : State) (w : WindowState) (g : GroupValue) : Type 0 where
@@ -125,7 +126,7 @@ pub record IsDueBelow (end : ℕ) (g : GroupValue) (place : ℕ) : Type 0 where
   pub on : IsOnRun g
   pub below : end ≤ g.until
   pub first : IsFirst (seated g.seats) place
-  pub fits : g.position + length g.lines < 1000000000000000
+  pub fits : g.position + length g.lines < MOST_EVENTS
   pub soon : (k : Key) (v : Event) → least (member g place).pending ≡ Some (k, v) → k.time < end
   pub pending : next_key (member g place).pending ≢ None
 

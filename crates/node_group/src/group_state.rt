@@ -3,6 +3,7 @@ ghost use Rattle.std.specs.Prelude.{◌≡◌, ◌≢◌, ◌+◌, ◌<◌, ◌�
 ghost use Rattle.std.specs.List.Sorted.{IsStrictlyIncreasing};
 ghost use Rattle.std.specs.Option.{option_copied};
 ghost use Rattle.sim_time.specs.declared.key.Key.{Key};
+ghost use Rattle.sim_time.specs.declared.limits.TheConstants.{MOST_EVENTS};
 ghost use Rattle.tournament.specs.Keyed.{EachKey};
 ghost use Rattle.node_core.specs.Node.{delivered};
 ghost use Rattle.node_core.specs.TraceLine.{shown};
@@ -22,12 +23,11 @@ use crate::area::Area;
 use crate::exits::Exits;
 use crate::group::GroupFault;
 use crate::nodes_by_number::{NodesByNumber, NodesByNumberParts};
-use net_machine::net::MOST_EVENTS;
 use net_machine::{LinkEnds, Region, run_event};
 use net_partition::Partition;
 use node_core::{Line, Node, Outbox};
 use packet_chain::PacketChain;
-use sim_time::Time;
+use sim_time::{MOST_EVENTS, Time};
 use std::alloc::{AllocError, Global};
 use std::marker::Model;
 use std::snapshot::Snapshot;
@@ -176,7 +176,7 @@ impl GroupState {
     /// Gives the lines that were told in exchange for memory for others, and names how many events
     /// the run has then. The answer is how many were told.
     pub fn take_lines(&mut self, lines: &mut Vec<Line>, position: u64) -> usize
-        requires { position ≤ 1000000000000000 }
+        requires { position ≤ MOST_EVENTS }
         ensures lines { each shown (take result lines.new.items) ≡ self.old.lines }
         ensures count { result ≡ length self.old.lines }
         ensures within { result ≤ length lines.new.items }
@@ -258,7 +258,7 @@ impl GroupState {
         ensures ok { IfOk result (λ fired. Fired end self.old fired self.new) }
         ensures after { AfterFirings end self.old self.new }
         ensures on_run { IsOnRun self.new }
-        ensures fits { self.new.position + length self.new.lines ≤ 1000000000000000 }
+        ensures fits { self.new.position + length self.new.lines ≤ MOST_EVENTS }
         ensures fault { IfErr result (IsFaultAt end self.new) }
         ensures err { OnErr result (self.new ≡ self.old) }
     {

@@ -3,6 +3,7 @@ ghost use Rattle.std.specs.Prelude.{◌≡◌, ◌≢◌, ◌==◌, ◌+◌, ◌
 ghost use Rattle.std.specs.Option.{option_map, option_copied};
 ghost use Rattle.std.specs.List.Sorted.{IsStrictlyIncreasing};
 ghost use Rattle.sim_time.specs.declared.key.Key.{Key};
+ghost use Rattle.sim_time.specs.declared.limits.TheConstants.{MOST_EVENTS};
 ghost use Rattle.tournament.specs.Keyed.{least, next_key, EachKey};
 ghost use Rattle.tournament.specs.Timed.{time_of};
 ghost use Rattle.node_core.specs.declared.event.Event.{Event};
@@ -175,7 +176,7 @@ impl NodesByNumber {
         requires pending { next_key (node_at (seated self.old) (number_at self.old at)).pending ≢ None }
         requires due { let node = node_at (seated self.old) (number_at self.old at) in (k : Key) (v : Event) → least node.pending ≡ Some (k, v) → IsRunnable node.part k v }
         requires chains { length (node_at (seated self.old) (number_at self.old at)).part.links ≤ length out.old }
-        requires room { All (λ chain. length chain < 1000000000000000) out.old }
+        requires room { All (λ chain. length chain < MOST_EVENTS) out.old }
         ensures fired { let number = number_at self.old at in OnOk result (HasFired (node_at (seated self.old) number) (node_at (seated self.new) number) out.old out.new (shown line.new)) }
         ensures put { let number = number_at self.old at in OnOk result (self.new ≡ slice_set self.old number (Some (node_at (seated self.new) number))) }
         ensures count { OnOk result (length (seated self.new) ≡ length (seated self.old)) }

@@ -1,6 +1,7 @@
 -- A run that comes to its end has no other event.
 use Rattle.std.proofs.Common.{◌≡◌, ◌∙◌, ℕ, zero, suc, ◌+◌, ◌-◌, ◌≤◌, List, [], ◌∷◌, ◌++◌, arith, None, Some, refl, sym, subst, ap}
 use Rattle.std.specs.Option.{option_map, option_and_then}
+use Rattle.sim_time.specs.declared.limits.TheConstants.{MOST_EVENTS}
 use Rattle.node_core.specs.TraceLine.{TraceLine}
 use Rattle.table_run.specs.State.{State, run, step, one_step_more}
 use Rattle.sessions.specs.Trace.{IsTooLong}
@@ -32,5 +33,5 @@ no_more s n m lines lines' last last' few is final later = go (m - n) refl
         absurd (some_none (lines', last') (sym later ∙ subst (λ x. run s x ≡ None) same (none_after s (suc n) next k)))
 
 -- a run comes to its end within 10^15 events, or it does not
-pub ends_in_time : (s : State) (n : ℕ) (lines : List TraceLine) (last : State) → n ≤ 1000000000000000 → run s n ≡ Some (lines, last) → step last ≡ None → IsTooLong s → ⊥
-ends_in_time s n lines last few is_run final long = due_steps long.last long.one_due (no_more s n 1000000000000000 lines long.lines last long.last few is_run final long.is_run)
+pub ends_in_time : (s : State) (n : ℕ) (lines : List TraceLine) (last : State) → n ≤ MOST_EVENTS → run s n ≡ Some (lines, last) → step last ≡ None → IsTooLong s → ⊥
+ends_in_time s n lines last few is_run final long = due_steps long.last long.one_due (no_more s n MOST_EVENTS lines long.lines last long.last few is_run final long.is_run)

@@ -1,6 +1,7 @@
 -- How a run ends whose figures are counted.
 use Rattle.std.proofs.Common.{◌≡◌, ◌≤◌, ℕ, min, List, [], Option, None, Some, Result, Ok, Err, IfOk, refl, ap, subst, arith}
 use Rattle.std.specs.Option.{option_map}
+use Rattle.sim_time.specs.declared.limits.TheConstants.{MOST_EVENTS}
 use Rattle.scenario_image.specs.declared.parts.ScenarioParts.{ScenarioParts}
 use Rattle.table_run.specs.State.{State, due, initial, run, step_at}
 use Rattle.table_run.proofs.Runs.{run_end}
@@ -59,7 +60,7 @@ pub counted_there : (p : ScenarioParts) (moment : ℕ) (f : Figures) (r : Reache
 counted_there p moment f r begun = record { base = base_at p (min moment p.end) r; of = begun.of; from = counts_from p moment r begun.stands }
 
 -- where the run has ended there is one
-pub table_there : (column : Option TextNames) (p : ScenarioParts) (moment : ℕ) (f : Figures) (r : Reached) (text : List ℕ) → AreCounted p moment f r → r.position ≤ 1000000000000000 → due r.state ≡ None
+pub table_there : (column : Option TextNames) (p : ScenarioParts) (moment : ℕ) (f : Figures) (r : Reached) (text : List ℕ) → AreCounted p moment f r → r.position ≤ MOST_EVENTS → due r.state ≡ None
     → ((b : Base) (of : AreOfRun p b f r) → text ≡ table_over column p b (moments b.state of.count) r.state) → IsTableFrom column p moment text
 table_there column p moment f r text counted few none is = record {
   base = counted.base;

@@ -6,6 +6,7 @@ use Rattle.std.specs.List.{flat_map, enumerate_from}
 use Rattle.std.specs.Option.{option_map, option_and_then}
 use Rattle.std.specs.Io.KnownBytes.{Appends}
 use Rattle.sim_time.specs.declared.key.Key.{Key}
+use Rattle.sim_time.specs.declared.limits.TheConstants.{MOST_EVENTS}
 use Rattle.node_core.specs.declared.event.Event.{Event}
 use Rattle.net_machine.specs.declared.net.StepFault.{StepFault}
 use Rattle.net_machine.specs.declared.net.StepFault.TheVariants.{NoMemory as step_NoMemory, CountFull as step_CountFull}
@@ -60,7 +61,7 @@ at_next s old new made x at h =
 pub start_of : (s : State) (net : Reached) (made : List ℕ) → IsAt s net made → IsTraceStart s made
 start_of s net made at = record { n = net.position; lines = at.lines; last = net.state; is_run = at.is_run; bytes_are = at.made_are }
 
-pub trace_of : (s : State) (net : Reached) (made : List ℕ) → IsAt s net made → net.position ≤ 1000000000000000 → step net.state ≡ None → IsTrace s (made ++ end_bytes net.position)
+pub trace_of : (s : State) (net : Reached) (made : List ℕ) → IsAt s net made → net.position ≤ MOST_EVENTS → step net.state ≡ None → IsTrace s (made ++ end_bytes net.position)
 trace_of s net made at few last =
     record { n = net.position; few = few; lines = at.lines; last = net.state; is_run = at.is_run; final = last; bytes_are = ap (λ l. l ++ end_bytes net.position) at.made_are }
 
@@ -72,7 +73,7 @@ due_steps s more = go (due s) more
     go None h e = h refl
     go (Some entry) h e = absurd (some_none (step_at s entry) e)
 
-full_of : (s : State) (net : Reached) (made : List ℕ) → IsAt s net made → net.position ≡ 1000000000000000 → due net.state ≢ None → IsTooLong s
+full_of : (s : State) (net : Reached) (made : List ℕ) → IsAt s net made → net.position ≡ MOST_EVENTS → due net.state ≢ None → IsTooLong s
 full_of s net made at full more = record { lines = at.lines; last = net.state; is_run = let P : ℕ → Type 0 = λ n. run s n ≡ Some (at.lines, net.state) in subst P full at.is_run; one_due = more }
 
 -- a line more, with its number as the code has it
@@ -97,7 +98,7 @@ made_so_far s net page page' a b made e =
     subst P (sym e) (made.0, made.1, start_of s net (made.0 ++ page) made.2)
 
 -- no event is due, and the last line was added, with its number as the code has it
-pub made_all : (s : State) (net : Reached) (page page' : List ℕ) (n : ℕ) (a b : Option (List ℕ)) → Made s net page a b → net.position ≤ 1000000000000000 → due net.state ≡ None → n ≡ net.position → page' ≡ page ++ end_bytes n
+pub made_all : (s : State) (net : Reached) (page page' : List ℕ) (n : ℕ) (a b : Option (List ℕ)) → Made s net page a b → net.position ≤ MOST_EVENTS → due net.state ≡ None → n ≡ net.position → page' ≡ page ++ end_bytes n
     → WritesBefore page' (IsTrace s) a b
 made_all s net page page' n a b made few none count e =
     let P : List ℕ → Type 0 = IsTrace s in
@@ -164,7 +165,7 @@ module _ (s : State) (from net : Reached) (page : List ℕ) (a b : Option (List 
   all_put on = subst (IsPut s net page a b f g refused) on put
 
   -- the last line was added, with its number as the code has it
-  pub done : (page' : List ℕ) (n : ℕ) → end ≡ Ok Done → net.position ≤ 1000000000000000 → n ≡ net.position → page' ≡ page ++ end_bytes n → HasEnded s page' a b f g (Ok tt)
+  pub done : (page' : List ℕ) (n : ℕ) → end ≡ Ok Done → net.position ≤ MOST_EVENTS → n ≡ net.position → page' ≡ page ++ end_bytes n → HasEnded s page' a b f g (Ok tt)
   done page' n is few count e =
       let so = all_put (ap goes_on is) in
       record {

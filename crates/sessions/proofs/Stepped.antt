@@ -6,6 +6,7 @@ use Rattle.std.proofs.Math.Seq.{get_or-append_seam}
 use Rattle.std.specs.Io.KnownBytes.{Appends}
 use Rattle.std.specs.List.{AllByRecursion, concat}
 use Rattle.sim_time.specs.declared.key.Key.{Key}
+use Rattle.sim_time.specs.declared.limits.TheConstants.{LATEST_END, MOST_EVENTS}
 use Rattle.scenario_image.specs.declared.parts.ScenarioParts.{ScenarioParts}
 use Rattle.node_core.specs.declared.event.Event.{Event}
 use Rattle.node_core.specs.TraceLine.{TraceLine}
@@ -95,10 +96,10 @@ pub record IsSoFar (column : Option TextNames) (p : ScenarioParts) (from every b
   pub written : Appends old now (concat steps)
   pub begun : IsStepBegun p begin f r
   pub some : AreOfSomeRun f r
-  pub early : begin ≤ 1000000000000000
+  pub early : begin ≤ LATEST_END
 
 -- at the beginning none was
-pub none_yet : (column : Option TextNames) (p : ScenarioParts) (from every : ℕ) (f : Figures) (r : Reached) (now : Option (List ℕ)) → IsStepBegun p from f r → AreOfSomeRun f r → from ≤ 1000000000000000 → IsSoFar column p from every from f r now now
+pub none_yet : (column : Option TextNames) (p : ScenarioParts) (from every : ℕ) (f : Figures) (r : Reached) (now : Option (List ℕ)) → IsStepBegun p from f r → AreOfSomeRun f r → from ≤ MOST_EVENTS → IsSoFar column p from every from f r now now
 unfolding begin_of
 none_yet column p from every f r now begun some early = record {
   steps = [];
@@ -121,7 +122,7 @@ going_early p moment s end held (inl one_due) = go (due s) refl
 going_early p moment s end held (inr before) = (let less = before.0 in omega (arith, less))
 
 module _ (column : Option TextNames) (p : ScenarioParts) (from every begin until : ℕ) (f counted : Figures) (r at : Reached) (old now : Option (List ℕ)) (so : IsSoFar column p from every begin f r old now)
-    (until_is : until ≡ begin + every) (before : RunsBefore until r at) (goes : (q : ScenarioParts) (b : Base) → AreOfRun q b f r → AreOfRun q b counted at) (fits : at.position ≤ 1000000000000000) where
+    (until_is : until ≡ begin + every) (before : RunsBefore until r at) (goes : (q : ScenarioParts) (b : Base) → AreOfRun q b f r → AreOfRun q b counted at) (fits : at.position ≤ MOST_EVENTS) where
   pub step_of : AreOfRun p (base_at p (min begin p.end) r) counted at
   step_of = goes p (base_at p (min begin p.end) r) so.begun.of
 
@@ -222,7 +223,7 @@ module _ (column : Option TextNames) (p : ScenarioParts) (from every begin until
       step_short = (concat (so.steps ++ step_rows ∷ []), all_written, rows_of_steps)
 
       -- it goes on
-      pub step_next : (next : Figures) → IsGoingOn p until at.state → AreOfRun p (base_at p (min until p.end) at) next at → AreOfSomeRun next at → p.end ≤ 1000000000000000 → IsSoFar column p from every until next at old new
+      pub step_next : (next : Figures) → IsGoingOn p until at.state → AreOfRun p (base_at p (min until p.end) at) next at → AreOfSomeRun next at → p.end ≤ LATEST_END → IsSoFar column p from every until next at old new
       step_next next going of some most =
           let end = end_of_run p at step_come in
           let early = going_early p until at.state end held going in

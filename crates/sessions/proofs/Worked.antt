@@ -3,6 +3,7 @@ use Rattle.std.proofs.Common.{◌≡◌, ◌∙◌, ℕ, ◌≤◌, ◌+◌, Lis
 use Rattle.std.specs.Option.{option_map}
 use Rattle.std.proofs.lemmas.List.{take-append-drop}
 use Rattle.std.specs.Io.KnownBytes.{Appends}
+use Rattle.sim_time.specs.declared.limits.TheConstants.{MOST_EVENTS}
 use Rattle.tournament.specs.Keyed.{least}
 use Rattle.node_core.specs.TraceLine.{TraceLine}
 use Rattle.table_run.specs.State.{State, below, due, run, step_at}
@@ -71,7 +72,7 @@ pub any_stop : (s : State) (one other : Stop) (new : Reached) (a b : Option (Lis
 any_stop s one other new a b to = record { lines = to.lines; state = to.state; is_run = to.is_run; position_is = to.position_is; state_is = to.state_is; takes = to.takes }
 
 -- a run that has too many events from here has too many from its beginning
-pub full_from_start : (old : Reached) (stop : Stop) (mid : Reached) (a b : Option (List ℕ)) → old.position ≡ 0 → RunsTo old.state (Ok stop) mid a b → mid.position ≤ 1000000000000000 → HasTooMany mid
+pub full_from_start : (old : Reached) (stop : Stop) (mid : Reached) (a b : Option (List ℕ)) → old.position ≡ 0 → RunsTo old.state (Ok stop) mid a b → mid.position ≤ MOST_EVENTS → HasTooMany mid
     → HasTooMany old
 full_from_start old stop mid a b is to few full =
     let both : run old.state (length to.lines) ≡ Some (to.lines, mid.state) = subst (λ t. run old.state (length to.lines) ≡ Some (to.lines, t)) (sym to.state_is) to.is_run in
@@ -111,7 +112,7 @@ module _ (s : State) (new : Reached) (a b : Option (List ℕ)) where
     count : new.position ≡ length commits.lines
     count = commits.position_is
 
-    trace : (n : ℕ) (last : List ℕ) → IsStop s.end new.state stop → new.position ≤ 1000000000000000 → n ≡ new.position → last ≡ end_bytes n → IsTrace s (lines_bytes commits.lines ++ last)
+    trace : (n : ℕ) (last : List ℕ) → IsStop s.end new.state stop → new.position ≤ MOST_EVENTS → n ≡ new.position → last ≡ end_bytes n → IsTrace s (lines_bytes commits.lines ++ last)
     trace n last stops few at ends =
         let as_many = count in
         record {
@@ -125,7 +126,7 @@ module _ (s : State) (new : Reached) (a b : Option (List ℕ)) where
         }
 
     -- all lines were written, and the last line as well
-    pub all_written : (c : Option (List ℕ)) (n : ℕ) (last : List ℕ) → IsStop s.end new.state stop → new.position ≤ 1000000000000000 → n ≡ new.position → last ≡ end_bytes n → Appends b c last
+    pub all_written : (c : Option (List ℕ)) (n : ℕ) (last : List ℕ) → IsStop s.end new.state stop → new.position ≤ MOST_EVENTS → n ≡ new.position → last ≡ end_bytes n → Appends b c last
         → Writes (IsTrace s) a c
     all_written c n last stops few at ends wrote =
         let all = lines_bytes commits.lines in (all ++ last, appends_more a b c all last commits.takes wrote, trace n last stops few at ends)
@@ -135,7 +136,7 @@ module _ (s : State) (new : Reached) (a b : Option (List ℕ)) where
     last_refused = (lines_bytes commits.lines, commits.takes, begun s commits.lines commits.state commits.is_run)
 
     -- the writer failed over the last line
-    pub last_failed : (c : Option (List ℕ)) (n : ℕ) (last : List ℕ) → IsStop s.end new.state stop → new.position ≤ 1000000000000000 → n ≡ new.position → last ≡ end_bytes n
+    pub last_failed : (c : Option (List ℕ)) (n : ℕ) (last : List ℕ) → IsStop s.end new.state stop → new.position ≤ MOST_EVENTS → n ≡ new.position → last ≡ end_bytes n
         → Writes (IsBeginningOf (λ all. all ≡ last)) b c → Writes (IsBeginningOf (IsTraceOrStart s)) a c
     last_failed c n last stops few at ends part =
         let all = lines_bytes commits.lines in
@@ -153,7 +154,7 @@ module _ (s : State) (end events : ℕ) (stop : Stop) (engine : EngineValue) (a 
   stops : IsStop s.end engine.net.state stop
   stops = subst (λ m. IsStop m engine.net.state stop) (sym has.end_is) has.stop
 
-  few : engine.net.position ≤ 1000000000000000
+  few : engine.net.position ≤ MOST_EVENTS
   few = (fits has.failed).position_fits
 
   last_line : (ended : SessionEnded) → EndsRun (Ok stop) events ended b c → Writes (IsRunOutput s ended) a c

@@ -1,6 +1,7 @@
 -- What `figures` writes of a scenario, and the ways in which counting ends.
 use Rattle.std.specs.Prelude.{◌≡◌, ◌≢◌, ◌⊎◌, ◌<◌, ◌++◌, ℕ, min, Bool, List, [], length, Option, None, Result, Ok, Err}
 use Rattle.std.specs.List.{AllByRecursion, concat}
+use Rattle.sim_time.specs.declared.limits.TheConstants.{MOST_EVENTS}
 use Rattle.scenario_image.specs.declared.parts.ScenarioParts.{ScenarioParts}
 use Rattle.table_run.specs.State.{due, initial}
 use Rattle.net_machine.specs.Run.{Reached}
@@ -28,7 +29,7 @@ use Rattle.sessions.specs.Written.{IsBeginningOf}
 -- a run stopped where it has come to: memory was refused, or one more event is due after 10^15
 abbrev pub IsCountFault : Reached → SessionFault → Type 0
 IsCountFault net NoMemory = Unit {0}
-IsCountFault net CountFull = (due net.state ≢ None) × (net.position ≡ 1000000000000000)
+IsCountFault net CountFull = (due net.state ≢ None) × (net.position ≡ MOST_EVENTS)
 IsCountFault net _ = ⊥
 
 -- nothing of a scenario's run is counted, and none of its events was run

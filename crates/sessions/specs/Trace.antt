@@ -1,6 +1,7 @@
 -- The trace of a run, as bytes.
 use Rattle.std.specs.Prelude.{◌≡◌, ◌≤◌, ℕ, List, ◌++◌, ◌⊎◌, Some, None}
 use Rattle.std.specs.List.{flat_map, enumerate_from}
+use Rattle.sim_time.specs.declared.limits.TheConstants.{MOST_EVENTS}
 use Rattle.table_run.specs.State.{State, run, step}
 use Rattle.node_core.specs.TraceLine.{TraceLine}
 use Rattle.trace_text.specs.Line.{line_bytes}
@@ -22,7 +23,7 @@ pub record IsTraceStart (s : State) (bytes : List ℕ) : Type 0 where
 -- the lines of all n events of the run from a state, at most 10^15 and no further one being due, and the last line
 pub record IsTrace (s : State) (bytes : List ℕ) : Type 0 where
   pub n : ℕ
-  pub few : n ≤ 1000000000000000
+  pub few : n ≤ MOST_EVENTS
   pub lines : List TraceLine
   pub last : State
   pub is_run : run s n ≡ Some (lines, last)

@@ -1,5 +1,6 @@
 //! The figures of a scenario's run, written as a table.
 ghost use Rattle.std.specs.Prelude.{◌≡◌, ◌≤◌, None, IfOk, IfErr};
+ghost use Rattle.sim_time.specs.declared.limits.TheConstants.{MOST_EVENTS};
 ghost use Rattle.scenario_image.specs.declared.parts.ScenarioParts.{ScenarioParts};
 ghost use Rattle.table_run.specs.State.{due};
 ghost use Rattle.figures.specs.Figures.{AreOfSomeRun};
@@ -28,7 +29,7 @@ fn count_reported<N: Notes>(
     ensures counted { IfOk result (λ _. (p : ScenarioParts) → IsOpenedRun p counter.old.figures counter.old.net → AreCounted p moment counter.new.figures counter.new.net) }
     ensures come { (p : ScenarioParts) → IsOpenedRun p counter.old.figures counter.old.net → HasCome p counter.new.net }
     ensures ended { IfOk result (λ _. due counter.new.net.state ≡ None) }
-    ensures fits { counter.new.net.position ≤ 1000000000000000 }
+    ensures fits { counter.new.net.position ≤ MOST_EVENTS }
     ensures faults { IfErr result (IsCountFault counter.new.net) }
 {
     let ended = counter.count_from(moment, notes);

@@ -6,6 +6,7 @@
 
 pub mod control_law;
 pub mod key;
+pub mod limits;
 pub mod queue_kind;
 pub mod rate;
 pub mod settings;
@@ -14,6 +15,7 @@ pub mod variant;
 
 pub use control_law::{gap, gaps_shrink};
 pub use key::{Key, key_order};
+pub use limits::{LATEST_END, MOST_EVENTS};
 pub use queue_kind::{CodelParameters, QueueKind};
 pub use rate::{Rate, serial_ns};
 pub use settings::SenderSettings;

@@ -4,6 +4,7 @@ use Rattle.std.proofs.Common.{◌≡◌, ◌≢◌, ℕ, ◌+◌, ◌-◌, ◌*�
 use Rattle.std.specs.Option.{IfSome}
 use Rattle.std.specs.FinMap as finmap
 use Rattle.sim_time.specs.declared.key.Key.{Key}
+use Rattle.sim_time.specs.declared.limits.TheConstants.{LATEST_END}
 use Rattle.packet_chain.specs.declared.packet.Packet.{Packet}
 use Rattle.packet_chain.specs.declared.packet.Kind.{Kind}
 use Rattle.packet_chain.specs.declared.packet.Kind.TheVariants.{Data, Ack}
@@ -47,7 +48,7 @@ pub record HasRow (p : ScenarioParts) (s : State) (k : Key) (v : Event) : Type 0
   pub effect_is : effect_of s (k, v) ≡ shaped (part_at s k.node) k shape
   pub row : IsRow p s k v shape (stepped s k (shaped (part_at s k.node) k shape))
 
-module _ (p : ScenarioParts) (is_scenario : IsScenario p) (lines : List TraceLine) (now : ℕ) (s : State) (k : Key) (S : IsSoundAt p lines now s) (moment : k.time ≤ 1000000000000000) where
+module _ (p : ScenarioParts) (is_scenario : IsScenario p) (lines : List TraceLine) (now : ℕ) (s : State) (k : Key) (S : IsSoundAt p lines now s) (moment : k.time ≤ LATEST_END) where
   role_at : (node : ℕ) → k.node ≡ node → (role : Role) → (part_at s node).role ≡ role → (part_at s k.node).role ≡ role
   role_at node at role is = ap (λ n. (part_at s n).role) at ∙ is
 

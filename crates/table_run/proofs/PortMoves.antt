@@ -10,11 +10,10 @@ use Rattle.sim_time.proofs.Serial.{serial_fits}
 use Rattle.packet_chain.specs.declared.packet.Packet.{Packet}
 use Rattle.packet_chain.specs.Stamped.{Stamped}
 use Rattle.aqm.specs.declared.queue.Queue.{Queue}
-use Rattle.aqm.specs.DropTail.{is_full}
-use Rattle.aqm.specs.Queue.{fifo_of, waiting_in, emptied, taken_from, offered_to, Taken}
+use Rattle.aqm.specs.Queue.{fifo_of, waiting_in, emptied, refuses, taken_from, offered_to, Taken}
 use Rattle.aqm.specs.Laws.{listed}
 use Rattle.aqm.proofs.Front.{takes_the_front, gives_what_waits}
-use Rattle.aqm.proofs.Stays.{queues_stay, same_room, enters_last}
+use Rattle.aqm.proofs.Stays.{queues_stay, same_room, enters_last, refused_stays, has_room}
 use Rattle.port.specs.Losses.{is_lost}
 use Rattle.port.specs.Port.{PortState, Departure, PortStep, begun, taken, only, with_packet, entered, offered_one, offered_all}
 use Rattle.table_run.proofs.Lists.{all_append, all_left, all_right}
@@ -132,16 +131,32 @@ module _ (D : Packet → Type 0) (sized : AreSized D) (now : ℕ) where
   either count before old true s t yes' no' = yes' refl
   either count before old false s t yes' no' = no' refl
 
-  -- refused: only the count of offered packets changes
-  refused_moves : (old : PortState) (acts : _) → Waits D old → PortMoves D now 1 old.next_free old (only (record old { offered = old.offered + 1 }) acts)
-  refused_moves old acts waits = record {
+  -- lost: only the count of offered packets changes
+  lost_moves : (old : PortState) (acts : _) → Waits D old → PortMoves D now 1 old.next_free old (only (record old { offered = old.offered + 1 }) acts)
+  lost_moves old acts waits = record {
     stays = record { same_link = refl; same_rate = refl; same_delay = refl; same_lose = refl; same_queue = refl };
     waits = record { queued = waits.queued; idle_empty = waits.idle_empty; room = waits.room };
     offered_are = refl;
     outcome = (refl, refl);
   }
 
-  -- a packet is last in a queue that has room
+  -- refused: what waits stays
+  refused_moves : (old : PortState) (x : Packet) (acts : _) → refuses old.queue ≡ true → Waits D old → PortMoves D now 1 old.next_free old (only (with_packet now (record old { offered = old.offered + 1 }) x) acts)
+  refused_moves old x acts refused waits =
+      let same = (queues_stay old.queue now).offered (x, now) in
+      let still = refused_stays old.queue (x, now) now refused in
+      record {
+        stays = record { same_link = refl; same_rate = refl; same_delay = refl; same_lose = refl; same_queue = same };
+        waits = record {
+          queued = subst (AllByRecursion (λ (y : Stamped). D y.0)) (sym still) waits.queued;
+          idle_empty = λ idle. still ∙ waits.idle_empty idle;
+          room = (let capacity = same_room (offered_to old.queue (x, now) now) old.queue same in let length_is = ap length still in let room = waits.room in omega (arith, room, capacity, length_is));
+        };
+        offered_are = refl;
+        outcome = (refl, refl);
+      }
+
+  -- a packet is last in a queue that takes it in
   record Joins (q : Queue) (x : Packet) (after : Queue) : Type 0 where
     pub same : emptied after ≡ emptied q
     pub those : AllByRecursion (λ y. D y.0) (waiting_in after)
@@ -150,18 +165,18 @@ module _ (D : Packet → Type 0) (sized : AreSized D) (now : ℕ) where
   one_longer : (xs : List Stamped) (y : Stamped) (capacity : ℕ) → length xs ≤ capacity → (length xs == capacity) ≡ false → length (xs ++ y ∷ []) ≤ capacity
   one_longer xs y capacity room apart = let other = eqb-false (length xs) capacity apart in simp length-append (omega (arith, room, other))
 
-  joins : (q : Queue) (x : Packet) → is_full (fifo_of q) ≡ false → D x → AllByRecursion (λ y. D y.0) (waiting_in q) → length (waiting_in q) ≤ (fifo_of q).capacity → Joins q x (offered_to q (x, now) now)
+  joins : (q : Queue) (x : Packet) → refuses q ≡ false → D x → AllByRecursion (λ y. D y.0) (waiting_in q) → length (waiting_in q) ≤ (fifo_of q).capacity → Joins q x (offered_to q (x, now) now)
   joins q x full is those room =
       let last = enters_last q (x, now) now full in
       let same = (queues_stay q now).offered (x, now) in
       record {
         same = same;
         those = subst (AllByRecursion (λ (y : Stamped). D y.0)) (sym last) (all_append (λ y. D y.0) (waiting_in q) ((x, now) ∷ []) those (is, tt));
-        room = (let more = one_longer (waiting_in q) (x, now) (fifo_of q).capacity room full in let capacity = same_room (offered_to q (x, now) now) q same in let length_is = ap length last in omega (arith, more, capacity, length_is));
+        room = (let more = one_longer (waiting_in q) (x, now) (fifo_of q).capacity room (has_room q full) in let capacity = same_room (offered_to q (x, now) now) q same in let length_is = ap length last in omega (arith, more, capacity, length_is));
       }
 
   -- a packet enters: it waits where the link is busy, else the head is taken
-  entered_moves : (old : PortState) (x : Packet) (o : Option ℕ) → old.next_free ≡ o → IsLink old → is_full (fifo_of old.queue) ≡ false → D x → Waits D old → PortMoves D now 1 old.next_free old (entered now (record old { offered = old.offered + 1 }) x)
+  entered_moves : (old : PortState) (x : Packet) (o : Option ℕ) → old.next_free ≡ o → IsLink old → refuses old.queue ≡ false → D x → Waits D old → PortMoves D now 1 old.next_free old (entered now (record old { offered = old.offered + 1 }) x)
   entered_moves old x None e link full is waits =
       let joined = joins old.queue x full is waits.queued waits.room in
       let waiting : PortState = with_packet now (record old { offered = old.offered + 1 }) x in
@@ -190,8 +205,8 @@ module _ (D : Packet → Type 0) (sized : AreSized D) (now : ℕ) where
 
   pub one_moves : (old : PortState) (x : Packet) → IsLink old → D x → Waits D old → PortMoves D now 1 old.next_free old (offered_one now old x)
   one_moves old x link is waits =
-      either 1 old.next_free old (is_lost old.lose (old.offered + 1)) _ _ (λ _. refused_moves old _ waits)
-      (λ _. either 1 old.next_free old (is_full (fifo_of old.queue)) _ _ (λ _. refused_moves old _ waits) (λ full. entered_moves old x old.next_free refl link full is waits))
+      either 1 old.next_free old (is_lost old.lose (old.offered + 1)) _ _ (λ _. lost_moves old _ waits)
+      (λ _. either 1 old.next_free old (refuses old.queue) _ _ (λ refused. refused_moves old x _ refused waits) (λ full. entered_moves old x old.next_free refl link full is waits))
 
   same_link : (old new : PortState) → StaysLink old new → IsLink old → IsLink new
   same_link old new stays link = record {

@@ -5,6 +5,7 @@ use Rattle.std.proofs.lemmas.List.Sums.{count_by-le-length}
 use Rattle.std.specs.Prelude.{◌==◌}
 use Rattle.std.specs.FinMap as finmap
 use Rattle.sim_time.specs.declared.key.Key.{Key}
+use Rattle.sim_time.specs.declared.limits.TheConstants.{LATEST_END, MOST_EVENTS}
 use Rattle.scenario_image.specs.declared.parts.ScenarioParts.{ScenarioParts}
 use Rattle.scenario_image.specs.Scenario.{IsScenario}
 use Rattle.packet_chain.specs.declared.packet.Packet.{Packet}
@@ -66,7 +67,7 @@ pub record IsDelivery (s : State) (n : ℕ) (k : Key) (new : List LinkState) (le
   pub last : (q : Key) (w : Event) → finmap.get s.pending q ≡ Some w → q.source ≡ (link_at new leaving.index).port.link + 1 → (q.time < leaving.departure.arrival) × (q.number < (link_at new leaving.index).port.sent)
 
 -- what an arrival needs of its node
-module _ (p : ScenarioParts) (is_scenario : IsScenario p) (lines : List TraceLine) (now : ℕ) (s : State) (k : Key) (S : IsSoundAt p lines now s) (moment : k.time ≤ 1000000000000000) where
+module _ (p : ScenarioParts) (is_scenario : IsScenario p) (lines : List TraceLine) (now : ℕ) (s : State) (k : Key) (S : IsSoundAt p lines now s) (moment : k.time ≤ LATEST_END) where
   at_router : (x : Packet) (h : IsArrival p s now k x) → PathGoesOn p (path_of x.kind h.under_way.flow) k.node → CanTakePacket (part_at s k.node) (part_at s k.node).role k.time x
   at_router x h on =
       let U = h.under_way in
@@ -116,7 +117,7 @@ module _ (p : ScenarioParts) (is_scenario : IsScenario p) (lines : List TraceLin
   can_run (Arrive x) due h = takes x due h
 
 -- the sums at a link of a run so long
-link_can : (p : ScenarioParts) (s : State) (events : ℕ) (link : LinkState) → events < 1000000000000000 → IsSoundLink p s events link.port → LinkCan link
+link_can : (p : ScenarioParts) (s : State) (events : ℕ) (link : LinkState) → events < MOST_EVENTS → IsSoundLink p s events link.port → LinkCan link
 link_can p s events link few h = record { sent_fits = (let a = h.sent_most in omega (arith, a, few)); offered_fits = (let a = h.offered_most in omega (arith, a, few)) }
 
 -- what a row leaves of its links, and the packet that leaves
@@ -214,7 +215,7 @@ module _ (p : ScenarioParts) (n : ℕ) (lines : List TraceLine) (s : State) (is_
   its_due : IsDue s k v
   its_due = is_due s k v is_next
 
-  moment : k.time ≤ 1000000000000000
+  moment : k.time ≤ LATEST_END
   moment = (let a = its_due.in_time in let b = sound.sound.end_is in let c = is_scenario.in_limits.end_range.1 in omega (arith, a, b, c))
 
   has : HasRow p s k v
@@ -228,7 +229,7 @@ module _ (p : ScenarioParts) (n : ℕ) (lines : List TraceLine) (s : State) (is_
   node_within = (kept_by p lines s k v is_scenario sound is_next).within
 
   -- the event can be run at its node, after fewer events there than a run may have
-  pub runnable_by : lines_at k.node lines < 1000000000000000 → IsRunnable (part_at s k.node) k v
+  pub runnable_by : lines_at k.node lines < MOST_EVENTS → IsRunnable (part_at s k.node) k v
   runnable_by few = record {
     moment = moment;
     can = can_run p is_scenario lines sound.moment s k sound.sound moment v its_due (sound.sound.belongs k v its_due.pending);
@@ -236,7 +237,7 @@ module _ (p : ScenarioParts) (n : ℕ) (lines : List TraceLine) (s : State) (is_
         (sound.sound.each_node k.node (subst (λ m. k.node < m) sound.sound.nodes_are node_within)).each_link;
   }
 
-  pub runnable : n < 1000000000000000 → IsRunnable (part_at s k.node) k v
+  pub runnable : n < MOST_EVENTS → IsRunnable (part_at s k.node) k v
   runnable short = runnable_by (let few = few_lines k.node in omega (arith, few, short))
 
   pub links_stay : LinksStay (part_at s k.node).links (effect_of s (k, v)).part.links (effect_of s (k, v)).leaving

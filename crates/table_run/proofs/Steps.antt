@@ -3,6 +3,7 @@ use Rattle.std.proofs.Common.{◌≡◌, ℕ, ◌+◌, ◌<◌, ◌≤◌, List,
 use Rattle.std.specs.List.{AllByRecursion}
 use Rattle.std.specs.Option.{IfSome}
 use Rattle.sim_time.specs.declared.key.Key.{Key}
+use Rattle.sim_time.specs.declared.limits.TheConstants.{LATEST_END}
 use Rattle.scenario_image.specs.declared.parts.ScenarioParts.{ScenarioParts}
 use Rattle.scenario_image.specs.Scenario.{IsScenario}
 use Rattle.port.specs.Port.{Departure}
@@ -85,7 +86,7 @@ module _ (p : ScenarioParts) (is_scenario : IsScenario p) (lines : List TraceLin
         within = there;
       }
 
-  pub event_keeps : k.time ≤ 1000000000000000 → Kept p lines s k v (effect_of s (k, v))
+  pub event_keeps : k.time ≤ LATEST_END → Kept p lines s k v (effect_of s (k, v))
   event_keeps moment =
       let has = has_row p is_scenario lines now s k S moment v due (S.belongs k v due.pending) in
       subst (Kept p lines s k v) (sym has.effect_is) (shape_keeps has.shape has.row)

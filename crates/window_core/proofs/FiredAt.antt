@@ -6,6 +6,7 @@ use Rattle.std.specs.Option.{option_map}
 use Rattle.std.specs.Result.{IfOk}
 use Rattle.node_core.specs.TraceLine.{TraceLine}
 use Rattle.sim_time.specs.declared.key.Key.{Key}
+use Rattle.sim_time.specs.declared.limits.TheConstants.{MOST_EVENTS}
 use Rattle.tournament.proofs.Maps.{not_some, same_some}
 use Rattle.node_core.specs.declared.event.Event.{Event}
 use Rattle.table_run.specs.State.{State, due}
@@ -84,7 +85,7 @@ module _ (v : WindowValue) (is : IsWindow v) (number : ℕ) (under : number < le
   )
 
   -- one more event
-  room : (b : Bool) → AfterFirings v.until old g → Fired v.until old b g → g.position + length g.lines ≤ 1000000000000000 → b ≡ true → events_with v number < 1000000000000000
+  room : (b : Bool) → AfterFirings v.until old g → Fired v.until old b g → g.position + length g.lines ≤ MOST_EVENTS → b ≡ true → events_with v number < MOST_EVENTS
   room true after e fits _ =
       let more = one_line (group_in old.entries) old.number v.until (state_of old) (state_of g) e in
       let position = ap (λ (x : GroupValue). x.position) after.rest in
@@ -92,7 +93,7 @@ module _ (v : WindowValue) (is : IsWindow v) (number : ℕ) (under : number < le
       omega (arith, more, position, part, fits)
   room false after e fits t = absurd (true≢false (sym t))
 
-  pub has_room : {E : Type 0} (r : Result Bool E) → AfterFirings v.until old g → IfOk r (λ fired. Fired v.until old fired g) → g.position + length g.lines ≤ 1000000000000000 → IfOk r (λ fired. fired ≡ true → events_with v number < 1000000000000000)
+  pub has_room : {E : Type 0} (r : Result Bool E) → AfterFirings v.until old g → IfOk r (λ fired. Fired v.until old fired g) → g.position + length g.lines ≤ MOST_EVENTS → IfOk r (λ fired. fired ≡ true → events_with v number < MOST_EVENTS)
   has_room (Ok b) after h fits = room b after h fits
   has_room (Err x) after h fits = tt
 

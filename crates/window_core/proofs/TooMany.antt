@@ -4,6 +4,7 @@ use Rattle.std.specs.Prelude.{nat_lt}
 use Rattle.std.proofs.lemmas.Bool.{cases_eq, cases_lt}
 use Rattle.std.proofs.lemmas.List.{length-set}
 use Rattle.sim_time.specs.declared.key.Key.{Key}
+use Rattle.sim_time.specs.declared.limits.TheConstants.{MOST_EVENTS}
 use Rattle.tournament.specs.Keyed.{least}
 use Rattle.node_core.specs.declared.event.Event.{Event}
 use Rattle.node_core.specs.TraceLine.{TraceLine}
@@ -25,7 +26,7 @@ use Rattle.window_law.proofs.Matches.{the_value}
 use Rattle.window_core.proofs.Windowed.{state_at, length_states}
 
 abbrev most : ℕ
-most = 1000000000000000
+most = MOST_EVENTS
 
 -- A RUN
 

@@ -2,6 +2,7 @@
 use Rattle.std.proofs.Common.{◌≡◌, ◌≤◌, ◌<◌, ◌+◌, ℕ, List, [], ◌∷◌, ◌++◌, length, map, true, cond, Some, None, refl, sym, ap, subst, ◌∙◌, arith}
 use Rattle.std.proofs.lemmas.List.{length-map}
 use Rattle.std.specs.List.{enumerate_from}
+use Rattle.sim_time.specs.declared.limits.TheConstants.{MOST_EVENTS}
 use Rattle.node_core.specs.TraceLine.{TraceLine}
 use Rattle.node_core.specs.Pending.{Events}
 use Rattle.table_run.specs.State.{State, initial, run}
@@ -40,7 +41,7 @@ lines_early v is done lines lines_are =
     let t = turn_of is.from.scenario (group_in v.entries) v.position is.from.before is.edge (machine_of v) is.from.in_run done in
     subst (AreBelow v.until) (sym (lines_are ∙ ap in_order (sym (lines_of_groups v.groups)))) t.early
 
-module _ (v : WindowValue) (is : IsWindow v) (done : all_done v.until (states_of v.groups) ≡ true) (count : ℕ) (fits : v.position + count ≤ 1000000000000000) (after : List GroupValue)
+module _ (v : WindowValue) (is : IsWindow v) (done : all_done v.until (states_of v.groups) ≡ true) (count : ℕ) (fits : v.position + count ≤ MOST_EVENTS) (after : List GroupValue)
     (handed : HasHanded v.entries v.links (map (cleared (v.position + count)) v.groups) after) (until : ℕ) (until_is : until ≡ window_end (setting_in v) (states_of after)) where
   abbrev n : ℕ
   n = v.position + count

@@ -1,5 +1,6 @@
 -- What an action on a window does, as the window machine has it.
 use Rattle.std.specs.Prelude.{◌≡◌, ◌<◌, ◌+◌, ℕ, Bool, true, false, [], Some, None}
+use Rattle.sim_time.specs.declared.limits.TheConstants.{MOST_EVENTS}
 use Rattle.table_run.specs.State.{State}
 use Rattle.window_core.specs.declared.window.acting.Action.{Action}
 use Rattle.window_core.specs.declared.window.acting.Action.TheVariants.{Fire as FireOf, Turn as TakeTurn}
@@ -25,7 +26,7 @@ move_of TakeTurn = Turn
 -- whether an action was possible, and the window after it: of a firing other groups may come, of a turn the batch that is then taken
 abbrev pub HasActed : WindowValue → Action → Bool → WindowValue → Type 0
 HasActed old action false new = (moved (setting_in old) (machine_of old) (move_of action) ≡ None) × (new ≡ old)
-HasActed old (FireOf number) true new = (moved (setting_in old) (machine_of old) (Fire number) ≡ Some (machine_of new, [])) × (new ≡ record old { groups = new.groups }) × (events_with old number < 1000000000000000)
+HasActed old (FireOf number) true new = (moved (setting_in old) (machine_of old) (Fire number) ≡ Some (machine_of new, [])) × (new ≡ record old { groups = new.groups }) × (events_with old number < MOST_EVENTS)
 HasActed old TakeTurn true new = HasTurned old new.taken record new { taken = old.taken }
 
 -- at which state of the run the window is open then
@@ -48,7 +49,7 @@ fault_of WithFullCount = CountFull
 -- when an action fails: it would be possible, and there are as many events as there may be, or no memory
 abbrev pub IsFaultOf : WindowValue → Action → TurnFault → Type 0
 IsFaultOf v action NotDone = ⊥
-IsFaultOf v (FireOf number) CountFull = IsDueAt v number × (events_with v number ≡ 1000000000000000)
-IsFaultOf v (FireOf number) NoMemory = IsDueAt v number × (events_with v number < 1000000000000000)
+IsFaultOf v (FireOf number) CountFull = IsDueAt v number × (events_with v number ≡ MOST_EVENTS)
+IsFaultOf v (FireOf number) NoMemory = IsDueAt v number × (events_with v number < MOST_EVENTS)
 IsFaultOf v TakeTurn CountFull = IsTurnFault v CountFull
 IsFaultOf v TakeTurn NoMemory = IsTurnFault v NoMemory

@@ -1,5 +1,6 @@
 -- Runs of more events than there may be.
 use Rattle.std.specs.Prelude.{◌≡◌, ◌≢◌, ◌<◌, ◌+◌, ◌-◌, ℕ, List, length, Some, None}
+use Rattle.sim_time.specs.declared.limits.TheConstants.{MOST_EVENTS}
 use Rattle.node_core.specs.TraceLine.{TraceLine}
 use Rattle.table_run.specs.State.{State, due, run}
 use Rattle.net_machine.specs.Run.{Reached}
@@ -11,7 +12,7 @@ use Rattle.window_core.specs.Window.{WindowValue, IsFrom, value_at}
 pub record HasTooMany (at : Reached) : Type 0 where
   pub lines : List TraceLine
   pub last : State
-  pub is_run : run at.state (1000000000000000 - at.position) ≡ Some (lines, last)
+  pub is_run : run at.state (MOST_EVENTS - at.position) ≡ Some (lines, last)
   pub one_due : due last ≢ None
 
 -- the state at which a window opened

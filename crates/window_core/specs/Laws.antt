@@ -1,5 +1,6 @@
 -- The law of windows of a run that cannot go on.
 use Rattle.std.specs.Prelude.{◌≤◌, ◌<◌, ℕ, length}
+use Rattle.sim_time.specs.declared.limits.TheConstants.{MOST_EVENTS}
 use Rattle.table_run.specs.State.{State}
 use Rattle.node_group.specs.declared.group.GroupFault.TheVariants as group
 use Rattle.node_group.specs.Group.{GroupValue, AfterFirings}
@@ -15,4 +16,4 @@ FullGroupHasTooMany = (edge : State) (v : WindowValue) → IsWindow v → IsFrom
 
 -- no group has an event left before the window's end, and with all lines there are more than 10^15 events
 abbrev pub FullTurnHasTooMany : Type 0
-FullTurnHasTooMany = (edge : State) (v : WindowValue) → IsFrom edge v → v.position ≤ 1000000000000000 → WindowIsDone v → 1000000000000000 < events_in v → HasTooMany (initial_at edge v)
+FullTurnHasTooMany = (edge : State) (v : WindowValue) → IsFrom edge v → v.position ≤ MOST_EVENTS → WindowIsDone v → MOST_EVENTS < events_in v → HasTooMany (initial_at edge v)

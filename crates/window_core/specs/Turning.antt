@@ -1,5 +1,6 @@
 -- Groups that are about to be brought together by a turn, and what that leaves of them.
 use Rattle.std.specs.Prelude.{◌≡◌, ◌≢◌, ◌<◌, ◌≤◌, ◌+◌, ◌==◌, if◌then◌else◌, ℕ, true, false, List, [], All, length, slice_set}
+use Rattle.sim_time.specs.declared.limits.TheConstants.{MOST_EVENTS}
 use Rattle.tournament.specs.Keyed.{EachKey, apply, entering}
 use Rattle.node_core.specs.Pending.{Events}
 use Rattle.node_core.specs.WireState.{WireState, arrivals_on, came_over, stamps_of}
@@ -18,7 +19,7 @@ pub record CanTurn (v : WindowValue) (count : ℕ) : Type 0 where
   pub done : all_done v.until (states_of v.groups) ≡ true
   pub are_groups : All IsGroup v.groups
   pub count_is : count ≡ length (all_lines (states_of v.groups))
-  pub fits : v.position + count ≤ 1000000000000000
+  pub fits : v.position + count ≤ MOST_EVENTS
 
 -- the groups of the nodes that a link leaves and ends at
 abbrev pub from_group : List ℕ → List LinkEnds → ℕ → ℕ

@@ -1,5 +1,6 @@
 -- A net's run by windows: its groups, and where the run stands.
 use Rattle.std.specs.Prelude.{◌≡◌, ◌≢◌, ◌<◌, ◌≤◌, ◌+◌, ℕ, Bool, true, false, List, [], map as each, length, slice_index_or, Option, Some, None}
+use Rattle.sim_time.specs.declared.limits.TheConstants.{MOST_EVENTS}
 use Rattle.scenario_image.specs.declared.parts.ScenarioParts.{ScenarioParts}
 use Rattle.node_core.specs.TraceLine.{TraceLine}
 use Rattle.table_run.specs.State.{State, run}
@@ -69,7 +70,7 @@ pub record IsSplit (v : WindowValue) : Type 0 where
   pub parts : (number : ℕ) → number < length v.groups → IsPart v number (value_at v.groups number)
   pub known : (link : ℕ) → link < length v.links → IsKnown v link
   pub across : (link : ℕ) → link < length v.links → leaves_from v link ≢ comes_to v link → came_in (value_at v.groups (comes_to v link)) link ≡ (wire_at (value_at v.groups (leaves_from v link)).held link).taken
-  pub fits : v.position ≤ 1000000000000000
+  pub fits : v.position ≤ MOST_EVENTS
 
 -- the window opened at this state of a scenario's run
 pub record IsFrom (edge : State) (v : WindowValue) : Type 0 where

@@ -1,5 +1,6 @@
 //! The lines of all groups come into a sheaf.
 ghost use Rattle.std.specs.Prelude.{◌≡◌, ◌+◌, ◌≤◌, [], length, map as each, OnOk, OnErr};
+ghost use Rattle.sim_time.specs.declared.limits.TheConstants.{MOST_EVENTS};
 ghost use Rattle.node_core.specs.TraceLine.{TraceLine};
 ghost use Rattle.line_merge.specs.Merged.{AreApart, all_of};
 ghost use Rattle.node_group.specs.Group.{GroupValue};
@@ -30,7 +31,7 @@ fn fit(lists: &mut Vec<Lines>, count: usize) -> Result<(), AllocError>
 // Has the lines that a group has told, and gives the group its memory for others: for so many lines at most, or for
 // twice as many as the group has just told, whichever is more.
 fn take_from(lines: &mut Lines, group_state: &mut GroupState, position: u64, most: usize)
-    requires { position ≤ 1000000000000000 }
+    requires { position ≤ MOST_EVENTS }
     ensures lines { lines.new ≡ group_state.old.lines }
     ensures group_state { group_state.new ≡ record group_state.old { lines = []; position = position } }
 {
@@ -43,7 +44,7 @@ fn take_from(lines: &mut Lines, group_state: &mut GroupState, position: u64, mos
 // The lines of each group go into the list of its number.
 fn take_lines(lists: &mut [Lines], group_states: &mut [GroupState], position: u64)
     requires size { length lists.old ≡ length group_states.old }
-    requires position { position ≤ 1000000000000000 }
+    requires position { position ≤ MOST_EVENTS }
     ensures lists { lists.new ≡ each (λ (g : GroupValue). g.lines) group_states.old }
     ensures group_states { group_states.new ≡ each (λ (g : GroupValue). record g { lines = []; position = position }) group_states.old }
 {
@@ -64,7 +65,7 @@ pub(crate) fn gather(
     requires few { length group_states.old ≤ 64 }
     requires apart { AreApart (each (λ (g : GroupValue). g.lines) group_states.old) }
     requires count { count ≡ length (all_of (each (λ (g : GroupValue). g.lines) group_states.old)) }
-    requires fits { position + count ≤ 1000000000000000 }
+    requires fits { position + count ≤ MOST_EVENTS }
     ensures sheaf { OnOk result (sheaf.new ≡ record { first = position + 1; lists = each (λ (g : GroupValue). g.lines) group_states.old }) }
     ensures group_states { OnOk result (group_states.new ≡ each (λ (g : GroupValue). record g { lines = []; position = position + count }) group_states.old) }
     ensures err { OnErr result (group_states.new ≡ group_states.old) }

@@ -1,5 +1,6 @@
 //! A net's run by windows: groups run apart up to a common end, and a turn brings them together.
 ghost use Rattle.std.specs.Prelude.{◌≡◌, ◌<◌, ◌≤◌, [], ℕ, length, map as each, min, true, false, All, IfOk, IfErr, OnOk, OnErr, None, slice_set, vec_capacity};
+ghost use Rattle.sim_time.specs.declared.limits.TheConstants.{MOST_EVENTS};
 ghost use Rattle.table_run.specs.State.{State, due};
 ghost use Rattle.window_law.specs.Groups.{up_to};
 ghost use Rattle.window_core.specs.Acting.{IsFaultOf, fault_of};
@@ -132,7 +133,7 @@ impl Window {
         ensures ok { IfOk result (λ fired. HasFiredOr fired self.old group self.new) }
         ensures rest { self.new ≡ record self.old { groups = self.new.groups } }
         ensures from { (edge : State) → IsFrom edge self.old → IsFrom edge self.new }
-        ensures room { IfOk result (λ fired. fired ≡ true → events_with self.old group < 1000000000000000) }
+        ensures room { IfOk result (λ fired. fired ≡ true → events_with self.old group < MOST_EVENTS) }
         ensures fault { IfErr result (λ fault. IsFaultOf self.old (Action.Fire group) (fault_of fault)) }
         ensures err { OnErr result (self.new ≡ self.old) }
     {

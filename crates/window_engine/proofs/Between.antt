@@ -2,6 +2,7 @@
 use Rattle.std.proofs.Common.{◌≡◌, ◌≤◌, ◌+◌, ℕ, suc, min, List, [], ◌∷◌, length, Option, Result, Ok, Err, IfOk, refl, sym, ap, subst, ◌∙◌, true, false, arith}
 use Rattle.std.proofs.lemmas.List.{length-map}
 use Rattle.std.specs.List.{enumerate_from}
+use Rattle.sim_time.specs.declared.limits.TheConstants.{MOST_EVENTS}
 use Rattle.scenario_image.specs.declared.parts.ScenarioParts.{ScenarioParts}
 use Rattle.scenario_image.specs.Scenario.{IsScenario}
 use Rattle.node_core.specs.Initial.{initial_part}
@@ -34,7 +35,7 @@ pub opened_net : (v : WindowValue) (net : Reached) → IsFrom net.state v → no
 opened_net v net from none = ap (λ (s : State). record { state = s; position = net.position }) (edge_is v net.state from none)
 
 -- its net is one of a run
-pub net_of_run : (v : WindowValue) (position : ℕ) → IsAtEdge v → IsWindow v → position ≡ v.position → position ≤ 1000000000000000 → IsRun (net_at v position)
+pub net_of_run : (v : WindowValue) (position : ℕ) → IsAtEdge v → IsWindow v → position ≡ v.position → position ≤ MOST_EVENTS → IsRun (net_at v position)
 net_of_run v position at is committed few =
     let state : is.edge ≡ edge_of v = sym (edge_is v is.edge is.from at.unfired) in
     record {

@@ -1,6 +1,7 @@
 -- A call of windows: what a window more leaves of it, and how it ends.
 use Rattle.std.proofs.Common.{◌≡◌, ◌≤◌, ◌<◌, ◌+◌, ◌^◌, ℕ, List, [], length, Option, None, Ok, Err, refl, sym, ap, subst, ◌∙◌, arith}
 use Rattle.std.specs.Io.KnownBytes.{Appends}
+use Rattle.sim_time.specs.declared.limits.TheConstants.{MOST_EVENTS}
 use Rattle.net_machine.specs.Run.{Reached}
 use Rattle.window_core.specs.Full.{HasTooMany}
 use Rattle.window_core.specs.Partition.{groups_of}
@@ -93,7 +94,7 @@ not_begun workers until c known failures rest =
     }
 
 -- a call has written so much, and ends by a fault in what follows
-pub broken_at : (workers until : ℕ) (began new : RunState) (net : Reached) (written : ℕ) (known now later : Option (List ℕ)) (fault : WriteFault) (f g h : ℕ) → Wrote until (reached_in began.window) net written known now → net.position ≤ 1000000000000000
+pub broken_at : (workers until : ℕ) (began new : RunState) (net : Reached) (written : ℕ) (known now later : Option (List ℕ)) (fault : WriteFault) (f g h : ℕ) → Wrote until (reached_in began.window) net written known now → net.position ≤ MOST_EVENTS
     → Broke workers until net new.position now later fault → (fault ≡ Workers below.CountFull → HasTooMany net) → g ≡ f → h ≡ fails_after {T = ℕ} (Err fault) g → new.groups ≡ began.groups → new.ahead ≡ began.ahead
     → HasEnded workers until began new (Err (reported_as written fault)) known later f h
 broken_at workers until began new net written known now later fault f g h wrote few broke full same fails groups ahead =
@@ -126,14 +127,14 @@ module _ (until : ℕ) (began c : RunState) (written : ℕ) (known now : Option 
   abbrev from : Reached
   from = reached_in began.window
 
-  few : w.net.position ≤ 1000000000000000
+  few : w.net.position ≤ MOST_EVENTS
   few = few_before w.net c w.behind
 
   -- the bytes that went out can be counted
   pub tells : (workers at : ℕ) (later : Option (List ℕ)) (fault : WriteFault) → Broke workers until w.net at now later fault → CanTell written fault
   tells workers at later fault broke = can_tell workers until from w.net written at known now later fault w.wrote few broke
 
-  pub more_fits : (to : Reached) (bytes : ℕ) (later : Option (List ℕ)) → Wrote until w.net to bytes now later → to.position ≤ 1000000000000000 → written + bytes < 2 ^ 128
+  pub more_fits : (to : Reached) (bytes : ℕ) (later : Option (List ℕ)) → Wrote until w.net to bytes now later → to.position ≤ MOST_EVENTS → written + bytes < 2 ^ 128
   more_fits to bytes later wrote upto = still_fits until from to written bytes known now later w.net w.wrote few wrote upto
 
   -- the sink took the first bytes of the text of what was there

@@ -1,5 +1,6 @@
 -- The net by groups, on a scenario's run.
 use Rattle.std.proofs.Common.{◌≡◌, ◌≤◌, ◌+◌, ℕ, List, ◌++◌, length, Option, Some, Result, Ok, IfOk, true, refl, sym, ap, subst, ◌∙◌, arith}
+use Rattle.sim_time.specs.declared.limits.TheConstants.{MOST_EVENTS}
 use Rattle.scenario_image.specs.declared.parts.ScenarioParts.{ScenarioParts}
 use Rattle.scenario_image.specs.Scenario.{IsScenario}
 use Rattle.node_core.specs.TraceLine.{TraceLine}
@@ -90,7 +91,7 @@ groups_kept c s has = record { run = has.run; apart = has.apart }
 
 -- an engine after a window
 pub ran_on : (c d : RunState) (batch : BatchValue) → AtRest c → HasGroups c → d ≡ record c { window = d.window; position = d.position; sheaf = d.sheaf } → StaysNet c.window d.window
-    → IsAtEdge d.window → GoesOn (reached_in c.window) batch (reached_in d.window) → d.position ≡ d.window.position → d.window.position ≤ 1000000000000000 → AtRest d × HasGroups d
+    → IsAtEdge d.window → GoesOn (reached_in c.window) batch (reached_in d.window) → d.position ≡ d.window.position → d.window.position ≤ MOST_EVENTS → AtRest d × HasGroups d
 ran_on c d batch was has kept stays edge gone at few =
     let later : d.end ≡ c.end = ap (λ (x : RunState). x.end) kept in (
       record {

@@ -2,6 +2,7 @@
 use Rattle.std.proofs.Common.{◌≡◌, ◌≢◌, ◌≤◌, ◌<◌, ◌+◌, ◌-◌, ◌++◌, ◌^◌, ℕ, zero, suc, max, List, [], ◌∷◌, length, Option, Some, None, Err, option_map, refl, sym, ap, subst, ◌∙◌, inl, inr, ⊎_elim, arith, cond, append-nil, length-append, lt-ltb, le-ltb}
 use Rattle.std.proofs.lemmas.Bool.{cases_lt}
 use Rattle.sim_time.specs.declared.key.Key.{Key}
+use Rattle.sim_time.specs.declared.limits.TheConstants.{MOST_EVENTS}
 use Rattle.tournament.specs.Keyed.{least}
 use Rattle.tournament.proofs.Maps.{not_some, same_some}
 use Rattle.node_core.specs.declared.event.Event.{Event}
@@ -105,9 +106,9 @@ module _ (until last : ℕ) (old new : Reached) (text : List ℕ) (g : IsGoing u
       record { lines = g.lines; is_run = g.is_run; position = g.position; early = g.early; whole = (stop.moment, record { early = early; none_left = stop.none_left }); text_is = g.text_is }
 
   -- as many were run as there may be
-  pub gone_full : due new.state ≢ None → new.position ≡ 1000000000000000 → HasTooMany old
+  pub gone_full : due new.state ≢ None → new.position ≡ MOST_EVENTS → HasTooMany old
   gone_full some full =
-      let none : 1000000000000000 - new.position ≡ 0 = omega (arith, full) in
+      let none : MOST_EVENTS - new.position ≡ 0 = omega (arith, full) in
       earlier_full old new g.lines g.is_run g.position (omega (arith, full))
       (record { lines = []; last = new.state; is_run = ap (run new.state) none; one_due = some })
 
@@ -139,7 +140,7 @@ pub record IsOn (until : ℕ) (old new : RunState) (net : Reached) (written now 
   pub count : ℕ
   pub written_is : now ≡ written + count
   pub wrote : Wrote until (reached_in old.window) net count a b
-  pub few : net.position ≤ 1000000000000000
+  pub few : net.position ≤ MOST_EVENTS
 
 pub on_first : (until : ℕ) (c : RunState) (net : Reached) (written : ℕ) (a : Option (List ℕ)) → AtRest c → net ≡ reached_in c.window → IsOn until c c net written written a a
 on_first until c net written a r is =
@@ -164,7 +165,7 @@ module _ (until : ℕ) (old c : RunState) (net : Reached) (written now : ℕ) (a
   on_end r = let w = o.wrote in run_end (length w.lines) (edge_of old.window) net.state w.lines w.is_run ∙ sym r.end
 
   -- some events more
-  pub on_more : (d : RunState) (to : Reached) (more total : ℕ) (e : Option (List ℕ)) → Wrote until net to more b e → d ≡ record c { position = to.position; granularity = d.granularity } → total ≡ now + more → to.position ≤ 1000000000000000 → IsOn until old d to written total a e
+  pub on_more : (d : RunState) (to : Reached) (more total : ℕ) (e : Option (List ℕ)) → Wrote until net to more b e → d ≡ record c { position = to.position; granularity = d.granularity } → total ≡ now + more → to.position ≤ MOST_EVENTS → IsOn until old d to written total a e
   on_more d to more total e wrote rest total_is few =
       let count = o.count in
       let was = o.written_is in

@@ -1,5 +1,6 @@
 -- Where the fault is that the count is full, the run has more events than there may be.
 use Rattle.std.proofs.Common.{◌≡◌, ◌≤◌, ◌+◌, ◌-◌, ◌++◌, ℕ, List, length, Option, ap, ◌∙◌, arith, refl, Some}
+use Rattle.sim_time.specs.declared.limits.TheConstants.{MOST_EVENTS}
 use Rattle.table_run.specs.State.{State, run}
 use Rattle.table_run.proofs.Runs.{run_add}
 use Rattle.node_core.specs.TraceLine.{TraceLine}
@@ -24,13 +25,13 @@ pub turn_full : (v w : WindowValue) (until : ℕ) → IsAtEdge v → IsWindow v 
 turn_full v w until at is by long = at_edge v w is at by.position (long is.edge (by.from is.edge is.from))
 
 -- what is so after some lines of the run is so before them
-pub earlier_full : (from to : Reached) (lines : List TraceLine) → run from.state (length lines) ≡ Some (lines, to.state) → to.position ≡ from.position + length lines → to.position ≤ 1000000000000000 → HasTooMany to → HasTooMany from
+pub earlier_full : (from to : Reached) (lines : List TraceLine) → run from.state (length lines) ≡ Some (lines, to.state) → to.position ≡ from.position + length lines → to.position ≤ MOST_EVENTS → HasTooMany to → HasTooMany from
 earlier_full from to lines runs at few many =
-    let count : 1000000000000000 - from.position ≡ length lines + (1000000000000000 - to.position) = omega (arith, at, few) in
+    let count : MOST_EVENTS - from.position ≡ length lines + (MOST_EVENTS - to.position) = omega (arith, at, few) in
     record {
       lines = lines ++ many.lines;
       last = many.last;
-      is_run = ap (run from.state) count ∙ run_add from.state to.state many.last (length lines) (1000000000000000 - to.position) lines many.lines runs many.is_run;
+      is_run = ap (run from.state) count ∙ run_add from.state to.state many.last (length lines) (MOST_EVENTS - to.position) lines many.lines runs many.is_run;
       one_due = many.one_due;
     }
 
@@ -59,6 +60,6 @@ count_of below.NoMemory e = let x : ⊥ = cc in absurd x
 count_of below.CountFull e = refl
 count_of below.Failed e = let x : ⊥ = cc in absurd x
 
-pub reported_full : (until : ℕ) (from to : Reached) (n written : ℕ) (a b : Option (List ℕ)) (fault : WriteFault) → Wrote until from to n a b → to.position ≤ 1000000000000000 → (fault ≡ Workers below.CountFull → HasTooMany to) → reported_as written fault ≡ CountFull → HasTooMany from
+pub reported_full : (until : ℕ) (from to : Reached) (n written : ℕ) (a b : Option (List ℕ)) (fault : WriteFault) → Wrote until from to n a b → to.position ≤ MOST_EVENTS → (fault ≡ Workers below.CountFull → HasTooMany to) → reported_as written fault ≡ CountFull → HasTooMany from
 reported_full until from to n written a b (Workers fault) w few full is = earlier_full from to w.lines w.is_run w.position_is few (full (ap (λ (f : WorkersFault). Workers f) (count_of fault is)))
 reported_full until from to n written a b (Failing count) w few full is = let x : ⊥ = cc in absurd x

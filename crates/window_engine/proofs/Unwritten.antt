@@ -1,5 +1,6 @@
 -- Windows whose lines are written while the next one runs.
 use Rattle.std.proofs.Common.{◌≡◌, ◌≤◌, ◌+◌, ℕ, List, [], length, Option, Some, ap, sym, subst, ◌∙◌, arith}
+use Rattle.sim_time.specs.declared.limits.TheConstants.{MOST_EVENTS}
 use Rattle.node_core.specs.TraceLine.{TraceLine}
 use Rattle.table_run.specs.State.{State, run}
 use Rattle.net_machine.specs.Run.{Reached}
@@ -27,7 +28,7 @@ module _ (net : Reached) (c : RunState) (is : IsBehind net c) where
   wrote_to_edge until position count a b at w = record { new = reached_in c.window; count = count; wrote = w; position_is = all_committed position at }
 
   -- those that are committed can be counted
-  pub few_before : net.position ≤ 1000000000000000
+  pub few_before : net.position ≤ MOST_EVENTS
   few_before = let p = is.gone.position in let q = is.few in omega (arith, p, q)
 
 -- with a sheaf of no line a run state at rest is behind by none

@@ -1,6 +1,7 @@
 -- What windows that are written leave, one after another.
 use Rattle.std.proofs.Common.{◌≡◌, ◌≤◌, ◌<◌, ◌+◌, ◌*◌, ◌^◌, ℕ, List, [], ◌∷◌, ◌++◌, length, take, Option, Some, Ok, Err, refl, sym, ap, subst, ◌∙◌, arith, length-append}
 use Rattle.std.specs.Io.KnownBytes.{Appends}
+use Rattle.sim_time.specs.declared.limits.TheConstants.{MOST_EVENTS}
 use Rattle.node_core.specs.TraceLine.{TraceLine}
 use Rattle.table_run.specs.State.{State, run}
 use Rattle.table_run.proofs.Runs.{run_add}
@@ -194,16 +195,16 @@ can_tell_of workers until from at n (Workers fault) old new broke small = tt
 can_tell_of workers until from at n (Failing count) old new broke small = let few = broke.few in omega (arith, few, small)
 
 -- the bytes so far can be counted
-fits : (until : ℕ) (from to : Reached) (n : ℕ) (a b : Option (List ℕ)) → Wrote until from to n a b → to.position ≤ 1000000000000000 → n < 2 ^ 127
+fits : (until : ℕ) (from to : Reached) (n : ℕ) (a b : Option (List ℕ)) → Wrote until from to n a b → to.position ≤ MOST_EVENTS → n < 2 ^ 127
 fits until from to n a b w few =
     let p = w.position_is in let q = w.short in
-    let lines : length w.lines ≤ 1000000000000000 = omega (arith, p, few) in
+    let lines : length w.lines ≤ MOST_EVENTS = omega (arith, p, few) in
     omega (arith, q, lines)
 
 -- and with them those of a window that was not written whole
-pub can_tell : (workers until : ℕ) (from to : Reached) (n at : ℕ) (a b c : Option (List ℕ)) (fault : WriteFault) → Wrote until from to n a b → to.position ≤ 1000000000000000 → Broke workers until to at b c fault → CanTell n fault
+pub can_tell : (workers until : ℕ) (from to : Reached) (n at : ℕ) (a b c : Option (List ℕ)) (fault : WriteFault) → Wrote until from to n a b → to.position ≤ MOST_EVENTS → Broke workers until to at b c fault → CanTell n fault
 can_tell workers until from to n at a b c fault w few broke = can_tell_of workers until to at n fault b c broke (fits until from to n a b w few)
 
 -- and with them those of a window more
-pub still_fits : (until : ℕ) (from to : Reached) (n m : ℕ) (a b c : Option (List ℕ)) (mid : Reached) → Wrote until from mid n a b → mid.position ≤ 1000000000000000 → Wrote until mid to m b c → to.position ≤ 1000000000000000 → n + m < 2 ^ 128
+pub still_fits : (until : ℕ) (from to : Reached) (n m : ℕ) (a b c : Option (List ℕ)) (mid : Reached) → Wrote until from mid n a b → mid.position ≤ MOST_EVENTS → Wrote until mid to m b c → to.position ≤ MOST_EVENTS → n + m < 2 ^ 128
 still_fits until from to n m a b c mid w few x later = let p = fits until from mid n a b w few in let q = fits until mid to m b c x later in omega (arith, p, q)

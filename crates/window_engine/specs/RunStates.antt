@@ -1,6 +1,7 @@
 -- The net on its way: what it is between windows, and what a window that was written leaves.
 use Rattle.std.specs.Prelude.{◌≡◌, ◌≤◌, ◌<◌, ◌+◌, ◌*◌, ◌^◌, ℕ, min, List, length, Option, Some, None, Result, Err, OnOk, IfOk, IfErr}
 use Rattle.std.specs.Io.KnownBytes.{Appends}
+use Rattle.sim_time.specs.declared.limits.TheConstants.{MOST_EVENTS}
 use Rattle.scenario_image.specs.declared.parts.ScenarioParts.{ScenarioParts}
 use Rattle.scenario_image.specs.Scenario.{IsScenario}
 use Rattle.node_core.specs.TraceLine.{TraceLine}
@@ -36,7 +37,7 @@ use Rattle.window_text.specs.Text.{text_from}
 pub record AtRest (c : RunState) : Type 0 where
   pub edge : IsAtEdge c.window
   pub committed : c.position ≡ c.window.position
-  pub few : c.position ≤ 1000000000000000
+  pub few : c.position ≤ MOST_EVENTS
   pub end : c.end ≡ c.window.end
   pub groups : groups_of c.window.entries ≤ 64
 
@@ -63,7 +64,7 @@ pub record IsBehind (net : Reached) (c : RunState) : Type 0 where
   pub edge : IsAtEdge c.window
   pub gone : GoesOn net (merged c.sheaf) (reached_in c.window)
   pub committed : c.position ≡ net.position
-  pub few : c.window.position ≤ 1000000000000000
+  pub few : c.window.position ≤ MOST_EVENTS
   pub end : c.end ≡ c.window.end
   pub groups : groups_of c.window.entries ≤ 64
 

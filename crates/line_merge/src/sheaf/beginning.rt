@@ -1,5 +1,6 @@
 //! A merge begins at a moment: each list is cut there.
 ghost use Rattle.std.specs.Prelude.{◌≡◌, ◌+◌, ◌≤◌, length, replicate, OnOk, OnErr};
+ghost use Rattle.sim_time.specs.declared.limits.TheConstants.{MOST_EVENTS};
 ghost use Rattle.line_merge.specs.Merged.{AreApart, all_of, rests};
 ghost use Rattle.line_merge.specs.Sheaves.{AreCuts, IsCut, StandsIn, merged};
 
@@ -13,7 +14,7 @@ use std::alloc::AllocError;
 fn cut(lists: &[Lines], moment: Time, nexts: &mut [usize]) -> usize
     requires zeros { nexts.old ≡ replicate (length lists.now) 0 }
     requires apart { AreApart lists.now }
-    requires few { length (all_of lists.now) ≤ 1000000000000000 }
+    requires few { length (all_of lists.now) ≤ MOST_EVENTS }
     ensures cuts { AreCuts moment lists.now nexts.new }
     ensures count { result + length (all_of (rests lists.now nexts.new)) ≡ length (all_of lists.now) }
 {

@@ -1,10 +1,11 @@
 //! Parts of a net, packed into groups of about the same weight.
 ghost use Rattle.std.specs.Prelude.{◌<◌, ◌≤◌, All, length};
 
+use crate::partition;
 use scenario_image::limits::MOST_NODES;
 
-/// The most groups.
-const MOST_GROUPS: usize = 64;
+/// The most groups, as a length.
+const MOST_GROUPS: usize = partition::MOST_GROUPS as usize;
 
 /// Parts in groups.
 #[derive(Drop)]

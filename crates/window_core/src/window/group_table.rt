@@ -1,5 +1,6 @@
 //! The groups of a window, and what is asked of all of them again and again.
 ghost use Rattle.std.specs.Prelude.{◌≡◌, ◌+◌, ◌<◌, ◌≤◌, [], All, IfErr, IfOk, List, OnErr, OnOk, None, false, length, map as each, min, slice_set, true, vec_capacity};
+ghost use Rattle.sim_time.specs.declared.limits.TheConstants.{MOST_EVENTS};
 ghost use Rattle.table_run.specs.State.{due};
 ghost use Rattle.window_law.specs.Groups.{up_to};
 ghost use Rattle.node_group.specs.Group.{GroupValue, AfterFirings, Fired, IsGroup, IsOnRun, state_of};
@@ -186,7 +187,7 @@ impl GroupTable {
         ensures state { self.new ≡ record self.old { groups = slice_set self.old.groups group (value_at self.new.groups group) } }
         ensures ok { IfOk result (λ fired. Fired until (value_at self.old.groups group) fired (value_at self.new.groups group)) }
         ensures after { AfterFirings until (value_at self.old.groups group) (value_at self.new.groups group) }
-        ensures fits { (value_at self.new.groups group).position + length (value_at self.new.groups group).lines ≤ 1000000000000000 }
+        ensures fits { (value_at self.new.groups group).position + length (value_at self.new.groups group).lines ≤ MOST_EVENTS }
         ensures fault { IfErr result (IsFaultAt until (value_at self.old.groups group)) }
         ensures err { OnErr result (self.new ≡ self.old) }
     {
@@ -253,7 +254,7 @@ impl GroupTable {
         requires inside { self.old.out ≡ false }
         requires apart { AreApart (each (λ (g : GroupValue). g.lines) self.old.groups) }
         requires count { count ≡ length (all_of (each (λ (g : GroupValue). g.lines) self.old.groups)) }
-        requires fits { position + count ≤ 1000000000000000 }
+        requires fits { position + count ≤ MOST_EVENTS }
         ensures sheaf { OnOk result (sheaf.new ≡ record { first = position + 1; lists = each (λ (g : GroupValue). g.lines) self.old.groups }) }
         ensures groups { OnOk result (self.new ≡ record self.old { groups = each (λ (g : GroupValue). record g { lines = []; position = position + count }) self.old.groups }) }
         ensures err { OnErr result (self.new ≡ self.old) }

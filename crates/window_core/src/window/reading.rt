@@ -1,5 +1,6 @@
 //! What groups have come to.
 ghost use Rattle.std.specs.Prelude.{◌≡◌, ◌≤◌, All, length};
+ghost use Rattle.sim_time.specs.declared.limits.TheConstants.{MOST_EVENTS};
 ghost use Rattle.node_group.specs.Group.{IsGroup, state_of};
 ghost use Rattle.window_law.specs.Lookahead.{lesser};
 ghost use Rattle.window_core.specs.Window.{states_of};
@@ -45,7 +46,7 @@ pub fn soonest(group_states: &[GroupState]) -> Option<Time>
 /// How many lines a group has told.
 pub fn reported_by(group_state: &GroupState) -> usize
     ensures count { result ≡ length group_state.now.lines }
-    ensures few { result ≤ 1000000000000000 }
+    ensures few { result ≤ MOST_EVENTS }
     ensures is_group { IsGroup group_state.now }
 {
     let _ = group_state.number();

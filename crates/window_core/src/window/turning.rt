@@ -12,7 +12,7 @@ ghost use Rattle.window_law.specs.Windows.{AreBelow, none_fired};
 use super::Window;
 use crate::ahead::window_end;
 use line_merge::{Batch, Sheaf};
-use net_machine::net::MOST_EVENTS;
+use sim_time::MOST_EVENTS;
 use std::mem::{replace, swap};
 
 /// Why no turn was taken.

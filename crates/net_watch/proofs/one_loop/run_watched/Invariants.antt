@@ -1,4 +1,5 @@
 use Rattle.std.proofs.Common.{◌-◌, true}
+use Rattle.sim_time.specs.declared.limits.TheConstants.{MOST_EVENTS}
 use Rattle.net_watch.specs.Watched.{Watched}
 use Rattle.net_watch.proofs.one_loop.run_watched.Given as goal
 
@@ -9,4 +10,4 @@ invariant-loop-note g l = record {
 }
 
 abbrev pub decreases-loop-note : goal.decreases-loop-note
-decreases-loop-note g l = 1000000000000000 - l.net.position
+decreases-loop-note g l = MOST_EVENTS - l.net.position

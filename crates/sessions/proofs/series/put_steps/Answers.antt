@@ -1,5 +1,6 @@
 use Rattle.std.proofs.Common.{◌≡◌, ◌∙◌, ◌+◌, ◌≤◌, min, MatchBool, Err, refl, sym, ap, subst, arith, rules}
 use Rattle.std.specs.Io.KnownBytes.{Appends}
+use Rattle.sim_time.specs.declared.limits.TheConstants.{LATEST_END}
 use Rattle.net_machine.specs.Run.{Reached}
 use Rattle.figures.specs.Figures.{AreOfRun, AreOfSomeRun, base_at}
 use Rattle.figures_text.specs.Steps.{IsGoingOn}
@@ -96,7 +97,7 @@ loop-text-preserved g c =
     let of = subst (λ (r : Reached). AreOfRun p (base_at p (min until p.end) mid) next r) net (c.in_ok-restart.ensures.begun p (base_at c.args.scenario.now (min c.loop-text.begin c.args.scenario.now.end) c.loop-text.counter.net) (step_of c.args.column.now c.args.scenario.now c.args.row_steps.from c.args.row_steps.every c.loop-text.begin (c.loop-text.begin + c.args.row_steps.every) c.loop-text.counter.figures c.run_before.new.self.figures c.loop-text.counter.net c.run_before.new.self.net (g.W.Sink.contents c.args.writer.now) (g.W.Sink.contents c.loop-text.writer) c.loop-text.invariant.so_far refl c.run_before.ensures.early c.run_before.ensures.figures c.run_before.ensures.some.fits)) in
     let some = subst (λ (r : Reached). AreOfSomeRun next r) net c.in_ok-restart.ensures.some in
     let range = c.requires.scenario.in_limits.end_range.1 in
-    let most : p.end ≤ 1000000000000000 = omega (arith, range) in
+    let most : p.end ≤ LATEST_END = omega (arith, range) in
     record {
       so_far = subst (λ (r : Reached). IsSoFar c.args.column.now p c.args.row_steps.from c.args.row_steps.every until next r (g.W.Sink.contents c.args.writer.now) new) (sym net) (step_next c.args.column.now c.args.scenario.now c.args.row_steps.from c.args.row_steps.every c.loop-text.begin (c.loop-text.begin + c.args.row_steps.every) c.loop-text.counter.figures c.run_before.new.self.figures c.loop-text.counter.net c.run_before.new.self.net (g.W.Sink.contents c.args.writer.now) (g.W.Sink.contents c.loop-text.writer) c.loop-text.invariant.so_far refl c.run_before.ensures.early c.run_before.ensures.figures c.run_before.ensures.some.fits held new wrote next going of some most);
       failures = c.put_rows.ensures.failures ∙ ap (λ (e : SessionEnded). writes_after e (g.W.Sink.failures c.loop-text.writer)) c.in_ok-put_rows.was ∙ c.loop-text.invariant.failures;

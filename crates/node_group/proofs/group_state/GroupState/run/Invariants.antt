@@ -1,4 +1,5 @@
 use Rattle.std.proofs.Common.{◌≤◌, ◌+◌, ◌-◌, length}
+use Rattle.sim_time.specs.declared.limits.TheConstants.{MOST_EVENTS}
 use Rattle.node_group.specs.Group.{AfterFirings, IsOnRun}
 use Rattle.node_group.proofs.group_state.GroupState.run.Given as goal
 
@@ -8,4 +9,4 @@ invariant-loop l = AfterFirings l.end l.initial.self l.self × IsOnRun l.self ×
 
 -- how many events may still be run
 abbrev pub decreases-loop : goal.decreases-loop
-decreases-loop l = 1000000000000000 - (l.self.position + length l.self.lines)
+decreases-loop l = MOST_EVENTS - (l.self.position + length l.self.lines)

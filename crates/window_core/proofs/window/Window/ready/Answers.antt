@@ -1,4 +1,5 @@
 use Rattle.std.proofs.Common.{◌≡◌, ◌<◌, length, true, sym, subst, ◌∙◌, arith}
+use Rattle.sim_time.specs.declared.limits.TheConstants.{MOST_EVENTS}
 use Rattle.window_core.specs.Faults.{WindowIsDone, events_in}
 use Rattle.window_core.specs.Full.{HasTooMany, initial_at}
 use Rattle.window_core.specs.Window.{WindowValue, states_of, IsWindow, IsFrom}
@@ -17,8 +18,8 @@ returns-then-self-count-gt-MOST_EVENTS-clause-reported c =
     let all : all_done w.until (states_of w.group_table.groups) ≡ true = sym c.all_done.ensures ∙ c.if-not-all_done.false in
     let count : reported ≡ length (all_lines (states_of w.group_table.groups)) = c.reported-count.ensures.count in
     let more = c.if-self-count-gt-MOST_EVENTS.true in
-    let many : 1000000000000000 < events_in v = omega (arith, count, more) in (
+    let many : MOST_EVENTS < events_in v = omega (arith, count, more) in (
       subst WindowIsDone v_is all,
-      subst (λ (x : WindowValue). 1000000000000000 < events_in x) v_is many,
+      subst (λ (x : WindowValue). MOST_EVENTS < events_in x) v_is many,
       λ edge from. subst (λ (x : WindowValue). HasTooMany (initial_at edge x)) v_is (full_turn_has_too_many edge v (subst (IsFrom edge) (sym v_is) from) is.split.fits all many),
     )

@@ -1,5 +1,6 @@
 -- the net's events so far are committed and written, and the sink has not failed
 use Rattle.std.proofs.Common.{◌≡◌, ◌-◌, ◌+◌, ◌*◌, cond}
+use Rattle.sim_time.specs.declared.limits.TheConstants.{MOST_EVENTS}
 use Rattle.window_engine.proofs.OneByOne.{IsOn}
 use Rattle.window_engine.proofs.run_state.RunState.go_singly.Given as goal
 
@@ -9,4 +10,4 @@ invariant-loop-more g l =
 
 -- each time but the last has an event
 abbrev pub decreases-loop-more : goal.decreases-loop-more
-decreases-loop-more g l = (1000000000000000 - l.single.net.position) * 2 + cond l.more 1 0
+decreases-loop-more g l = (MOST_EVENTS - l.single.net.position) * 2 + cond l.more 1 0

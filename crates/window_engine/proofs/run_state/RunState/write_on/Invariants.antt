@@ -1,5 +1,6 @@
 -- the windows so far but the last two are written, the text of the one before the last is owed, and the sheaf has the lines of the last
 use Rattle.std.proofs.Common.{◌-◌}
+use Rattle.sim_time.specs.declared.limits.TheConstants.{MOST_EVENTS}
 use Rattle.window_engine.specs.RunStates.{AwaitsSink}
 use Rattle.window_engine.proofs.run_state.RunState.write_on.Given as goal
 
@@ -8,4 +9,4 @@ invariant-loop-fault g l = AwaitsSink l.call.until l.call.began.value l.self l.w
 
 -- each window has a line
 abbrev pub decreases-loop-fault : goal.decreases-loop-fault
-decreases-loop-fault g l = 1000000000000000 - l.self.window.position
+decreases-loop-fault g l = MOST_EVENTS - l.self.window.position
