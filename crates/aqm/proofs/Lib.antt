@@ -1,3 +1,5 @@
+pub mod Reasons
+pub mod CodelBefore
 pub mod TakenCases
 pub mod Front
 pub mod Given

@@ -1,15 +1,15 @@
 -- What a queue is at first, what it keeps whatever is taken from it or offered to it, and where a packet enters.
-use Rattle.std.proofs.Common.{◌≡◌, ◌++◌, ℕ, Bool, true, false, cond, [], ◌∷◌, refl, sym, ap, ◌∙◌}
+use Rattle.std.proofs.Common.{◌≡◌, ◌++◌, ℕ, Bool, true, false, cond, [], ◌∷◌, refl, sym, ap, ◌∙◌, true≢false}
 use Rattle.sim_time.specs.declared.queue_kind.QueueKind.TheVariants.{DropTail as DropTailKind, Codel as CodelKind}
 use Rattle.packet_chain.specs.Stamped.{Stamped}
 use Rattle.aqm.specs.declared.queue.Queue.{Queue}
 use Rattle.aqm.specs.declared.queue.Queue.TheVariants.{DropTail, Codel}
-use Rattle.aqm.specs.DropTail.{DropTailState, empty_fifo, is_full, after_offer}
+use Rattle.aqm.specs.DropTail.{DropTailState, empty_fifo, is_full}
 use Rattle.aqm.specs.Codel.{CodelState, initial_codel}
 use Rattle.aqm.specs.Judgement.{judgement}
 use Rattle.aqm.specs.Taken.{codel_taken}
-use Rattle.aqm.specs.Queue.{fifo_of, emptied}
-use Rattle.aqm.specs.Laws.{QueuesOpenEmpty, QueuesStay, EntersLast}
+use Rattle.aqm.specs.Queue.{fifo_of, waiting_in, refuses, emptied, offered_to}
+use Rattle.aqm.specs.Laws.{QueuesOpenEmpty, QueuesStay, EntersLast, FullRefuses}
 use Rattle.aqm.proofs.TakenCases.{taken_in_drop_state, taken_at_first_drop, taken_undropped}
 
 pub queues_open_empty : QueuesOpenEmpty
@@ -27,17 +27,23 @@ codel_stays s now true c on ok = ap (λ t. emptied (Codel (t.queue))) (taken_in_
 codel_stays s now false true off ok = ap (λ t. emptied (Codel (t.queue))) (taken_at_first_drop s now off ok)
 codel_stays s now false false off ok = ap (λ t. emptied (Codel (t.queue))) (taken_undropped s now off ok)
 
+-- what waits in a fifo after an offer
+waits_in : (s : DropTailState) (cell : Stamped) (now : ℕ) (full : Bool) →
+    (cond full s (record s { waiting = s.waiting ++ (cell.0, now) ∷ [] })).waiting ≡ cond full s.waiting (s.waiting ++ (cell.0, now) ∷ [])
+waits_in s cell now true = refl
+waits_in s cell now false = refl
+
 pub queues_stay : QueuesStay
 queues_stay (DropTail s) now = record {
   taken = refl;
   offered = λ cell. ap (λ n. DropTail (empty_fifo n)) (same_capacity s cell now (is_full s));
-  fifo = λ cell. refl;
+  waits = λ cell. waits_in s cell now (is_full s);
   capacity = refl;
 }
 queues_stay (Codel s) now = record {
   taken = codel_stays s now s.dropping (judgement s now 0).ok refl refl;
   offered = λ cell. ap (λ n. Codel (initial_codel (empty_fifo n) s.target s.interval s.maxpacket)) (same_capacity s.fifo cell now (is_full s.fifo));
-  fifo = λ cell. refl;
+  waits = λ cell. waits_in s.fifo cell now (is_full s.fifo);
   capacity = refl;
 }
 
@@ -45,8 +51,21 @@ queues_stay (Codel s) now = record {
 pub same_room : (q r : Queue) → emptied q ≡ emptied r → (fifo_of q).capacity ≡ (fifo_of r).capacity
 same_room q r same = sym (queues_stay q 0).capacity ∙ ap (λ s. (fifo_of s).capacity) same ∙ (queues_stay r 0).capacity
 
-last_of : (s : DropTailState) (cell : Stamped) (now : ℕ) → is_full s ≡ false → (after_offer s cell now).waiting ≡ s.waiting ++ (cell.0, now) ∷ []
-last_of s cell now room = ap (λ b. (cond b s (record s { waiting = s.waiting ++ (cell.0, now) ∷ [] })).waiting) room
-
 pub enters_last : EntersLast
-enters_last q cell now room = ap (λ (s : DropTailState). s.waiting) ((queues_stay q now).fifo cell) ∙ last_of (fifo_of q) cell now room
+enters_last q cell now room = (queues_stay q now).waits cell ∙ ap (λ b. cond b (waiting_in q) (waiting_in q ++ (cell.0, now) ∷ [])) room
+
+-- what waits stays where a packet is dropped as it comes
+pub refused_stays : (q : Queue) (cell : Stamped) (now : ℕ) → refuses q ≡ true → waiting_in (offered_to q cell now) ≡ waiting_in q
+refused_stays q cell now refused = (queues_stay q now).waits cell ∙ ap (λ b. cond b (waiting_in q) (waiting_in q ++ (cell.0, now) ∷ [])) refused
+
+pub full_refuses : FullRefuses
+full_refuses (DropTail s) full = full
+full_refuses (Codel s) full = full
+
+-- so a queue that takes a packet in is not full
+pub has_room : (q : Queue) → refuses q ≡ false → is_full (fifo_of q) ≡ false
+has_room q takes = by (is_full (fifo_of q)) refl
+  where
+    by : (b : Bool) → is_full (fifo_of q) ≡ b → b ≡ false
+    by true full = absurd (true≢false (sym (full_refuses q full) ∙ takes))
+    by false room = refl

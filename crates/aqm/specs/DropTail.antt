@@ -2,7 +2,8 @@
 use Rattle.std.specs.Prelude.{◌≤◌, ◌==◌, ℕ, Bool, if◌then◌else◌, List, [], ◌∷◌, ◌++◌, length, drop}
 use Rattle.packet_chain.specs.Stamped.{Stamped}
 use Rattle.aqm.specs.declared.offered.Offered.{Offered}
-use Rattle.aqm.specs.declared.offered.Offered.TheVariants.{Entered, Full}
+use Rattle.aqm.specs.declared.offered.Offered.TheVariants.{Entered, Dropped}
+use Rattle.aqm.specs.declared.drop_reason.OfferDrop.TheVariants.{Full}
 
 -- the packets that wait, from the head, each with the moment at which it entered, in nanoseconds; how many may wait
 pub record DropTailState : Type 0 where
@@ -28,7 +29,7 @@ after_offer s cell now = if is_full s then s else record s { waiting = s.waiting
 
 -- what the offer is answered with: where the queue is full, the packet as it came
 abbrev pub answer_to : DropTailState → Stamped → Offered
-answer_to s cell = if is_full s then Full cell else Entered
+answer_to s cell = if is_full s then Dropped cell Full else Entered
 
 -- the queue without its first packets
 abbrev pub without_first : ℕ → DropTailState → DropTailState

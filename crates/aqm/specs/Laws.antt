@@ -1,12 +1,12 @@
 -- What every take keeps to, whatever waits and whenever it comes.
-use Rattle.std.specs.Prelude.{◌≡◌, ◌↔◌, ◌+◌, ◌-◌, ◌<◌, ◌≤◌, ◌++◌, ℕ, true, false, List, [], ◌∷◌, length, drop, slice_get, Option, Some, None, IfSome, IsSomeAnd}
+use Rattle.std.specs.Prelude.{◌≡◌, if◌then◌else◌, ◌↔◌, ◌+◌, ◌-◌, ◌<◌, ◌≤◌, ◌++◌, ℕ, true, false, List, [], ◌∷◌, length, drop, slice_get, Option, Some, None, IfSome, IsSomeAnd}
 use Rattle.sim_time.specs.declared.queue_kind.QueueKind.{QueueKind}
 use Rattle.packet_chain.specs.Stamped.{Stamped, bytes_of}
-use Rattle.aqm.specs.DropTail.{DropTailState, is_full, after_offer}
+use Rattle.aqm.specs.DropTail.{DropTailState, is_full}
 use Rattle.aqm.specs.Codel.{CodelState, IsCodel}
 use Rattle.aqm.specs.Drops.{stops, drop_due, drops}
 use Rattle.aqm.specs.Taken.{codel_taken}
-use Rattle.aqm.specs.Queue.{fifo_of, waiting_in, initial_queue, emptied, offered_to, taken_from}
+use Rattle.aqm.specs.Queue.{fifo_of, waiting_in, initial_queue, emptied, refuses, offered_to, taken_from}
 use Rattle.aqm.specs.declared.queue.Queue.{Queue}
 use Rattle.aqm.specs.declared.queue.Queue.TheVariants.{DropTail, Codel}
 
@@ -23,11 +23,11 @@ TakesTheFront = (q : Queue) (now : ℕ) → let t = taken_from q now in t.droppe
 abbrev pub GivesWhatWaits : Type 0
 GivesWhatWaits = (q : Queue) (now : ℕ) → ((taken_from q now).given ≡ None) ↔ (waiting_in q ≡ [])
 
--- a queue stays the one it is, with its capacity, whatever is taken from it or offered to it; an offer changes only what waits
+-- a queue stays the one it is, with its capacity, whatever is taken from it or offered to it; a packet that enters is the last that waits, and one that is dropped as it comes changes nothing that waits
 pub record StaysTheSame (q : Queue) (now : ℕ) : Type 0 where
   pub taken : emptied (taken_from q now).queue ≡ emptied q
   pub offered : (cell : Stamped) → emptied (offered_to q cell now) ≡ emptied q
-  pub fifo : (cell : Stamped) → fifo_of (offered_to q cell now) ≡ after_offer (fifo_of q) cell now
+  pub waits : (cell : Stamped) → waiting_in (offered_to q cell now) ≡ (if refuses q then waiting_in q else waiting_in q ++ (cell.0, now) ∷ [])
   pub capacity : (fifo_of (emptied q)).capacity ≡ (fifo_of q).capacity
 
 abbrev pub QueuesStay : Type 0
@@ -41,9 +41,13 @@ pub record OpensEmpty (kind : QueueKind) (capacity : ℕ) : Type 0 where
 abbrev pub QueuesOpenEmpty : Type 0
 QueuesOpenEmpty = (kind : QueueKind) (capacity : ℕ) → OpensEmpty kind capacity
 
--- where a queue has room, a packet that is offered is the last that waits, with the moment at which it entered
+-- where a queue refuses none, a packet that is offered is the last that waits, with the moment at which it entered
 abbrev pub EntersLast : Type 0
-EntersLast = (q : Queue) (cell : Stamped) (now : ℕ) → is_full (fifo_of q) ≡ false → waiting_in (offered_to q cell now) ≡ waiting_in q ++ (cell.0, now) ∷ []
+EntersLast = (q : Queue) (cell : Stamped) (now : ℕ) → refuses q ≡ false → waiting_in (offered_to q cell now) ≡ waiting_in q ++ (cell.0, now) ∷ []
+
+-- a full queue takes no packet in
+abbrev pub FullRefuses : Type 0
+FullRefuses = (q : Queue) → is_full (fifo_of q) ≡ true → refuses q ≡ true
 
 -- no more is dropped than waits
 abbrev pub DropsAtMostWhatWaits : Type 0

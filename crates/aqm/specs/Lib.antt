@@ -7,6 +7,8 @@ pub mod OneDrop
 pub mod Taken
 pub mod Queue
 pub mod DropReasons
+pub mod CodelReadouts
+pub mod Readouts
 pub mod Laws
 pub use Rattle.packet_chain.specs.Stamped
 pub use Rattle.sim_time.specs.ControlLaw

@@ -9,6 +9,7 @@ ghost use Rattle.aqm.specs.Codel.{IsCodel, initial_codel};
 
 mod foresee;
 mod judge;
+mod readouts;
 mod take;
 #[cfg(test)]
 mod tests;

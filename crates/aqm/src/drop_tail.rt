@@ -6,6 +6,7 @@ ghost use Rattle.sim_time.specs.Moment.{IsMoment};
 ghost use Rattle.packet_chain.specs.Stamped.{Stamped, bytes_of};
 ghost use Rattle.aqm.specs.DropTail.{DropTailState, IsDropTail, after_offer, answer_to, without_first};
 
+use crate::drop_reason::OfferDrop;
 use crate::offered::Offered;
 use packet_chain::{Iter, PacketCell, PacketChain};
 use sim_time::Time;
@@ -76,7 +77,7 @@ impl DropTail {
         ensures sound { IsDropTail self.new }
     {
         if self.cells.len() == usize::from(self.capacity) {
-            return Offered::Full(cell);
+            return Offered::Dropped(cell, OfferDrop::Full);
         }
         cell.set_stamp(now);
         self.cells.push_back(cell);

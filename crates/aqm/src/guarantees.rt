@@ -1,6 +1,6 @@
 //! What every take keeps to, whatever waits and whenever it comes: laws over the definitions
 //! alone, each the contract of a function that does nothing, or calls the law that it rests on.
-ghost use Rattle.aqm.specs.Laws.{TakesTheFront, DropsAtMostWhatWaits, GivesWhatWaits, QueuesOpenEmpty, QueuesStay, EntersLast, DropTailKeepsWhatEntered, EveryDropHasACause, DropsStopAtTheFirstStop, DropsComeCloser, FirstWaitIsLongest, ScheduleStays};
+ghost use Rattle.aqm.specs.Laws.{TakesTheFront, DropsAtMostWhatWaits, GivesWhatWaits, QueuesOpenEmpty, QueuesStay, EntersLast, FullRefuses, DropTailKeepsWhatEntered, EveryDropHasACause, DropsStopAtTheFirstStop, DropsComeCloser, FirstWaitIsLongest, ScheduleStays};
 
 use sim_time::gaps_shrink;
 
@@ -17,11 +17,13 @@ pub fn gives_what_waits()
 {}
 
 /// A queue is empty at first. It stays the one it is, with its capacity, whatever is taken from it
-/// or offered to it; and where it has room, a packet that is offered is the last that waits.
+/// or offered to it; and where it refuses none, a packet that is offered is the last that waits. A full
+/// queue refuses.
 pub fn queues_stay()
     ensures opens { QueuesOpenEmpty }
     ensures stays { QueuesStay }
     ensures last { EntersLast }
+    ensures full { FullRefuses }
 {}
 
 /// Drop-tail drops nothing at a take.

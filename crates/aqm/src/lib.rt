@@ -10,12 +10,13 @@ pub mod drop_tail;
 pub mod guarantees;
 pub mod offered;
 pub mod queue;
+pub mod readout;
 #[cfg(test)]
 mod tests;
 pub mod waits;
 
 pub use codel::Codel;
-pub use drop_reason::{DropReason, TakeDrop};
+pub use drop_reason::{DropReason, OfferDrop, REASONS, TakeDrop};
 pub use drop_tail::DropTail;
 pub use guarantees::{
     drop_tail_keeps_what_entered, drops_come_closer, drops_stop_at_the_first_stop,
@@ -23,3 +24,4 @@ pub use guarantees::{
 };
 pub use offered::Offered;
 pub use queue::Queue;
+pub use readout::Readout;

@@ -1,4 +1,5 @@
 //! What a queue answers to a packet.
+use crate::drop_reason::OfferDrop;
 use packet_chain::PacketCell;
 
 /// What a queue answers to a packet that is offered.
@@ -6,6 +7,6 @@ use packet_chain::PacketCell;
 pub enum Offered {
     /// The packet is the last of the queue now, stamped with the moment.
     Entered,
-    /// The queue holds its capacity: here is the packet, as it came.
-    Full(PacketCell),
+    /// The queue drops it: here is the packet, as it came, and why.
+    Dropped(PacketCell, OfferDrop),
 }

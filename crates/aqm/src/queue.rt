@@ -1,12 +1,13 @@
 //! A queue of either kind.
-ghost use Rattle.std.specs.Prelude.{◌≡◌, ◌≤◌, ◌^◌, ◌++◌, ℕ, false, [], length, IfOk};
+ghost use Rattle.std.specs.Prelude.{◌≡◌, ◌≤◌, ◌^◌, ◌++◌, ℕ, false, true, [], length, Some, IfOk};
 ghost use Rattle.std.specs.Iterator.{YieldsFirst};
 ghost use Rattle.std.specs.Iterator.Runs.{YieldsInOrder};
 ghost use Rattle.sim_time.specs.Moment.{IsMoment};
 ghost use Rattle.sim_time.specs.QueueLimits.{IsQueueInLimits};
+ghost use Rattle.packet_chain.specs.declared.packet.Packet.{Packet};
 ghost use Rattle.packet_chain.specs.Stamped.{Stamped};
-ghost use Rattle.aqm.specs.DropTail.{IsDropTail, answer_to};
-ghost use Rattle.aqm.specs.Queue.{fifo_of, waiting_in, initial_queue, offered_to, may_drop, take_reason, taken_from};
+ghost use Rattle.aqm.specs.DropTail.{IsDropTail};
+ghost use Rattle.aqm.specs.Queue.{fifo_of, waiting_in, initial_queue, refuses, answer_of, offered_to, lets_pass, may_drop, take_reason, taken_from};
 
 use crate::codel::Codel;
 use crate::drop_reason::TakeDrop;
@@ -61,15 +62,28 @@ impl Queue {
         self.fifo().packets()
     }
 
-    /// Takes a packet in, unless the queue is full.
+    /// Takes a packet in, unless the queue drops it, as where it is full.
     pub fn offer(&mut self, cell: PacketCell, now: Time) -> Offered
         requires { IsMoment now }
-        ensures answer { result ≡ answer_to (fifo_of self.old) cell }
+        ensures answer { result ≡ answer_of self.old cell }
         ensures state { self.new ≡ offered_to self.old cell now }
     {
         match self {
             Queue::DropTail(queue) => queue.offer(cell, now),
             Queue::Codel(queue) => queue.offer(cell, now),
+        }
+    }
+
+    /// Whether a packet that is offered now and taken at once passes, and leaves the queue as it is.
+    #[inline(always)]
+    pub fn lets_pass(&self) -> bool
+        ensures value { result ≡ lets_pass self.now }
+        ensures enters { result ≡ true → refuses self.now ≡ false }
+        ensures same { result ≡ true → (packet : Packet) (now : ℕ) → taken_from (offered_to self.now (packet, now) now) now ≡ record { dropped = []; given = Some (packet, now); queue = self.now } }
+    {
+        match self {
+            Queue::DropTail(queue) => queue.len() == 0,
+            Queue::Codel(_) => false,
         }
     }
 

@@ -43,7 +43,7 @@ fn enter(
 {
     let mut full: u64 = 0;
     for number in numbers {
-        if let Offered::Full(_) = queue.offer(cell(rt, alloc, *number)?, now) {
+        if let Offered::Dropped(_, _) = queue.offer(cell(rt, alloc, *number)?, now) {
             full = full.saturating_add(1);
         }
     }

@@ -2,7 +2,7 @@
 //! traces beside the texts of dev/whole/, which dev/test_whole.py compares on the built program.
 use node_core::{Act, Acts, After, Event, Line, SenderShown};
 use packet_chain::{Kind, Packet, PacketBytes};
-use reno_sender::SenderFields;
+use reno_sender::{Sender, SenderFields, SenderSettings};
 use scenario_image::RENO;
 use sim_time::Key;
 use std::alloc::Global;
@@ -20,27 +20,20 @@ fn key(time: u64, node: u16, source: u16, number: u64) -> Key {
 
 // A sender with these windows, that is in recovery where nothing is above the greatest number.
 fn sender(una: u64, nxt: u64, cwnd: u64, ssthresh: u64) -> After {
-    After::AtSender(SenderShown::of(&SenderFields {
+    let settings = SenderSettings {
         mss: 1000,
         segments: 10,
         rwnd: 64000,
+        variant: RENO,
+    };
+    After::AtSender(SenderShown::of(&SenderFields {
         una,
         nxt,
         high: nxt,
         cwnd,
         ssthresh,
-        dups: 0,
-        lt: 0,
         recovery: una == u64::MAX,
-        timing: None,
-        srtt: None,
-        rttvar: 0,
-        rto: 1000000000,
-        deadline: None,
-        resent: false,
-        variant: RENO,
-        recover: None,
-        partial: false,
+        ..Sender::new(settings).fields()
     }))
 }
 

@@ -4,6 +4,7 @@ use Rattle.std.specs.Prelude.{All, IsSome}
 use Rattle.std.specs.Option.{option_map}
 use Rattle.std.proofs.lemmas.List.{length-map}
 use Rattle.sim_time.specs.declared.key.Key.{Key}
+use Rattle.sim_time.specs.declared.limits.TheConstants.{MOST_EVENTS}
 use Rattle.packet_chain.specs.Stamped.{Stamped}
 use Rattle.tournament.specs.Keyed.{least}
 use Rattle.node_core.specs.declared.event.Event.{Event}
@@ -17,7 +18,7 @@ use Rattle.node_core.specs.Ready.{IsRunnable, IsOfLink, IsSetBy}
 use Rattle.node_core.specs.Running.{part}
 
 pub is_next : (role : Role) (links : List LinkState) (event_queue : EventQueueState) (chains : List (List Stamped)) (key : Key) (event : Event) → IsInStep role links event_queue → IsDue event_queue key event → IsRunnable (part role links) key event
-    → least event_queue.pending ≡ Some (key, event) → length links ≤ length chains → All (λ chain. length chain < 1000000000000000) chains → IsNextEvent key event links event_queue chains
+    → least event_queue.pending ≡ Some (key, event) → length links ≤ length chains → All (λ chain. length chain < MOST_EVENTS) chains → IsNextEvent key event links event_queue chains
 is_next role links event_queue chains key event is due can least_is chained room = record {
   moment = can.moment;
   is_least = least_is;

@@ -2,6 +2,7 @@
 use Rattle.std.proofs.Common.{◌≡◌, ℕ, ◌+◌, ◌<◌, ◌≤◌, Bool, true, false, cond, List, [], ◌∷◌, ◌++◌, map, length, Option, Some, None, refl, sym, ap, subst, ◌∙◌, arith, append_assoc, length-append}
 use Rattle.std.specs.Prelude.{is_none}
 use Rattle.std.proofs.lemmas.List.{length-map}
+use Rattle.sim_time.specs.declared.limits.TheConstants.{MOST_EVENTS}
 use Rattle.packet_chain.specs.declared.packet.Packet.{Packet}
 use Rattle.packet_chain.specs.Stamped.{Stamped}
 use Rattle.aqm.specs.Queue.{take_reason, taken_from}
@@ -37,10 +38,10 @@ left_one now port out acts packet packets last all_out all_acts is =
 
 -- numbers fit, and one more does where the link is idle
 pub record Fits (port : PortState) (out : ℕ) : Type 0 where
-  pub sent_most : port.sent ≤ 1000000000000000
-  pub sent_idle : port.next_free ≡ None → port.sent < 1000000000000000
-  pub out_most : out ≤ 1000000000000000
-  pub out_idle : port.next_free ≡ None → out < 1000000000000000
+  pub sent_most : port.sent ≤ MOST_EVENTS
+  pub sent_idle : port.next_free ≡ None → port.sent < MOST_EVENTS
+  pub out_most : out ≤ MOST_EVENTS
+  pub out_idle : port.next_free ≡ None → out < MOST_EVENTS
 
 still_fits : (now : ℕ) (port : PortState) (packet : Packet) (out : ℕ) → Fits port out → (free : Option ℕ) → port.next_free ≡ free → (d : Option Departure) → (offered_one now port packet).departure ≡ d
     → Fits (offered_one now port packet).port (out + length (departed d))
@@ -49,8 +50,8 @@ still_fits now port packet out fits (Some t) was d is =
     let none : d ≡ None = sym is ∙ still.none_departs in
     let nothing : length (departed d) ≡ 0 = ap (λ o. length (departed o)) none in
     let same : (offered_one now port packet).port.sent ≡ port.sent = still.same in
-    let most : port.sent ≤ 1000000000000000 = fits.sent_most in
-    let out_most : out ≤ 1000000000000000 = fits.out_most in
+    let most : port.sent ≤ MOST_EVENTS = fits.sent_most in
+    let out_most : out ≤ MOST_EVENTS = fits.out_most in
     record {
       sent_most = omega (arith, same, most);
       sent_idle = λ idle. absurd (some_none t (sym still.busy ∙ idle));
@@ -63,14 +64,14 @@ still_fits now port packet out fits (Some t) was d is =
 still_fits now port packet out fits None was None is =
     let count = (one_counts now port packet).sent in
     let nothing : (offered_one now port packet).port.sent ≡ port.sent + 0 = count ∙ ap (λ o. port.sent + one_if o) is in
-    let less : port.sent < 1000000000000000 = fits.sent_idle was in
-    let out_less : out < 1000000000000000 = fits.out_idle was in
+    let less : port.sent < MOST_EVENTS = fits.sent_idle was in
+    let out_less : out < MOST_EVENTS = fits.out_idle was in
     record { sent_most = omega (arith, nothing, less); sent_idle = λ idle. omega (arith, nothing, less); out_most = omega (arith, out_less); out_idle = λ idle. omega (arith, out_less) }
 still_fits now port packet out fits None was (Some d) is =
     let count = (one_counts now port packet).sent in
     let one : (offered_one now port packet).port.sent ≡ port.sent + 1 = count ∙ ap (λ o. port.sent + one_if o) is in
-    let less : port.sent < 1000000000000000 = fits.sent_idle was in
-    let out_less : out < 1000000000000000 = fits.out_idle was in
+    let less : port.sent < MOST_EVENTS = fits.sent_idle was in
+    let out_less : out < MOST_EVENTS = fits.out_idle was in
     let busy : (offered_one now port packet).port.next_free ≡ Some d.free = (one_sends now port packet).busy_then d is in
     record {
       sent_most = omega (arith, one, less);
@@ -93,7 +94,7 @@ begun_acts now port (Some cell) = omega arith
 
 -- where nothing waits at an idle link, an offering does one thing at most
 pub few_acts : (now : ℕ) (port : PortState) (packet : Packet) → NothingWaitsWhereIdle port → length (offered_one now port packet).acts ≤ 1
-few_acts now port packet nothing = offered_by_case (λ step. length step.acts ≤ 1) now port packet go
+few_acts now port packet nothing = offered_by_case (λ step. length step.acts ≤ 1) now port packet (λ idle is lost full _. go idle is lost full)
   where
     go : (idle : Bool) → is_none port.next_free ≡ idle → (lost full : Bool) → length (after_tests now (counted_one port) packet lost full idle).acts ≤ 1
     go idle is true full = omega arith

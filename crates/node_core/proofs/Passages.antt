@@ -30,7 +30,7 @@ pub taken_free : (now : ℕ) (port : PortState) → (taken now port).port.next_f
 taken_free now port = let take = taken_from port.queue now in begun_free now (record port { queue = take.queue }) take.given
 
 one_free : (now : ℕ) (port : PortState) (packet : Packet) → port.next_free ≡ None → (offered_one now port packet).port.next_free ≡ free_of (offered_one now port packet).departure
-one_free now port packet none = offered_by_case (λ step. step.port.next_free ≡ free_of step.departure) now port packet (λ idle is lost full. go idle lost full)
+one_free now port packet none = offered_by_case (λ step. step.port.next_free ≡ free_of step.departure) now port packet (λ idle is lost full _. go idle lost full)
   where
     go : (idle lost full : Bool) → let step = after_tests now (counted_one port) packet lost full idle in step.port.next_free ≡ free_of step.departure
     go idle true full = none

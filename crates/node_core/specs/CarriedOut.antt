@@ -4,6 +4,7 @@ use Rattle.std.specs.Option.{option_map}
 use Rattle.std.specs.List.{AllByRecursion}
 use Rattle.sim_time.specs.Moment.{IsMoment}
 use Rattle.sim_time.specs.declared.key.Key.{Key}
+use Rattle.sim_time.specs.declared.limits.TheConstants.{MOST_EVENTS}
 use Rattle.packet_chain.specs.Stamped.{Stamped}
 use Rattle.tournament.specs.Keyed.{least, next_key}
 use Rattle.port.specs.declared.acts.Act.{Act}
@@ -38,7 +39,7 @@ pub record IsNextEvent (key : Key) (event : Event) (links : List LinkState) (eve
   pub few : length links ≤ 1024
   pub can : AllByRecursion LinkCan links
   pub chained : length links ≤ length chains
-  pub room : All (λ chain. length chain < 1000000000000000) chains
+  pub room : All (λ chain. length chain < MOST_EVENTS) chains
 
 -- packets have passed the link of an index; the event queue was this, once the event had left and the timer had moved
 pub record HasPassed (index : ℕ) (step : PortStep) (links new : List LinkState) (middle after : EventQueueState) (chains filled : List (List Stamped)) (before done : List Act) (left : Option ℕ) : Type 0 where

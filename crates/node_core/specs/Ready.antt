@@ -7,6 +7,7 @@ use Rattle.packet_chain.specs.declared.packet.Kind.{Kind}
 use Rattle.packet_chain.specs.declared.packet.Kind.TheVariants.{Data, Ack}
 use Rattle.sim_time.specs.declared.key.Key.{Key}
 use Rattle.sim_time.specs.Moment.{IsMoment}
+use Rattle.sim_time.specs.declared.limits.TheConstants.{MOST_EVENTS}
 use Rattle.reno_sender.specs.declared.fields.SenderFields.{SenderFields}
 use Rattle.reno_sender.specs.Laws.{IsAckFor}
 use Rattle.reno_receiver.specs.Received.{ReceiverState}
@@ -49,14 +50,14 @@ CanHandle part now (Arrive packet) = CanTakePacket part part.role now packet
 
 -- the sums at a link stay in their types
 pub record LinkCan (link : LinkState) : Type 0 where
-  pub sent_fits : link.port.sent < 1000000000000000
+  pub sent_fits : link.port.sent < MOST_EVENTS
   pub offered_fits : link.port.offered < 2 ^ 90
 
 -- packets can be offered to a link at a moment, and one of them put behind those that have left over it
 pub record CanOffer (now : ℕ) (link : LinkState) (chain : List Stamped) : Type 0 where
   pub moment : IsMoment now
   pub can : LinkCan link
-  pub chain_fits : length chain < 1000000000000000
+  pub chain_fits : length chain < MOST_EVENTS
 
 -- what is needed of the event that is a node's least
 pub record IsRunnable (part : PartState) (k : Key) (v : Event) : Type 0 where

@@ -29,7 +29,7 @@ pub use event::Event;
 pub use line::{After, Line};
 pub use node::Node;
 pub use outbox::Outbox;
-pub use port::{Act, Acts, DropReason, TakeDrop};
+pub use port::{Act, Acts, DropReason, OfferDrop, TakeDrop};
 pub use shown::SenderShown;
 pub use timer::Timer;
 pub use wire::Wire;

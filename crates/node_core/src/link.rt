@@ -1,6 +1,7 @@
 //! An outgoing link of a node.
 ghost use Rattle.std.specs.Prelude.{◌≡◌, ◌+◌, ◌^◌, ◌<◌, ◌≤◌, ◌++◌, Some, length, map, is_some, IfOk};
 ghost use Rattle.sim_time.specs.Moment.{IsMoment};
+ghost use Rattle.sim_time.specs.declared.limits.TheConstants.{MOST_EVENTS};
 ghost use Rattle.port.specs.Laws.{NothingWaitsWhereIdle};
 ghost use Rattle.port.specs.Port.{IsPort, offered_one, offered_all, taken, departed};
 ghost use Rattle.port.specs.Room.{drops_at};
@@ -92,9 +93,9 @@ impl Link {
     )
         requires moment { IsMoment now }
         requires room { length cells ≤ acts.old.room }
-        requires sent { self.old.port.sent < 1000000000000000 }
+        requires sent { self.old.port.sent < MOST_EVENTS }
         requires offered { self.old.port.offered + length cells ≤ 2 ^ 99 }
-        requires chain { length out.old < 1000000000000000 }
+        requires chain { length out.old < MOST_EVENTS }
         ensures state { self.new ≡ record self.old { port = (offered_all now self.old.port (packets_of cells)).port } }
         ensures departed { out.new ≡ out.old ++ departed (offered_all now self.old.port (packets_of cells)).departure }
         ensures acts { acts.new.acts ≡ acts.old.acts ++ (offered_all now self.old.port (packets_of cells)).acts }
@@ -137,8 +138,8 @@ impl Link {
         requires moment { IsMoment now }
         requires due { self.old.port.next_free ≡ Some now }
         requires room { drops_at now self.old.port + 1 ≤ acts.old.room }
-        requires sent { self.old.port.sent < 1000000000000000 }
-        requires chain { length out.old < 1000000000000000 }
+        requires sent { self.old.port.sent < MOST_EVENTS }
+        requires chain { length out.old < MOST_EVENTS }
         ensures state { self.new ≡ record self.old { port = (taken now self.old.port).port } }
         ensures departed { out.new ≡ out.old ++ departed (taken now self.old.port).departure }
         ensures acts { acts.new.acts ≡ acts.old.acts ++ (taken now self.old.port).acts }

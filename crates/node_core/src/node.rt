@@ -5,6 +5,7 @@ ghost use Rattle.std.specs.List.{slice_get};
 ghost use Rattle.std.specs.List.Sorted.{IsStrictlyIncreasing};
 ghost use Rattle.std.specs.FinMap as map;
 ghost use Rattle.sim_time.specs.declared.key.Key.{Key};
+ghost use Rattle.sim_time.specs.declared.limits.TheConstants.{MOST_EVENTS};
 ghost use Rattle.packet_chain.specs.Stamped.{Stamped};
 ghost use Rattle.tournament.specs.Keyed.{least, next_key, EachKey};
 ghost use Rattle.tournament.specs.Timed.{time_of};
@@ -240,7 +241,7 @@ impl Node {
         requires pending { next_key self.old.pending ≢ None }
         requires due { (k : Key) (v : Event) → least self.old.pending ≡ Some (k, v) → IsRunnable self.old.part k v }
         requires chains { length self.old.part.links ≤ length out.old }
-        requires room { All (λ chain. length chain < 1000000000000000) out.old }
+        requires room { All (λ chain. length chain < MOST_EVENTS) out.old }
         ensures fired { OnOk result (HasFired self.old self.new out.old out.new (shown line.new)) }
         ensures leaving { IfOk result (λ index. index ≡ option_map (λ (leaving : Leaving). leaving.index) (row self.old.part line.new.key line.new.event).leaving) }
         ensures same { OnErr result (self.new ≡ self.old) }
@@ -265,7 +266,7 @@ impl Node {
         requires pending { next_key self.old.pending ≢ None }
         requires due { (k : Key) (v : Event) → least self.old.pending ≡ Some (k, v) → IsRunnable self.old.part k v }
         requires chains { length self.old.part.links ≤ length out.old }
-        requires room { All (λ chain. length chain < 1000000000000000) out.old }
+        requires room { All (λ chain. length chain < MOST_EVENTS) out.old }
         ensures fired { IfOk result (λ line. HasFired self.old self.new out.old out.new (shown line)) }
         ensures same { OnErr result (self.new ≡ self.old) }
         ensures same_out { OnErr result (out.new ≡ out.old) }

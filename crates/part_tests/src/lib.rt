@@ -7,6 +7,8 @@
 #[cfg(test)]
 mod chains;
 #[cfg(test)]
+mod drop_reasons;
+#[cfg(test)]
 mod links;
 #[cfg(test)]
 mod rankings;

@@ -8,9 +8,9 @@ use Rattle.packet_chain.specs.Stamped.{Stamped, bytes_of}
 use Rattle.aqm.specs.declared.drop_reason.TakeDrop.{TakeDrop}
 use Rattle.aqm.specs.declared.queue.Queue.{Queue}
 use Rattle.aqm.specs.declared.queue.Queue.TheVariants.{DropTail, Codel}
-use Rattle.aqm.specs.DropTail.{DropTailState, is_full, after_offer, without_first}
+use Rattle.aqm.specs.DropTail.{DropTailState, after_offer, without_first}
 use Rattle.aqm.specs.Codel.{CodelState}
-use Rattle.aqm.specs.Queue.{fifo_of, waiting_in, offered_to, take_reason, taken_from}
+use Rattle.aqm.specs.Queue.{waiting_in, refuses, offered_to, take_reason, taken_from}
 use Rattle.aqm.specs.Laws.{listed, IsForCause}
 use Rattle.aqm.proofs.Front.{takes_the_front, gives_what_waits, drops_at_most_what_waits}
 use Rattle.aqm.proofs.Causes.{every_drop_has_a_cause}
@@ -48,7 +48,7 @@ taking_in_order now port q s is kind =
 
 offering_in_order : (now : ℕ) (port : PortState) (packet : Packet) (s : DropTailState) → port.queue ≡ DropTail s → (lost full idle : Bool) → IsDropTailStep (after_tests now (counted_one port) packet lost full idle)
 offering_in_order now port packet s is true full idle = record { state = s; queue_is = is; none = refl }
-offering_in_order now port packet s is false true idle = record { state = s; queue_is = is; none = refl }
+offering_in_order now port packet s is false true idle = record { state = after_offer s (packet, now) now; queue_is = ap (λ q. offered_to q (packet, now) now) is; none = refl }
 offering_in_order now port packet s is false false true = taking_in_order now (with_packet now (counted_one port) packet) _ (after_offer s (packet, now) now) refl (ap (λ q. offered_to q (packet, now) now) is)
 offering_in_order now port packet s is false false false = record { state = after_offer s (packet, now) now; queue_is = ap (λ q. offered_to q (packet, now) now) is; none = refl }
 
@@ -57,7 +57,7 @@ drop_tail_drops_nothing_that_entered port [] s is = refl
 drop_tail_drops_nothing_that_entered port (Offer now packet ∷ calls) s is =
     let first = offered_one now port packet in
     let later = history first.port calls in
-    let step = offered_by_case IsDropTailStep now port packet (λ idle _ lost full. offering_in_order now port packet s is lost full idle) in
+    let step = offered_by_case IsDropTailStep now port packet (λ idle _ lost full _. offering_in_order now port packet s is lost full idle) in
     filter_map-append queue_drop_in first.acts later.acts ∙ ap (λ ps. ps ++ filter_map queue_drop_in later.acts) step.none ∙ drop_tail_drops_nothing_that_entered first.port calls step.state step.queue_is
 drop_tail_drops_nothing_that_entered port (Free now ∷ calls) s is =
     let first = taken now port in
@@ -95,7 +95,7 @@ every_codel_drop_has_a_cause now i port s is =
     subst (λ ps. IfSome (slice_get ps i) P) (sym reported) (packet_at (taken_from (Codel s) now).dropped i P (codel_taking now i s))
 
 -- the last packet that waits is never dropped
-last_stays : (q : Queue) (now : ℕ) (cell : Stamped) (cells : List Stamped) → waiting_in q ≡ cell ∷ cells → length (taken_from q now).dropped ≤ length cells
+pub last_stays : (q : Queue) (now : ℕ) (cell : Stamped) (cells : List Stamped) → waiting_in q ≡ cell ∷ cells → length (taken_from q now).dropped ≤ length cells
 last_stays q now cell cells is = by (taken_from q now).given refl
   where
     by : (o : Option Stamped) → (taken_from q now).given ≡ o → length (taken_from q now).dropped ≤ length cells
@@ -111,12 +111,12 @@ one_more : (waiting : List Stamped) (cell : Stamped) (q : Queue) (now : ℕ) →
 one_more [] cell q now is = last_stays q now cell [] is
 one_more (w ∷ waiting) cell q now is = let most = last_stays q now w (waiting ++ cell ∷ []) is in omega (arith, most, length-append waiting (cell ∷ []))
 
-at_entry : (s : DropTailState) (packet : Packet) (now : ℕ) (full : Bool) (q : Queue) → waiting_in q ≡ (cond full s (record s { waiting = s.waiting ++ (packet, now) ∷ [] })).waiting → length (taken_from q now).dropped ≤ length s.waiting
-at_entry s packet now true q is = let most = drops_at_most_what_waits q now in let same = ap length is in omega (arith, most, same)
-at_entry s packet now false q is = one_more s.waiting (packet, now) q now is
+at_entry : (waiting : List Stamped) (packet : Packet) (now : ℕ) (refused : Bool) (q : Queue) → waiting_in q ≡ cond refused waiting (waiting ++ (packet, now) ∷ []) → length (taken_from q now).dropped ≤ length waiting
+at_entry waiting packet now true q is = let most = drops_at_most_what_waits q now in let same = ap length is in omega (arith, most, same)
+at_entry waiting packet now false q is = one_more waiting (packet, now) q now is
 
 with_one : (now : ℕ) (q : Queue) (packet : Packet) → length (taken_from (offered_to q (packet, now) now) now).dropped ≤ length (waiting_in q)
-with_one now q packet = at_entry (fifo_of q) packet now (is_full (fifo_of q)) (offered_to q (packet, now) now) (ap (λ (s : DropTailState). s.waiting) ((queues_stay q now).fifo (packet, now)))
+with_one now q packet = at_entry (waiting_in q) packet now (refuses q) (offered_to q (packet, now) now) ((queues_stay q now).waits (packet, now))
 
 at_offer : (now : ℕ) (port : PortState) (packet : Packet) (idle : Bool) → cond idle (drops_at now (with_packet now port packet)) 0 ≤ length (waiting_in port.queue)
 at_offer now port packet true = with_one now port.queue packet

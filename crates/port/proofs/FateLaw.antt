@@ -7,20 +7,19 @@ use Rattle.packet_chain.specs.declared.packet.Packet.{Packet}
 use Rattle.packet_chain.specs.Stamped.{Stamped}
 use Rattle.aqm.specs.declared.drop_reason.TakeDrop.{TakeDrop}
 use Rattle.aqm.specs.declared.queue.Queue.{Queue}
-use Rattle.aqm.specs.DropTail.{is_full}
-use Rattle.aqm.specs.Queue.{fifo_of, waiting_in, offered_to, take_reason, taken_from}
+use Rattle.aqm.specs.Queue.{waiting_in, refuses, offer_reason, offered_to, take_reason, taken_from}
 use Rattle.aqm.specs.Laws.{listed}
 use Rattle.aqm.proofs.Front.{takes_the_front}
-use Rattle.aqm.proofs.Stays.{enters_last}
+use Rattle.aqm.proofs.Stays.{enters_last, refused_stays}
 use Rattle.port.specs.declared.acts.Act.TheVariants.{Dropped}
-use Rattle.aqm.specs.declared.drop_reason.DropReason.TheVariants.{Lost, Full}
+use Rattle.aqm.specs.declared.drop_reason.DropReason.TheVariants.{Lost, Offer}
 use Rattle.port.specs.Losses.{is_lost}
 use Rattle.port.specs.Port.{PortState, PortStep, begun, dropped_for, taken, only, with_packet, offered_one}
 use Rattle.port.specs.History.{Call, Offer, Free, called, history, offered_in}
 use Rattle.port.specs.Fates.{Fate, Wait, reported_by, reported, has_entered}
 use Rattle.port.specs.Laws.{EveryPacketHasOneFate}
 use Rattle.port.proofs.Cases.{counted_one, after_tests, queue_stays}
-use Rattle.port.proofs.Tales.{IsTale, AllEntered, packet_in, was_refused, none_refused, all_kept, ends, refuses, leave, enters}
+use Rattle.port.proofs.Tales.{IsTale, AllEntered, packet_in, was_refused, none_refused, all_kept, ends, refusal, leave, enters}
 
 abbrev packets_of : List Stamped → List Packet
 packets_of = map (λ cell. cell.0)
@@ -82,28 +81,29 @@ takes now port offered later tale =
     (leave fs (waiting_at (taken now port).port) offered later (all_left now (record port { queue = take.queue }) (take_reason port.queue) take.dropped take.given) tale)
 
 -- a packet that isn't refused is last in the queue
-last_in : (q : Queue) (packet : Packet) (now : ℕ) → is_full (fifo_of q) ≡ false → packets_of (waiting_in (offered_to q (packet, now) now)) ≡ packets_of (waiting_in q) ++ packet ∷ []
+last_in : (q : Queue) (packet : Packet) (now : ℕ) → refuses q ≡ false → packets_of (waiting_in (offered_to q (packet, now) now)) ≡ packets_of (waiting_in q) ++ packet ∷ []
 last_in q packet now room = ap packets_of (enters_last q (packet, now) now room) ∙ map-append (λ (cell : Stamped). cell.0) (waiting_in q) ((packet, now) ∷ [])
 
 -- an offering whose packet enters
-lets_in : (now : ℕ) (port : PortState) (packet : Packet) (idle : Bool) (offered : List Packet) (later : List (Packet × Fate)) → is_full (fifo_of port.queue) ≡ false
+lets_in : (now : ℕ) (port : PortState) (packet : Packet) (idle : Bool) (offered : List Packet) (later : List (Packet × Fate)) → refuses port.queue ≡ false
     → let step = cond idle (taken now (with_packet now port packet)) (only (with_packet now port packet) []) in IsTale (waiting_at step.port) offered later → IsTale (waiting_at port) (packet ∷ offered) (map reported_by step.acts ++ later)
 lets_in now port packet true offered later room tale =
     enters packet (waiting_at port) offered _ (subst (λ ps. IsTale ps offered (map reported_by (taken now (with_packet now port packet)).acts ++ later)) (last_in port.queue packet now room) (takes now (with_packet now port packet) offered later tale))
 lets_in now port packet false offered later room tale = enters packet (waiting_at port) offered later (subst (λ ps. IsTale ps offered later) (last_in port.queue packet now room) tale)
 
 -- an offering
-offers : (now : ℕ) (port : PortState) (packet : Packet) (lost full idle : Bool) (offered : List Packet) (later : List (Packet × Fate)) → is_full (fifo_of port.queue) ≡ full
+offers : (now : ℕ) (port : PortState) (packet : Packet) (lost full idle : Bool) (offered : List Packet) (later : List (Packet × Fate)) → refuses port.queue ≡ full
     → let step = after_tests now port packet lost full idle in IsTale (waiting_at step.port) offered later → IsTale (waiting_at port) (packet ∷ offered) (map reported_by step.acts ++ later)
-offers now port packet true full idle offered later room tale = refuses (reported_by (Dropped port.link Lost packet)) (waiting_at port) offered later refl tale
-offers now port packet false true idle offered later room tale = refuses (reported_by (Dropped port.link Full packet)) (waiting_at port) offered later refl tale
+offers now port packet true full idle offered later room tale = refusal (reported_by (Dropped port.link Lost packet)) (waiting_at port) offered later refl tale
+offers now port packet false true idle offered later room tale =
+    refusal (reported_by (Dropped port.link (Offer (offer_reason port.queue)) packet)) (waiting_at port) offered later refl (subst (λ ps. IsTale ps offered later) (ap packets_of (refused_stays port.queue (packet, now) now room)) tale)
 offers now port packet false false idle offered later room tale = lets_in now port packet idle offered later room tale
 
 tale : (port : PortState) (calls : List Call) → IsReported port calls (reported (history port calls))
 tale port [] = subst (λ ps. IsTale ps [] (waits (waiting_in port.queue))) (packets_wait (waiting_in port.queue)) (ends (waits (waiting_in port.queue)) (all_wait (waiting_in port.queue)))
 tale port (Offer now packet ∷ calls) =
     subst (IsReported port (Offer now packet ∷ calls)) (sym (reported_more port (Offer now packet) calls))
-    (offers now (counted_one port) packet (is_lost port.lose (port.offered + 1)) (is_full (fifo_of port.queue)) (is_none port.next_free) (offered_in calls) _ refl
+    (offers now (counted_one port) packet (is_lost port.lose (port.offered + 1)) (refuses port.queue) (is_none port.next_free) (offered_in calls) _ refl
     (tale (offered_one now port packet).port calls))
 tale port (Free now ∷ calls) =
     subst (IsReported port (Free now ∷ calls)) (sym (reported_more port (Free now) calls))

@@ -10,8 +10,7 @@ use Rattle.packet_chain.specs.declared.packet.Packet.{Packet}
 use Rattle.packet_chain.specs.PacketBytes.{IsPacketBytes}
 use Rattle.packet_chain.specs.Stamped.{Stamped}
 use Rattle.aqm.specs.declared.queue.Queue.{Queue}
-use Rattle.aqm.specs.DropTail.{DropTailState, is_full}
-use Rattle.aqm.specs.Queue.{fifo_of, waiting_in, offered_to, taken_from}
+use Rattle.aqm.specs.Queue.{waiting_in, refuses, offered_to, taken_from}
 use Rattle.aqm.specs.Laws.{listed}
 use Rattle.aqm.proofs.Front.{takes_the_front}
 use Rattle.aqm.proofs.Stays.{queues_stay}
@@ -50,12 +49,12 @@ sized_last : (xs : List Stamped) (cell : Stamped) → AllSized xs → IsPacketBy
 sized_last [] cell all size = (size, tt)
 sized_last (x ∷ xs) cell all size = (all.0, sized_last xs cell all.1 size)
 
-sized_entry : (s : DropTailState) (packet : Packet) (now : ℕ) (full : Bool) → AllSized s.waiting → IsPacketBytes packet.bytes → AllSized (cond full s (record s { waiting = s.waiting ++ (packet, now) ∷ [] })).waiting
-sized_entry s packet now true all size = all
-sized_entry s packet now false all size = sized_last s.waiting (packet, now) all size
+sized_entry : (waiting : List Stamped) (packet : Packet) (now : ℕ) (refused : Bool) → AllSized waiting → IsPacketBytes packet.bytes → AllSized (cond refused waiting (waiting ++ (packet, now) ∷ []))
+sized_entry waiting packet now true all size = all
+sized_entry waiting packet now false all size = sized_last waiting (packet, now) all size
 
 sized_with : (q : Queue) (packet : Packet) (now : ℕ) → AllSized (waiting_in q) → IsPacketBytes packet.bytes → AllSized (waiting_in (offered_to q (packet, now) now))
-sized_with q packet now all size = subst (λ (s : DropTailState). AllSized s.waiting) (sym ((queues_stay q now).fifo (packet, now))) (sized_entry (fifo_of q) packet now (is_full (fifo_of q)) all size)
+sized_with q packet now all size = subst AllSized (sym ((queues_stay q now).waits (packet, now))) (sized_entry (waiting_in q) packet now (refuses q) all size)
 
 begun_follows : (now last : ℕ) (port : PortState) (given : Option Stamped) → IsRate port.rate → AllSized (listed given) → last ≤ now + port.delay → Follows (begun now port given).departure (begun now port given).port now last
 unfolding Follows
@@ -91,7 +90,7 @@ offered_next since now last port packet fine size le past true full idle is =
     record { follows = record { idle = later.idle; busy = later.busy }; fine = record { rate_range = fine.rate_range; sizes = fine.sizes } }
 offered_next since now last port packet fine size le past false true idle is =
     let later = later_past port since now last le past in
-    record { follows = record { idle = later.idle; busy = later.busy }; fine = record { rate_range = fine.rate_range; sizes = fine.sizes } }
+    record { follows = record { idle = later.idle; busy = later.busy }; fine = record { rate_range = fine.rate_range; sizes = sized_with port.queue packet now fine.sizes size } }
 offered_next since now last port packet fine size le past false false true is =
     taken_next now last (with_packet now (counted_one port) packet) (record { rate_range = fine.rate_range; sizes = sized_with port.queue packet now fine.sizes size })
     (let later = later_past port since now last le past in later.idle (is_idle port.next_free is))
@@ -124,7 +123,7 @@ unfolding arrivals
 rises port [] since last fine sizes timely past = tt
 rises port (Offer now packet ∷ calls) since last fine sizes timely past =
     let step = offered_one now port packet in
-    let next = offered_by_case (IsNext now last) now port packet (λ idle is lost full. offered_next since now last port packet fine sizes.0 timely.0 past lost full idle is) in
+    let next = offered_by_case (IsNext now last) now port packet (λ idle is lost full _. offered_next since now last port packet fine sizes.0 timely.0 past lost full idle is) in
     joined step.departure step.port now last (history step.port calls).departures next.follows (λ then past'. rises step.port calls now then next.fine sizes.1 timely.1 past')
 rises port (Free now ∷ calls) since last fine sizes timely past =
     let step = taken now port in

@@ -7,9 +7,10 @@ use Rattle.std.proofs.lemmas.List.Elements.{filter_map-append}
 use Rattle.packet_chain.specs.declared.packet.Packet.{Packet}
 use Rattle.packet_chain.specs.Stamped.{Stamped}
 use Rattle.aqm.specs.declared.drop_reason.TakeDrop.{TakeDrop}
-use Rattle.aqm.specs.Queue.{waiting_in, take_reason, taken_from}
+use Rattle.aqm.specs.Queue.{waiting_in, refuses, take_reason, taken_from}
 use Rattle.aqm.specs.Laws.{listed}
 use Rattle.aqm.proofs.Front.{takes_the_front, gives_what_waits}
+use Rattle.aqm.proofs.Stays.{refused_stays}
 use Rattle.port.specs.Port.{PortState, PortStep, Departure, begun, dropped_for, taken, with_packet, offered_one, offered_all}
 use Rattle.port.specs.History.{Offer, Free, history, offered_in}
 use Rattle.port.proofs.Cases.{counted_one, after_tests, offered_by_case, queue_stays}
@@ -30,7 +31,7 @@ busy_case now t port packet false true busy = record { none_departs = refl; busy
 busy_case now t port packet false false busy = record { none_departs = refl; busy = busy; same = refl }
 
 pub busy_one : (now t : ℕ) (port : PortState) (packet : Packet) → port.next_free ≡ Some t → IsBusyStill t port.sent (offered_one now port packet)
-busy_one now t port packet busy = offered_by_case (IsBusyStill t port.sent) now port packet (λ idle is lost full. subst (λ b. IsBusyStill t port.sent (after_tests now (counted_one port) packet lost full b)) (sym (busy_is port t busy) ∙ is) (busy_case now t port packet lost full busy))
+busy_one now t port packet busy = offered_by_case (IsBusyStill t port.sent) now port packet (λ idle is lost full _. subst (λ b. IsBusyStill t port.sent (after_tests now (counted_one port) packet lost full b)) (sym (busy_is port t busy) ∙ is) (busy_case now t port packet lost full busy))
 
 busy_all : (now t : ℕ) (port : PortState) (packets : List Packet) → port.next_free ≡ Some t → IsBusyStill t port.sent (offered_all now port packets)
 busy_all now t port [] busy = record { none_departs = refl; busy = busy; same = refl }
@@ -65,7 +66,7 @@ offered_sends now port packet false false true = taken_sends now (with_packet no
 offered_sends now port packet false false false = record { sends = refl; busy_then = λ d e. cc }
 
 pub one_sends : (now : ℕ) (port : PortState) (packet : Packet) → SendsWhatDeparts (offered_one now port packet)
-one_sends now port packet = offered_by_case SendsWhatDeparts now port packet (λ idle is lost full. offered_sends now (counted_one port) packet lost full idle)
+one_sends now port packet = offered_by_case SendsWhatDeparts now port packet (λ idle is lost full _. offered_sends now (counted_one port) packet lost full idle)
 
 pub one_departs_at_most : OneDepartsAtMost
 one_departs_at_most now port [] = refl
@@ -108,7 +109,7 @@ offered_counts now port packet false false true =
 offered_counts now port packet false false false = record { link = refl; rate = refl; delay = refl; lose = refl; offered = refl; sent = omega arith }
 
 pub one_counts : (now : ℕ) (port : PortState) (packet : Packet) → IsCounted port (offered_one now port packet).port 1 (one_if (offered_one now port packet).departure)
-one_counts now port packet = offered_by_case (λ step. IsCounted port step.port 1 (one_if step.departure)) now port packet (λ idle is lost full. offered_counts now port packet lost full idle)
+one_counts now port packet = offered_by_case (λ step. IsCounted port step.port 1 (one_if step.departure)) now port packet (λ idle is lost full _. offered_counts now port packet lost full idle)
 
 both_counts : (a b c : PortState) (m n i j : ℕ) → IsCounted a b m i → IsCounted b c n j → IsCounted a c (m + n) (i + j)
 both_counts a b c m n i j first second = record {
@@ -165,14 +166,14 @@ taken_keeps_nothing now port idle =
     ap waiting_in (queue_stays now (record port { queue = take.queue }) take.given)
     ∙ no_more take.dropped (waiting_in take.queue) (subst (λ o. take.dropped ++ listed o ++ waiting_in take.queue ≡ []) none all)
 
-offered_keeps_nothing : (now : ℕ) (port : PortState) (packet : Packet) (lost full idle : Bool) → is_none port.next_free ≡ idle → NothingWaitsWhereIdle port → NothingWaitsWhereIdle (after_tests now (counted_one port) packet lost full idle).port
-offered_keeps_nothing now port packet true full idle is nothing = nothing
-offered_keeps_nothing now port packet false true idle is nothing = nothing
-offered_keeps_nothing now port packet false false true is nothing = taken_keeps_nothing now (with_packet now (counted_one port) packet)
-offered_keeps_nothing now port packet false false false is nothing = λ idle. let yes : is_none port.next_free ≡ true = ap is_none idle in absurd (cc)
+offered_keeps_nothing : (now : ℕ) (port : PortState) (packet : Packet) (lost full idle : Bool) → refuses port.queue ≡ full → is_none port.next_free ≡ idle → NothingWaitsWhereIdle port → NothingWaitsWhereIdle (after_tests now (counted_one port) packet lost full idle).port
+offered_keeps_nothing now port packet true full idle at is nothing = nothing
+offered_keeps_nothing now port packet false true idle at is nothing = λ none. refused_stays port.queue (packet, now) now at ∙ nothing none
+offered_keeps_nothing now port packet false false true at is nothing = taken_keeps_nothing now (with_packet now (counted_one port) packet)
+offered_keeps_nothing now port packet false false false at is nothing = λ idle. let yes : is_none port.next_free ≡ true = ap is_none idle in absurd (cc)
 
 pub idle_links_keep_nothing : IdleLinksKeepNothing
 idle_links_keep_nothing port [] nothing = nothing
 idle_links_keep_nothing port (Offer now packet ∷ calls) nothing =
-    idle_links_keep_nothing (offered_one now port packet).port calls (offered_by_case (λ step. NothingWaitsWhereIdle step.port) now port packet (λ idle is lost full. offered_keeps_nothing now port packet lost full idle is nothing))
+    idle_links_keep_nothing (offered_one now port packet).port calls (offered_by_case (λ step. NothingWaitsWhereIdle step.port) now port packet (λ idle is lost full at. offered_keeps_nothing now port packet lost full idle at is nothing))
 idle_links_keep_nothing port (Free now ∷ calls) nothing = idle_links_keep_nothing (taken now port).port calls (taken_keeps_nothing now port)

@@ -51,8 +51,8 @@ ends fs all = record {
 }
 
 -- a packet is offered and refused
-pub refuses : (f : Packet × Fate) (waiting offered : List Packet) (reported : List (Packet × Fate)) → has_entered f ≡ false → IsTale waiting offered reported → IsTale waiting (f.0 ∷ offered) (f ∷ reported)
-refuses f waiting offered reported out tale = record {
+pub refusal : (f : Packet × Fate) (waiting offered : List Packet) (reported : List (Packet × Fate)) → has_entered f ≡ false → IsTale waiting offered reported → IsTale waiting (f.0 ∷ offered) (f ∷ reported)
+refusal f waiting offered reported out tale = record {
   firsts = tale.firsts;
   others = f ∷ tale.others;
   waited = tale.waited;

@@ -2,7 +2,7 @@
 use Rattle.std.specs.Prelude.{◌≡◌, Bool, true, false, not, List, ◌++◌, map, filter}
 use Rattle.packet_chain.specs.declared.packet.Packet.{Packet}
 use Rattle.aqm.specs.declared.drop_reason.DropReason.{DropReason}
-use Rattle.aqm.specs.declared.drop_reason.DropReason.TheVariants.{Lost, Full}
+use Rattle.aqm.specs.declared.drop_reason.DropReason.TheVariants.{Lost, Offer}
 use Rattle.aqm.specs.Queue.{waiting_in}
 use Rattle.port.specs.declared.acts.Act.{Act}
 use Rattle.port.specs.declared.acts.Act.TheVariants.{Tx, Dropped}
@@ -23,10 +23,10 @@ reported_by (Dropped link reason packet) = (packet, Drop reason)
 abbrev pub reported : History → List (Packet × Fate)
 reported h = map reported_by h.acts ++ map (λ cell. (cell.0, Wait)) (waiting_in h.port.queue)
 
--- it was let into the queue: neither lost nor dropped as the queue was full
+-- it was let into the queue: neither lost nor dropped as it was offered
 abbrev pub has_entered : Packet × Fate → Bool
 has_entered (packet, Drop Lost) = false
-has_entered (packet, Drop Full) = false
+has_entered (packet, Drop (Offer reason)) = false
 has_entered (packet, fate) = true
 
 -- these are the packets that waited and those that were offered, each with one fate; those that were refused are in the order in which the acts tell so, and those that entered are in the order in which they left, and then as they wait

@@ -19,7 +19,7 @@ use Rattle.port.specs.Room.{drops_at_offer}
 use Rattle.port.specs.History.{Call, history, offered_in, AreTimely}
 use Rattle.port.specs.Fates.{Fate, AreFates}
 
--- every packet that waits at first or is offered is lost, dropped as full, dropped by its queue at a taking, sent, or waits at the end: one of these, in order and once
+-- every packet that waits at first or is offered is lost, dropped by its queue as it comes or at a taking, sent, or waits at the end: one of these, in order and once
 abbrev pub EveryPacketHasOneFate : Type 0
 EveryPacketHasOneFate = (port : PortState) (calls : List Call) → (fates : List (Packet × Fate)) × AreFates port calls fates
 

@@ -5,10 +5,9 @@ use Rattle.sim_time.specs.Serial.{serial, IsRate}
 use Rattle.packet_chain.specs.declared.packet.Packet.{Packet}
 use Rattle.packet_chain.specs.Stamped.{Stamped}
 use Rattle.aqm.specs.declared.drop_reason.TakeDrop.{TakeDrop}
-use Rattle.aqm.specs.declared.drop_reason.DropReason.TheVariants.{Lost, Full, Take}
+use Rattle.aqm.specs.declared.drop_reason.DropReason.TheVariants.{Lost, Offer, Take}
 use Rattle.aqm.specs.declared.queue.Queue.{Queue}
-use Rattle.aqm.specs.DropTail.{is_full}
-use Rattle.aqm.specs.Queue.{fifo_of, offered_to, take_reason, taken_from}
+use Rattle.aqm.specs.Queue.{refuses, offer_reason, offered_to, take_reason, taken_from}
 use Rattle.port.specs.Losses.{is_lost}
 use Rattle.port.specs.declared.acts.Act.{Act}
 use Rattle.port.specs.declared.acts.Act.TheVariants.{Tx, Dropped}
@@ -88,7 +87,7 @@ taken now port =
 abbrev pub only : PortState → List Act → PortStep
 only port acts = record { port = port; departure = None; acts = acts }
 
--- the packet is last in the queue
+-- the queue after a packet was offered to it
 abbrev pub with_packet : ℕ → PortState → Packet → PortState
 with_packet now port packet = record port { queue = offered_to port.queue (packet, now) now }
 
@@ -96,12 +95,12 @@ with_packet now port packet = record port { queue = offered_to port.queue (packe
 abbrev pub entered : ℕ → PortState → Packet → PortStep
 entered now port packet = if is_none port.next_free then taken now (with_packet now port packet) else only (with_packet now port packet) []
 
--- a packet is offered: it is lost where the list has its number, dropped where the queue is full, and else enters
+-- a packet is offered: it is lost where the list has its number, dropped where the queue refuses it, and else enters
 abbrev pub offered_one : ℕ → PortState → Packet → PortStep
 offered_one now port packet =
     let counted = record port { offered = port.offered + 1 } in
     if is_lost port.lose counted.offered then only counted (Dropped port.link Lost packet ∷ [])
-    else (if is_full (fifo_of port.queue) then only counted (Dropped port.link Full packet ∷ [])
+    else (if refuses port.queue then only (with_packet now counted packet) (Dropped port.link (Offer (offer_reason port.queue)) packet ∷ [])
     else entered now counted packet)
 
 -- packets are offered at one moment, in their order: at most one departs, as a busy link begins nothing

@@ -2,8 +2,8 @@
 //! alone, each the contract of a function that does nothing.
 ghost use Rattle.port.specs.Laws.{EveryPacketHasOneFate, EveryPacketIsCounted, BusyLinkBeginsNothing, OneDepartsAtMost, ArrivalsRise, DropTailDropsNothingThatEntered, EveryCodelDropHasACause, IdleLinksKeepNothing, OfferingsDropNothing};
 
-/// Every packet that waits at first or is offered is lost, dropped as the queue is full, dropped
-/// by its queue at a taking, sent, or waits at the end: one of these, in order and once.
+/// Every packet that waits at first or is offered is lost, dropped by its queue as it comes or at a
+/// taking, sent, or waits at the end: one of these, in order and once.
 pub fn every_packet_has_one_fate()
     ensures { EveryPacketHasOneFate }
 {}

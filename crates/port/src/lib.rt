@@ -12,7 +12,7 @@ mod losses;
 pub mod port;
 
 pub use acts::{Act, Acts};
-pub use aqm::{DropReason, TakeDrop};
+pub use aqm::{DropReason, OfferDrop, TakeDrop};
 pub use guarantees::{
     a_busy_link_begins_nothing, arrivals_rise, drop_tail_drops_nothing_that_entered,
     every_codel_drop_has_a_cause, every_packet_has_one_fate, every_packet_is_counted,

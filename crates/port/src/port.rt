@@ -2,9 +2,9 @@
 ghost use Rattle.std.specs.Prelude.{◌≡◌, ℕ, ◌+◌, ◌^◌, ◌<◌, ◌≤◌, ◌++◌, Some, None, [], false, All, IsTrue, length, IfOk};
 ghost use Rattle.std.specs.List.Sorted.{IsStrictlyIncreasing};
 ghost use Rattle.sim_time.specs.Moment.{IsMoment};
+ghost use Rattle.sim_time.specs.declared.limits.TheConstants.{MOST_EVENTS};
 ghost use Rattle.packet_chain.specs.declared.packet.Packet.{Packet};
-ghost use Rattle.aqm.specs.DropTail.{is_full};
-ghost use Rattle.aqm.specs.Queue.{fifo_of, may_drop, waiting_in};
+ghost use Rattle.aqm.specs.Queue.{offered_to, refuses, taken_from, waiting_in};
 ghost use Rattle.port.specs.Port.{IsPort, initial_port, offered_one, taken, departed};
 ghost use Rattle.port.specs.Laws.{NothingWaitsWhereIdle};
 ghost use Rattle.port.specs.Room.{drops_at, drops_at_offer};
@@ -141,15 +141,15 @@ impl Port {
         self.queue.drops_at(now) + 1
     }
 
-    /// Offers a packet to the link: it is lost, or dropped as the queue is full, or it enters the
+    /// Offers a packet to the link: it is lost, or the queue drops it as it comes, or it enters the
     /// queue. An idle link takes from its queue at once. A packet that begins to be sent goes to
     /// the end of `out`, with the time of its arrival as its stamp.
     pub fn send(&mut self, cell: PacketCell, now: Time, acts: &mut Acts, out: &mut PacketChain)
         requires moment { IsMoment now }
         requires room { drops_at_offer now self.old cell.0 + 1 ≤ acts.old.room }
-        requires sent { self.old.next_free ≡ None → self.old.sent < 1000000000000000 }
+        requires sent { self.old.next_free ≡ None → self.old.sent < MOST_EVENTS }
         requires offered { self.old.offered < 2 ^ 100 }
-        requires chain { self.old.next_free ≡ None → length out.old < 1000000000000000 }
+        requires chain { self.old.next_free ≡ None → length out.old < MOST_EVENTS }
         ensures state { self.new ≡ (offered_one now self.old cell.0).port }
         ensures departed { out.new ≡ out.old ++ departed (offered_one now self.old cell.0).departure }
         ensures acts { acts.new.acts ≡ acts.old.acts ++ (offered_one now self.old cell.0).acts }
@@ -170,7 +170,9 @@ impl Port {
             return;
         }
         match self.queue.offer(cell, now) {
-            Offered::Full(cell) => drop_cell(cell, self.link, DropReason::Full, acts),
+            Offered::Dropped(cell, reason) => {
+                drop_cell(cell, self.link, DropReason::Offer(reason), acts);
+            }
             Offered::Entered => {
                 if self.next_free.is_none() {
                     self.take(now, acts, out);
@@ -185,8 +187,8 @@ impl Port {
         requires moment { IsMoment now }
         requires due { self.old.next_free ≡ Some now }
         requires room { drops_at now self.old + 1 ≤ acts.old.room }
-        requires sent { self.old.sent < 1000000000000000 }
-        requires chain { length out.old < 1000000000000000 }
+        requires sent { self.old.sent < MOST_EVENTS }
+        requires chain { length out.old < MOST_EVENTS }
         ensures state { self.new ≡ (taken now self.old).port }
         ensures departed { out.new ≡ out.old ++ departed (taken now self.old).departure }
         ensures acts { acts.new.acts ≡ acts.old.acts ++ (taken now self.old).acts }
@@ -197,16 +199,15 @@ impl Port {
         self.take(now, acts, out);
     }
 
-    // Whether a packet that is offered would enter the queue and be given at once: the link is idle, and nothing
-    // waits in a queue whose takes drop nothing.
+    // Whether a packet that is offered would enter the queue and be given at once: the link is idle, and its queue
+    // lets the packet pass.
     #[inline(always)]
     fn is_open(&self) -> bool
         ensures idle { IsTrue result → self.now.next_free ≡ None }
-        ensures keeps { IsTrue result → may_drop self.now.queue ≡ false }
-        ensures nothing { IsTrue result → waiting_in self.now.queue ≡ [] }
-        ensures room { IsTrue result → is_full (fifo_of self.now.queue) ≡ false }
+        ensures enters { IsTrue result → refuses self.now.queue ≡ false }
+        ensures passes { IsTrue result → (packet : Packet) (now : ℕ) → taken_from (offered_to self.now.queue (packet, now) now) now ≡ record { dropped = []; given = Some (packet, now); queue = self.now.queue } }
     {
-        self.next_free.is_none() && !self.queue.may_drop() && self.queue.len() == 0
+        self.next_free.is_none() && self.queue.lets_pass()
     }
 
     /// A port in the same state, with the packets that wait in cells of its own.

@@ -9,16 +9,15 @@ use Rattle.packet_chain.specs.declared.packet.Packet.{Packet}
 use Rattle.packet_chain.specs.Stamped.{Stamped, bytes_of}
 use Rattle.aqm.specs.declared.drop_reason.TakeDrop.{TakeDrop}
 use Rattle.aqm.specs.declared.queue.Queue.{Queue}
-use Rattle.aqm.specs.declared.queue.Queue.TheVariants.{DropTail, Codel}
-use Rattle.aqm.specs.DropTail.{DropTailState, is_full, after_offer}
+use Rattle.aqm.specs.declared.queue.Queue.TheVariants.{Codel}
 use Rattle.aqm.specs.Codel.{CodelState}
 use Rattle.aqm.specs.Drops.{drop_due, drops, after_drops}
 use Rattle.aqm.specs.Judgement.{judged, judgement}
-use Rattle.aqm.specs.Queue.{fifo_of, waiting_in, offered_to, taken_from, take_reason}
+use Rattle.aqm.specs.Queue.{waiting_in, refuses, offered_to, taken_from, take_reason}
 use Rattle.aqm.specs.Taken.{CodelTaken, codel_taken}
 use Rattle.aqm.specs.Laws.{IsForCause}
-use Rattle.aqm.proofs.Causes.{every_drop_has_a_cause}
 use Rattle.aqm.proofs.Front.{drops_stop_at_the_first_stop, drops_in_drop_state}
+use Rattle.aqm.proofs.CodelBefore.{same_codel, codel_before_offer, codel_before_take}
 use Rattle.aqm.proofs.Stays.{enters_last}
 use Rattle.aqm.proofs.TakenCases.{taken_in_drop_state, taken_at_first_drop, taken_undropped}
 use Rattle.port.specs.Losses as losses
@@ -26,7 +25,7 @@ use Rattle.port.specs.declared.acts.Act.{Act}
 use Rattle.port.specs.Port.{PortState, PortStep, taken, with_packet, offered_one, offered_all}
 use Rattle.port.specs.History.{Offer}
 use Rattle.port.specs.Laws.{queue_drop_in, NothingWaitsWhereIdle}
-use Rattle.port.proofs.CodelLaws.{every_codel_drop_has_a_cause}
+use Rattle.port.proofs.CodelLaws.{every_codel_drop_has_a_cause, last_stays}
 use Rattle.port.proofs.StepLaws.{idle_links_keep_nothing}
 use Rattle.run_laws.specs.Laws.{IsKept}
 use Rattle.run_laws.specs.Links.{AtEachLink, SendsAllThatEntered, DropsForCause, due_behind, DropsOnTime}
@@ -51,15 +50,12 @@ queue_after : (now : ℕ) (old : PortState) → (taken now old).port.queue ≡ (
 queue_after now old = let take = taken_from old.queue now in queue_same now old take.queue (take_reason old.queue) take.given
 
 -- of one packet that waits none is dropped
-none_behind : (s : CodelState) (now : ℕ) (cell : Stamped) → s.fifo.waiting ≡ cell ∷ [] → (dropped : List Stamped) → IfSome (slice_get dropped 0) (IsForCause s now (bytes_of (drop 1 s.fifo.waiting))) → dropped ≡ []
-none_behind s now cell is [] h = refl
-none_behind s now cell is (x ∷ dropped) h =
-    let behind : s.maxpacket < bytes_of (drop 1 (cell ∷ [])) = subst (λ ls. s.maxpacket < bytes_of (drop 1 ls)) is h.behind in
-    absurd (omega (arith, behind))
-
 none_dropped : (q : Queue) (now : ℕ) (cell : Stamped) → waiting_in q ≡ cell ∷ [] → (taken_from q now).dropped ≡ []
-none_dropped (DropTail s) now cell is = refl
-none_dropped (Codel s) now cell is = none_behind s now cell is (taken_from (Codel s) now).dropped (every_drop_has_a_cause s now 0)
+none_dropped q now cell is = none (taken_from q now).dropped (last_stays q now cell [] is)
+  where
+    none : (dropped : List Stamped) → length dropped ≤ 0 → dropped ≡ []
+    none [] few = refl
+    none (x ∷ dropped) few = absurd (omega (arith, few))
 
 abbrev Idle : PortState → Type 0
 Idle port = NothingWaitsWhereIdle port
@@ -67,13 +63,13 @@ Idle port = NothingWaitsWhereIdle port
 idle : (port : PortState) → IsKept port → Idle port
 idle port kept none = kept.idle_empty (subst (λ (o : Option ℕ). IsNone o) (sym none) refl)
 
-alone : (now : ℕ) (old : PortState) (packet : Packet) → Idle old → is_none old.next_free ≡ true → is_full (fifo_of old.queue) ≡ false → waiting_in (with_packet now (counted old) packet).queue ≡ (packet, now) ∷ []
+alone : (now : ℕ) (old : PortState) (packet : Packet) → Idle old → is_none old.next_free ≡ true → refuses old.queue ≡ false → waiting_in (with_packet now (counted old) packet).queue ≡ (packet, now) ∷ []
 alone now old packet kept free room = enters_last old.queue (packet, now) now room ∙ ap (λ ls. ls ++ (packet, now) ∷ []) (kept (to_none old.next_free free))
 
 one_drops_none : (now : ℕ) (old : PortState) (packet : Packet) → Idle old → drops_in (offered_one now old packet).acts ≡ []
 one_drops_none now old packet kept =
     by_test (λ (step : PortStep). drops_in step.acts ≡ []) (losses.is_lost old.lose (old.offered + 1)) _ _ (λ _. refl)
-    (λ _. by_test (λ (step : PortStep). drops_in step.acts ≡ []) (is_full (fifo_of old.queue)) _ _ (λ _. refl)
+    (λ _. by_test (λ (step : PortStep). drops_in step.acts ≡ []) (refuses old.queue) _ _ (λ _. refl)
     (λ room. by_test (λ (step : PortStep). drops_in step.acts ≡ []) (is_none old.next_free) _ _
     (λ free. let waits = with_packet now (counted old) packet in take_drops now waits ∙ ap (map (λ (cell : Stamped). cell.0)) (none_dropped waits.queue now (packet, now) (alone now old packet kept free room)))
     (λ _. refl)))
@@ -122,12 +118,6 @@ codel_drops_for_cause = at_each_link DropsForCause none_for_cause touched_for_ca
 record LeavesSchedule (q r : Queue) : Type 0 where
   pub leaves : (t : CodelState) → r ≡ Codel t → t.dropping ≡ true → (s : CodelState) × (q ≡ Codel s) × (s.dropping ≡ true) × (t.drop_next ≡ s.drop_next)
 
-same_codel : (s t : CodelState) → Codel s ≡ Codel t → s ≡ t
-same_codel s t e = cc
-
-not_codel : (s : DropTailState) (t : CodelState) → DropTail s ≡ Codel t → ⊥
-not_codel s t e = cc
-
 schedule_same : (q : Queue) → LeavesSchedule q q
 schedule_same q = record { leaves = λ t is on. (t, is, on, refl) }
 
@@ -140,11 +130,10 @@ schedule_on a b c first second = record {
 }
 
 offer_leaves : (q : Queue) (cell : Stamped) (now : ℕ) → LeavesSchedule q (offered_to q cell now)
-offer_leaves (DropTail s) cell now = record { leaves = λ t is on. absurd (not_codel (after_offer s cell now) t is) }
-offer_leaves (Codel s) cell now = record {
+offer_leaves q cell now = record {
   leaves = λ t is on.
-      let same : record s { fifo = after_offer s.fifo cell now } ≡ t = same_codel (record s { fifo = after_offer s.fifo cell now }) t is in
-      (s, refl, ap (λ (x : CodelState). x.dropping) same ∙ on, ap (λ (x : CodelState). x.drop_next) (sym same));
+      let before = codel_before_offer q cell now t is in
+      (before.0, before.1, ap (λ (x : CodelState). x.dropping) before.2 ∙ on, ap (λ (x : CodelState). x.drop_next) (sym before.2));
 }
 
 -- a take that drops nothing
@@ -170,17 +159,18 @@ take_leaves s now cell waits none t is on =
     not_none e = cc
 
 taking_leaves : (q : Queue) (now : ℕ) (cell : Stamped) → waiting_in q ≡ cell ∷ [] → LeavesSchedule q (taken_from q now).queue
-taking_leaves (DropTail s) now cell waits = record { leaves = λ t is on. absurd (not_codel _ t is) }
-taking_leaves (Codel s) now cell waits = record {
+taking_leaves q now cell waits = record {
   leaves = λ t is on.
-      let left = take_leaves s now cell waits (none_dropped (Codel s) now cell waits) t (same_codel (codel_taken s now).queue t is) on in
-      (s, refl, left.0, left.1);
+      let before = codel_before_take q now t is in
+      let waits_there : before.0.fifo.waiting ≡ cell ∷ [] = ap waiting_in (sym before.1) ∙ waits in
+      let left = take_leaves before.0 now cell waits_there (none_dropped (Codel before.0) now cell waits_there) t before.2 on in
+      (before.0, before.1, left.0, left.1);
 }
 
 one_leaves : (now : ℕ) (old : PortState) (packet : Packet) → Idle old → LeavesSchedule old.queue (offered_one now old packet).port.queue
 one_leaves now old packet kept =
     by_test (λ (step : PortStep). LeavesSchedule old.queue step.port.queue) (losses.is_lost old.lose (old.offered + 1)) _ _ (λ _. schedule_same old.queue)
-    (λ _. by_test (λ (step : PortStep). LeavesSchedule old.queue step.port.queue) (is_full (fifo_of old.queue)) _ _ (λ _. schedule_same old.queue)
+    (λ _. by_test (λ (step : PortStep). LeavesSchedule old.queue step.port.queue) (refuses old.queue) _ _ (λ _. offer_leaves old.queue (packet, now) now)
     (λ room. by_test (λ (step : PortStep). LeavesSchedule old.queue step.port.queue) (is_none old.next_free) _ _
     (λ free.
     let waits = with_packet now (counted old) packet in

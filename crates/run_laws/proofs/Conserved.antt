@@ -3,7 +3,7 @@ use Rattle.std.proofs.Common.{◌≡◌, ℕ, ◌+◌, cond, List, [], ◌∷◌
 use Rattle.std.specs.Prelude.{count_by}
 use Rattle.std.proofs.lemmas.List.Sums.{sum_by-cons}
 use Rattle.aqm.proofs.Stays.{queues_open_empty}
-use Rattle.aqm.specs.declared.drop_reason.DropReason.TheVariants.{Lost, Full, Take}
+use Rattle.aqm.specs.declared.drop_reason.DropReason.TheVariants.{Lost, Offer, Take}
 use Rattle.port.specs.declared.acts.Act.{Act}
 use Rattle.port.specs.declared.acts.Act.TheVariants.{Tx, Dropped}
 use Rattle.port.specs.Port.{PortState, PortStep}
@@ -52,7 +52,7 @@ by_sorts (act ∷ acts) =
     its_sort : (act : Act) → cond (is_lost_act act) 1 0 + cond (is_refused act) 1 0 + cond (by_queue act) 1 0 + cond (is_sent act) 1 0 ≡ 1
     its_sort (Tx link packet) = refl
     its_sort (Dropped link Lost packet) = refl
-    its_sort (Dropped link Full packet) = refl
+    its_sort (Dropped link (Offer reason) packet) = refl
     its_sort (Dropped link (Take reason) packet) = refl
 
 pub packets_are_conserved : PacketsAreConserved

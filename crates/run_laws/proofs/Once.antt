@@ -7,6 +7,7 @@ use Rattle.std.proofs.lemmas.List.Elements.{filter-append}
 use Rattle.std.proofs.lemmas.Option.{option_and_then_some}
 use Rattle.std.specs.FinMap as finmap
 use Rattle.sim_time.specs.declared.key.Key.{Key}
+use Rattle.sim_time.specs.declared.limits.TheConstants.{LATEST_END}
 use Rattle.packet_chain.specs.declared.packet.Packet.{Packet}
 use Rattle.scenario_image.specs.declared.parts.LinkPart.{LinkPart}
 use Rattle.scenario_image.specs.declared.parts.ScenarioParts.{ScenarioParts}
@@ -377,7 +378,7 @@ after_step : (p : ScenarioParts) (lines : List TraceLine) (s : State) (k : Key) 
 after_step p lines s k v is_scenario sound is before =
     let S = sound.sound in
     let D = is_due s k v is in
-    let moment : k.time ≤ 1000000000000000 = (let a = D.in_time in let b = S.end_is in let c = is_scenario.in_limits.end_range.1 in omega (arith, a, b, c)) in
+    let moment : k.time ≤ LATEST_END = (let a = D.in_time in let b = S.end_is in let c = is_scenario.in_limits.end_range.1 in omega (arith, a, b, c)) in
     let H = has_row p is_scenario lines sound.moment s k S moment v D (S.belongs k v D.pending) in
     let t = stepped s k (shaped (part_at s k.node) k H.shape) in
     let M = is_moved s k H.shape H.row.within in

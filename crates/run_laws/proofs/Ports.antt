@@ -7,11 +7,10 @@ use Rattle.packet_chain.specs.declared.packet.Packet.{Packet}
 use Rattle.packet_chain.specs.Stamped.{Stamped}
 use Rattle.aqm.specs.declared.drop_reason.TakeDrop.{TakeDrop}
 use Rattle.aqm.specs.declared.queue.Queue.{Queue}
-use Rattle.aqm.specs.DropTail.{is_full}
-use Rattle.aqm.specs.Queue.{fifo_of, waiting_in, taken_from, take_reason}
+use Rattle.aqm.specs.Queue.{waiting_in, refuses, taken_from, take_reason}
 use Rattle.aqm.specs.Laws.{listed}
 use Rattle.aqm.proofs.Front.{takes_the_front}
-use Rattle.aqm.proofs.Stays.{enters_last}
+use Rattle.aqm.proofs.Stays.{enters_last, refused_stays}
 use Rattle.port.specs.Losses as losses
 use Rattle.port.specs.declared.acts.Act.{Act}
 use Rattle.port.specs.Port.{PortState, PortStep, begun, dropped_for, taken, only, with_packet, offered_one, offered_all}
@@ -107,14 +106,14 @@ pub one_balances : (now : ℕ) (old : PortState) (packet : Packet) → Balances 
 one_balances now old packet =
     by_test (Balances 1 old) (losses.is_lost old.lose (old.offered + 1)) _ _
     (λ _. record { same_link = refl; offered = refl; total = omega arith; sent = omega arith; its = (refl, tt) })
-    (λ _. by_test (Balances 1 old) (is_full (fifo_of old.queue)) _ _
-    (λ _. record { same_link = refl; offered = refl; total = omega arith; sent = omega arith; its = (refl, tt) })
+    (λ _. by_test (Balances 1 old) (refuses old.queue) _ _
+    (λ refused. record { same_link = refl; offered = refl; total = (let still = ap length (refused_stays old.queue (packet, now) now refused) in omega (arith, still)); sent = omega arith; its = (refl, tt) })
     (λ room. by_test (Balances 1 old) (is_none old.next_free) _ _ (λ _. joined room (taken_balances now (with_packet now (counted old) packet))) (λ _. busy room)))
   where
-    longer : is_full (fifo_of old.queue) ≡ false → waiting (with_packet now (counted old) packet) ≡ waiting old + 1
+    longer : refuses old.queue ≡ false → waiting (with_packet now (counted old) packet) ≡ waiting old + 1
     longer room = ap length (enters_last old.queue (packet, now) now room) ∙ length-append (waiting_in old.queue) ((packet, now) ∷ [])
 
-    joined : is_full (fifo_of old.queue) ≡ false → Balances 0 (with_packet now (counted old) packet) (taken now (with_packet now (counted old) packet)) → Balances 1 old (taken now (with_packet now (counted old) packet))
+    joined : refuses old.queue ≡ false → Balances 0 (with_packet now (counted old) packet) (taken now (with_packet now (counted old) packet)) → Balances 1 old (taken now (with_packet now (counted old) packet))
     joined room h = record {
       same_link = h.same_link;
       offered = (let a = h.offered in omega (arith, a));
@@ -123,7 +122,7 @@ one_balances now old packet =
       its = h.its;
     }
 
-    busy : is_full (fifo_of old.queue) ≡ false → Balances 1 old (only (with_packet now (counted old) packet) [])
+    busy : refuses old.queue ≡ false → Balances 1 old (only (with_packet now (counted old) packet) [])
     busy room = record { same_link = refl; offered = refl; total = (let b = longer room in omega (arith, b)); sent = omega arith; its = tt }
 
 pub all_balance : (now : ℕ) (old : PortState) (packets : List Packet) → Balances (length packets) old (offered_all now old packets)

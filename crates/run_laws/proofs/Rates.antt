@@ -12,8 +12,7 @@ use Rattle.packet_chain.specs.declared.packet.Packet.{Packet}
 use Rattle.packet_chain.specs.Stamped.{Stamped}
 use Rattle.aqm.specs.declared.drop_reason.TakeDrop.{TakeDrop}
 use Rattle.aqm.specs.declared.queue.Queue.{Queue}
-use Rattle.aqm.specs.DropTail.{is_full}
-use Rattle.aqm.specs.Queue.{fifo_of, taken_from, take_reason}
+use Rattle.aqm.specs.Queue.{refuses, taken_from, take_reason}
 use Rattle.port.specs.Losses as losses
 use Rattle.port.specs.declared.acts.Act.{Act}
 use Rattle.port.specs.Port.{PortState, PortStep, dropped_for, taken, with_packet, offered_one, offered_all}
@@ -56,7 +55,7 @@ since now port = unwrap_or port.next_free now
 one_fits : (now : ℕ) (old : PortState) (packet : Packet) → IsLink old → Fits now (since now old) old (offered_one now old packet)
 one_fits now old packet link =
     by_test (Fits now (since now old) old) (losses.is_lost old.lose (old.offered + 1)) _ _ (λ _. record { same_rate = refl; within = omega arith })
-    (λ _. by_test (Fits now (since now old) old) (is_full (fifo_of old.queue)) _ _ (λ _. record { same_rate = refl; within = omega arith })
+    (λ _. by_test (Fits now (since now old) old) (refuses old.queue) _ _ (λ _. record { same_rate = refl; within = omega arith })
     (λ _. by_test (Fits now (since now old) old) (is_none old.next_free) _ _
     (λ free.
     let waits = with_packet now (counted old) packet in

@@ -10,8 +10,9 @@ use Rattle.reno_sender.specs.Laws.{IsAckFor}
 use Rattle.reno_sender.specs.Sending.{Planned, spaced, fill_count, allowed_end, deadline_after, filling}
 use Rattle.reno_sender.specs.LossRecovery.{nothing_sent, may_send_new, partly, advanced, inflated, one_more}
 use Rattle.reno_sender.specs.Table.{started, acknowledged, timed_out}
-use Rattle.reno_sender.specs.Timer.{sampled, measured_by, with_estimate}
+use Rattle.reno_sender.specs.Timer.{measured_by}
 use Rattle.reno_sender.proofs.RowLaws.{by_rows}
+use Rattle.reno_sender.proofs.Samples.{by_sample}
 use Rattle.run_laws.proofs.Ports.{by_test}
 
 -- new segments lie within the window
@@ -37,8 +38,7 @@ may_parts h end is =
     (eqb-true h.nxt h.high first.0, leb-true (h.nxt + h.mss) end second.1)
 
 measured_window : (o : Option Timing) (f : SenderFields) (ack now : ℕ) → let g = measured_by o f ack now in (g.high ≡ f.high) × (g.nxt ≡ f.nxt)
-measured_window None f ack now = (refl, refl)
-measured_window (Some t) f ack now = elim (leb t.number ack) as (λ b. let g = cond b (with_estimate f (sampled f.srtt f.rttvar (now - t.sent_at))) f in (g.high ≡ f.high) × (g.nxt ≡ f.nxt)) [ true ↦ (refl, refl) | false ↦ (refl, refl) ]
+measured_window o f ack now = by_sample (λ g. (g.high ≡ f.high) × (g.nxt ≡ f.nxt)) o f ack now (refl, refl) (λ r. (refl, refl))
 
 pub started_fits : (f : SenderFields) (now : ℕ) → IsSound f → FitsNew f (started f now)
 unfolding started

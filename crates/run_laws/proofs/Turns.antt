@@ -9,11 +9,10 @@ use Rattle.packet_chain.specs.declared.packet.Packet.{Packet}
 use Rattle.packet_chain.specs.Stamped.{Stamped}
 use Rattle.aqm.specs.declared.drop_reason.TakeDrop.{TakeDrop}
 use Rattle.aqm.specs.declared.queue.Queue.{Queue}
-use Rattle.aqm.specs.DropTail.{is_full}
-use Rattle.aqm.specs.Queue.{fifo_of, waiting_in, taken_from, take_reason}
+use Rattle.aqm.specs.Queue.{waiting_in, refuses, taken_from, take_reason}
 use Rattle.aqm.specs.Laws.{listed}
 use Rattle.aqm.proofs.Front.{takes_the_front}
-use Rattle.aqm.proofs.Stays.{enters_last}
+use Rattle.aqm.proofs.Stays.{enters_last, refused_stays}
 use Rattle.port.specs.Losses as losses
 use Rattle.port.specs.declared.acts.Act.{Act}
 use Rattle.port.specs.Port.{PortState, PortStep, Departure, begun, taken, with_packet, offered_one, offered_all}
@@ -72,13 +71,13 @@ one_in_turn : (now : ℕ) (old : PortState) (packet : Packet) → InTurn now old
 one_in_turn now old packet =
     by_test (InTurn now old) (losses.is_lost old.lose (old.offered + 1)) _ _
     (λ _. record { joined = []; in_turn = sym (append-nil (packets_of old)) })
-    (λ _. by_test (InTurn now old) (is_full (fifo_of old.queue)) _ _
-    (λ _. record { joined = []; in_turn = sym (append-nil (packets_of old)) })
+    (λ _. by_test (InTurn now old) (refuses old.queue) _ _
+    (λ refused. record { joined = []; in_turn = ap (map packet_in) (refused_stays old.queue (packet, now) now refused) ∙ sym (append-nil (packets_of old)) })
     (λ room. by_test (InTurn now old) (is_none old.next_free) _ _
     (λ _. record { joined = packet ∷ []; in_turn = taken_in_turn now (with_packet now (counted old) packet) ∙ enters room })
     (λ _. record { joined = packet ∷ []; in_turn = enters room })))
   where
-    enters : is_full (fifo_of old.queue) ≡ false → packets_of (with_packet now (counted old) packet) ≡ packets_of old ++ packet ∷ []
+    enters : refuses old.queue ≡ false → packets_of (with_packet now (counted old) packet) ≡ packets_of old ++ packet ∷ []
     enters room = ap (map packet_in) (enters_last old.queue (packet, now) now room) ∙ map-append packet_in (waiting_in old.queue) ((packet, now) ∷ [])
 
 all_in_turn : (now : ℕ) (old : PortState) (packets : List Packet) → InTurn now old (offered_all now old packets)

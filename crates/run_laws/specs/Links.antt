@@ -12,7 +12,7 @@ use Rattle.aqm.specs.DropTail.{DropTailState}
 use Rattle.aqm.specs.Codel.{CodelState}
 use Rattle.aqm.specs.Judgement.{judgement}
 use Rattle.aqm.specs.Laws.{IsForCause}
-use Rattle.aqm.specs.declared.drop_reason.DropReason.TheVariants.{Lost, Full, Take}
+use Rattle.aqm.specs.declared.drop_reason.DropReason.TheVariants.{Lost, Offer, Take}
 use Rattle.aqm.specs.Queue.{waiting_in}
 use Rattle.port.specs.declared.acts.Act.{Act}
 use Rattle.port.specs.declared.acts.Act.TheVariants.{Tx, Dropped}
@@ -48,14 +48,14 @@ is_lost_act (Dropped link Lost packet) = true
 is_lost_act act = false
 
 abbrev pub is_refused : Act → Bool
-is_refused (Dropped link Full packet) = true
+is_refused (Dropped link (Offer reason) packet) = true
 is_refused act = false
 
 abbrev pub by_queue : Act → Bool
 by_queue (Dropped link (Take reason) packet) = true
 by_queue act = false
 
--- each packet that was offered was lost, refused by a full queue, dropped by the queue, or began to be sent, or it waits: one of these
+-- each packet that was offered was lost, dropped by the queue as it came or at a take, or began to be sent, or it waits: one of these
 pub record IsConserved (acts : List Act) (port : PortState) : Type 0 where
   pub offered : port.offered ≡ count_by is_lost_act acts + count_by is_refused acts + count_by by_queue acts + count_by is_sent acts + length (waiting_in port.queue)
   pub sent : port.sent ≡ count_by is_sent acts

@@ -36,7 +36,7 @@ pub fn idle_links_are_empty()
 {}
 
 /// At each position of every run the packets that were offered to a link are those that the lines so far tell to be lost,
-/// refused by a full queue, dropped by the queue (RFC 8289) or sent, and those that wait: each is counted once.
+/// dropped by the queue as they came or at a take (RFC 8289), or sent, and those that wait: each is counted once.
 pub fn packets_are_conserved()
     ensures { PacketsAreConserved }
 {}

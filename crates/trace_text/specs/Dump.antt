@@ -1,5 +1,5 @@
 -- The dump of a net: its position, its nodes, its links and the events that are pending.
-use Rattle.std.specs.Prelude.{ℕ, ◌==◌, Bool, if◌then◌else◌, List, [], ◌∷◌, ◌++◌, filter, codes, decimal, Option, None, Some}
+use Rattle.std.specs.Prelude.{ℕ, ◌==◌, Bool, if◌then◌else◌, List, [], ◌∷◌, ◌++◌, map as map_list, filter, codes, decimal, Option, None, Some}
 use Rattle.std.specs.List.{flat_map, join_by, enumerate_from, range_with_len}
 use Rattle.std.specs.FinMap as map
 use Rattle.packet_chain.specs.declared.packet.Kind.{Kind}
@@ -9,10 +9,10 @@ use Rattle.reno_sender.specs.declared.fields.SenderFields.{SenderFields}
 use Rattle.reno_sender.specs.declared.fields.Timing.{Timing}
 use Rattle.reno_receiver.specs.Received.{next_of, held_of}
 use Rattle.sim_time.specs.declared.key.Key.{Key}
-use Rattle.aqm.specs.Codel.{CodelState}
 use Rattle.aqm.specs.Queue.{waiting_in}
 use Rattle.aqm.specs.declared.queue.Queue.{Queue}
-use Rattle.aqm.specs.declared.queue.Queue.TheVariants.{Codel}
+use Rattle.aqm.specs.declared.readout.Readout.{Readout}
+use Rattle.aqm.specs.Readouts.{readout_word, readouts_of, read_of}
 use Rattle.node_core.specs.declared.event.Event.{Event}
 use Rattle.node_core.specs.declared.role.Role.{Role}
 use Rattle.node_core.specs.declared.role.Role.TheVariants.{Sends, Receives, Routes}
@@ -79,15 +79,12 @@ waiting_text cell =
     decimal cell.0.flow ++ codes ":" ++ kind_letter cell.0.kind ++ codes ":" ++ decimal cell.0.number
     ++ codes "@" ++ decimal cell.1
 
--- what CoDel keeps beside the packets
-abbrev pub codel_words : CodelState → List (List ℕ)
-codel_words q =
-    (codes "first=" ++ or_dash q.first_above) ∷ (codes "next=" ++ decimal q.drop_next) ∷ (codes "count=" ++ decimal q.count)
-    ∷ (codes "last=" ++ decimal q.lastcount) ∷ (codes "drop=" ++ flag q.dropping) ∷ []
+-- a number that a queue keeps beside the packets, with its name; a dash where there is none
+abbrev pub readout_text : Queue → Readout → List ℕ
+readout_text q readout = readout_word readout ++ codes "=" ++ or_dash (read_of q readout)
 
 abbrev pub control_words : Queue → List (List ℕ)
-control_words (Codel q) = codel_words q
-control_words _ = []
+control_words q = map_list (readout_text q) (readouts_of q)
 
 -- a link's line: what was offered to it, what it has sent, and its queue from the head
 abbrev pub link_line : LinkState → List ℕ

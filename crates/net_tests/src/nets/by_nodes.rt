@@ -2,15 +2,17 @@
 //! refused in turn (dev/refuse_tests.sh) it passes as well: what is refused is asked for again.
 ghost use Rattle.std.specs.Prelude.{◌≡◌, ◌≢◌, ◌<◌, ◌≤◌, ◌^◌, ℕ, [], All, IfOk, length, replicate, Some};
 ghost use Rattle.sim_time.specs.declared.key.Key.{Key};
+ghost use Rattle.sim_time.specs.declared.limits.TheConstants.{MOST_EVENTS};
 ghost use Rattle.tournament.specs.Keyed.{least, next_key};
 ghost use Rattle.node_core.specs.declared.event.Event.{Event};
 ghost use Rattle.node_core.specs.Ready.{IsRunnable};
 
 use super::is_same;
 use super::two_flows::{LOST, SLOW, opened, run_next};
-use net_machine::net::{MOST_EVENTS, Net};
+use net_machine::Net;
 use net_machine::nodes::Nodes;
 use node_core::{Act, DropReason, Line, Node, Outbox, TakeDrop};
+use sim_time::MOST_EVENTS;
 use std::alloc::Global;
 use std::process::Abort;
 use tournament::Timetable;
@@ -58,7 +60,7 @@ fn fired(rt: &impl Abort, node: &mut Node, out: &mut Outbox) -> Line
     requires pending { next_key node.old.pending ≢ None }
     requires due { (k : Key) (v : Event) → least node.old.pending ≡ Some (k, v) → IsRunnable node.old.part k v }
     requires chains { length node.old.part.links ≤ length out.old }
-    requires room { All (λ chain. length chain < 1000000000000000) out.old }
+    requires room { All (λ chain. length chain < MOST_EVENTS) out.old }
 {
     let next = node.least();
     match node.fire(out) {

@@ -2,6 +2,7 @@
 ghost use Rattle.std.specs.Prelude.{◌≡◌, None, ◌+◌, ◌<◌, ◌≤◌, [], ◌∷◌, ◌++◌, map, length};
 ghost use Rattle.sim_time.specs.Moment.{IsMoment};
 ghost use Rattle.sim_time.specs.Serial.{serial};
+ghost use Rattle.sim_time.specs.declared.limits.TheConstants.{MOST_EVENTS};
 ghost use Rattle.port.specs.Port.{begun, dropped_for, taken, departed};
 ghost use Rattle.port.specs.Room.{drops_at};
 
@@ -16,8 +17,8 @@ impl Port {
     pub(super) fn take(&mut self, now: Time, acts: &mut Acts, out: &mut PacketChain)
         requires moment { IsMoment now }
         requires room { drops_at now self.old + 1 ≤ acts.old.room }
-        requires sent { self.old.sent < 1000000000000000 }
-        requires chain { length out.old < 1000000000000000 }
+        requires sent { self.old.sent < MOST_EVENTS }
+        requires chain { length out.old < MOST_EVENTS }
         ensures state { self.new ≡ (taken now self.old).port }
         ensures departed { out.new ≡ out.old ++ departed (taken now self.old).departure }
         ensures acts { acts.new.acts ≡ acts.old.acts ++ (taken now self.old).acts }
@@ -38,8 +39,8 @@ impl Port {
     fn take_dropping(&mut self, now: Time, acts: &mut Acts, out: &mut PacketChain)
         requires moment { IsMoment now }
         requires room { drops_at now self.old + 1 ≤ acts.old.room }
-        requires sent { self.old.sent < 1000000000000000 }
-        requires chain { length out.old < 1000000000000000 }
+        requires sent { self.old.sent < MOST_EVENTS }
+        requires chain { length out.old < MOST_EVENTS }
         ensures state { self.new ≡ (taken now self.old).port }
         ensures departed { out.new ≡ out.old ++ departed (taken now self.old).departure }
         ensures acts { acts.new.acts ≡ acts.old.acts ++ (taken now self.old).acts }
@@ -64,8 +65,8 @@ impl Port {
     )
         requires moment { IsMoment now }
         requires room { 1 ≤ acts.old.room }
-        requires sent { self.old.sent < 1000000000000000 }
-        requires chain { length out.old < 1000000000000000 }
+        requires sent { self.old.sent < MOST_EVENTS }
+        requires chain { length out.old < MOST_EVENTS }
         ensures state { self.new ≡ (begun now self.old given).port }
         ensures departed { out.new ≡ out.old ++ departed (begun now self.old given).departure }
         ensures acts { acts.new.acts ≡ acts.old.acts ++ (begun now self.old given).acts }

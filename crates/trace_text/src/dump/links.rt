@@ -7,12 +7,12 @@ ghost use Rattle.net_machine.specs.Nodes.{parts_of};
 ghost use Rattle.node_core.specs.Part.{LinkState};
 ghost use Rattle.trace_text.specs.Words.{spaced_words};
 ghost use Rattle.trace_text.specs.Chosen.{chosen_link};
-ghost use Rattle.trace_text.specs.Dump.{in_commas, waiting_text, codel_words, control_words, link_line, links_numbered, numbers_below, links_in_order};
+ghost use Rattle.trace_text.specs.Dump.{in_commas, or_dash, waiting_text, readout_text, control_words, link_line, links_numbered, numbers_below, links_in_order};
 ghost use Rattle.trace_text.specs.DumpParts.{has_waiting};
 
-use super::append::{append_number, put_field, put_flag, put_optional};
+use super::append::{append_number, put_field, put_optional};
 use crate::backward::{put_small, put_text};
-use aqm::{Codel, Queue};
+use aqm::{Queue, Readout};
 use itoa::Buffer;
 use node_core::Node;
 use node_core::link::Link;
@@ -204,21 +204,27 @@ fn append_entry<const N: usize>(
 fn append_control(queue: &Queue, out: &mut Vec<u8>) -> Result<(), AllocError>
     ensures { OnOk result (out.new.items ≡ out.old.items ++ spaced_words (control_words queue.now)) }
 {
-    match queue {
-        Queue::Codel(codel) => append_codel(codel, out),
-        _ => Ok(()),
+    let readouts = queue.readouts();
+    for readout in readouts {
+        append_readout(queue, *readout, out)?;
     }
+    Ok(())
 }
 
-/// Appends what CoDel keeps beside the packets.
-fn append_codel(codel: &Codel, out: &mut Vec<u8>) -> Result<(), AllocError>
-    ensures { OnOk result (out.new.items ≡ out.old.items ++ spaced_words (codel_words codel.now)) }
+/// Appends one number that a queue keeps, with its name, after a space.
+fn append_readout(queue: &Queue, readout: Readout, out: &mut Vec<u8>) -> Result<(), AllocError>
+    ensures { OnOk result (out.new.items ≡ out.old.items ++ (codes " " ++ readout_text queue.now readout)) }
 {
-    let mut bytes = [0; 128];
-    let at = put_flag(&mut bytes, 128, b" drop=", codel.dropping());
-    let at = put_field(&mut bytes, at, b" last=", u64::from(codel.lastcount()));
-    let at = put_field(&mut bytes, at, b" count=", u64::from(codel.count()));
-    let at = put_field(&mut bytes, at, b" next=", codel.drop_next());
-    let start = put_optional(&mut bytes, at, b" first=", codel.first_above());
+    out.extend_from_slice(b" ")?;
+    out.extend_from_slice(readout.word())?;
+    append_value(queue.read(readout), out)
+}
+
+/// Appends a number behind its name, a dash where there is none.
+fn append_value(value: Option<u64>, out: &mut Vec<u8>) -> Result<(), AllocError>
+    ensures { OnOk result (out.new.items ≡ out.old.items ++ (codes "=" ++ or_dash value)) }
+{
+    let mut bytes = [0; 21];
+    let start = put_optional(&mut bytes, 21, b"=", value);
     out.extend_from_slice(&bytes[start..])
 }

@@ -1,14 +1,14 @@
-use Rattle.std.proofs.Common.{false, ◌≡◌, ◌==◌, sym, ◌∙◌, Some, None, rules, tests}
+use Rattle.std.proofs.Common.{◌≡◌, ◌==◌, sym, ◌∙◌, Some, None, rules, tests}
 use Rattle.std.specs.List.{position}
 use Rattle.std.proofs.lemmas.Iterator.{YieldsList-from_slice}
 use Rattle.std.proofs.lemmas.Iterator.Search.{position_from_yields_List}
-use Rattle.sim_time.specs.declared.variant.Iw.TheVariants.{Iw3}
+use Rattle.sim_time.specs.declared.variant.TheConstants.{RENO}
 use Rattle.scenario_image.specs.declared.parts.FlowPart.{FlowPart}
 use Rattle.node_core.proofs.Numbered.{found_at}
 use Rattle.node_core.proofs.initial.flow_from.Goals as goal
 
 abbrev no_flow : FlowPart
-no_flow = record { sender = 0; receiver = 0; mss = 0; segments = 0; start = 0; rwnd = 0; delack = 0; variant = record { newreno = false; iw = Iw3 } }
+no_flow = record { sender = 0; receiver = 0; mss = 0; segments = 0; start = 0; rwnd = 0; delack = 0; variant = RENO }
 
 pub returns-in_err-number : goal.returns-in_err-number
 returns-in_err-number c =

@@ -1,6 +1,6 @@
-use Rattle.std.proofs.Common.{false, ◌≡◌, ℕ, List, ◌∷◌, [], ◌++◌, get_or, map, take, sym, ap, ◌∙◌, Option}
+use Rattle.std.proofs.Common.{◌≡◌, ℕ, List, ◌∷◌, [], ◌++◌, get_or, map, take, sym, ap, ◌∙◌, Option}
 use Rattle.std.proofs.lemmas.List.{map_more}
-use Rattle.sim_time.specs.declared.variant.Iw.TheVariants.{Iw3}
+use Rattle.sim_time.specs.declared.variant.TheConstants.{RENO}
 use Rattle.scenario_image.specs.declared.parts.FlowPart.{FlowPart}
 use Rattle.std.specs.Prelude.{◌==◌}
 use Rattle.std.specs.List.{position}
@@ -12,7 +12,7 @@ use Rattle.node_core.proofs.AtFirst.{exit_is}
 use Rattle.node_core.proofs.initial.initial_exits.Goals as goal
 
 abbrev no_flow : FlowPart
-no_flow = record { sender = 0; receiver = 0; mss = 0; segments = 0; start = 0; rwnd = 0; delack = 0; variant = record { newreno = false; iw = Iw3 } }
+no_flow = record { sender = 0; receiver = 0; mss = 0; segments = 0; start = 0; rwnd = 0; delack = 0; variant = RENO }
 
 -- the exit of an end of a flow, by the router's routes
 exit : (c : goal.In_ok-push) (destination : ℕ) (found : Option ℕ)

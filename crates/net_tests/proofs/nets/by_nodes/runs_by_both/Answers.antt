@@ -1,6 +1,7 @@
 use Rattle.std.proofs.Common.{◌≡◌, ◌<◌, ◌≤◌, List, [], length, replicate, refl, sym, ap, subst, ◌∙◌, Some, arith, rules}
 use Rattle.std.proofs.lemmas.List.{get_or_read}
 use Rattle.sim_time.specs.declared.key.Key.{Key}
+use Rattle.sim_time.specs.declared.limits.TheConstants.{MOST_EVENTS}
 use Rattle.packet_chain.specs.Stamped.{Stamped}
 use Rattle.tournament.specs.Leading.{Leads}
 use Rattle.tournament.specs.Timed.{AreInPlace}
@@ -49,7 +50,7 @@ fired-line-requires-clause-due g c = λ k v here.
     get_or_read c.into_parts-nodes.result.0.items place c.index_mut-node.result.now within c.index_mut-node.ensures.value no_node ∙ ap (λ (all : List NodeState). node_at all place) same in
     let there : least (node_at p.nodes.items place).pending ≡ Some (k, v) = ap (λ (n : NodeState). least n.pending) (sym is) ∙ here in
     let soon : c.in-Some.ensures.key.time < p.end = omega (arith, c.in-Some.ensures.at_time, c.if-time-parts.false) in
-    let fits : p.position < 1000000000000000 = omega (arith, c.into_parts-parts.ensures.parts.run.position_fits, c.if-parts-eq-MOST_EVENTS.false) in
+    let fits : p.position < MOST_EVENTS = omega (arith, c.into_parts-parts.ensures.parts.run.position_fits, c.if-parts-eq-MOST_EVENTS.false) in
     subst (λ (n : NodeState). IsRunnable n.part k v) (sym is)
     (ready p.nodes.items p.links.items empty p.end p.position net place first k v there
     (subst (λ (q : Key). q.time < p.end) (its_key p.nodes.items p.links.items empty p.end p.position net place first c.in-Some.ensures.key its k v there) soon) fits)
