@@ -11,30 +11,6 @@ const NEWRENO: Variant = Variant {
     ..RENO
 };
 
-/// Ten segments of 1,000 bytes in flight.
-const TEN_OUT: SenderFields = SenderFields {
-    mss: 1_000,
-    segments: 1_000,
-    rwnd: 64_000,
-    variant: RENO,
-    una: 0,
-    nxt: 10_000,
-    high: 10_000,
-    cwnd: 10_000,
-    ssthresh: 64_000,
-    dups: 0,
-    lt: 0,
-    recovery: false,
-    recover: None,
-    partial: false,
-    timing: None,
-    srtt: None,
-    rttvar: 0,
-    rto: 1_000_000_000,
-    deadline: Some(1_000_000_000),
-    resent: false,
-};
-
 /// Nothing in flight.
 const AT_REST: SenderFields = SenderFields {
     mss: 1_000,
@@ -57,6 +33,16 @@ const AT_REST: SenderFields = SenderFields {
     rto: 1_000_000_000,
     deadline: None,
     resent: false,
+};
+
+/// Ten segments of 1,000 bytes in flight.
+const TEN_OUT: SenderFields = SenderFields {
+    segments: 1_000,
+    nxt: 10_000,
+    high: 10_000,
+    cwnd: 10_000,
+    deadline: Some(1_000_000_000),
+    ..AT_REST
 };
 
 /// The same, after a third duplicate with NewReno.

@@ -1,5 +1,5 @@
 -- What a new acknowledgement that is not partial lets go.
-use Rattle.std.proofs.Common.{◌≡◌, ℕ, ◌+◌, ◌-◌, ◌*◌, ◌≤◌, true, false, cond, leb, max, Option, Some, None, refl, sym, ap, ◌∙◌, subst, arith}
+use Rattle.std.proofs.Common.{◌≡◌, ℕ, ◌+◌, ◌-◌, ◌*◌, ◌≤◌, false, max, Option, refl, sym, ap, ◌∙◌, subst, arith}
 use Rattle.std.proofs.lemmas.Bool.{lt-ltb}
 use Rattle.reno_sender.specs.declared.fields.SenderFields.{SenderFields}
 use Rattle.reno_sender.specs.declared.fields.Timing.{Timing}
@@ -10,11 +10,12 @@ use Rattle.reno_sender.specs.Laws.{IsAckFor}
 use Rattle.reno_sender.specs.Sending.{Planned, fill_count, spaced}
 use Rattle.reno_sender.specs.LossRecovery.{advanced, new_acknowledgement, window_after}
 use Rattle.reno_sender.specs.Table.{acknowledged}
-use Rattle.reno_sender.specs.Timer.{measured_by, restarted, with_estimate, sampled}
+use Rattle.reno_sender.specs.Timer.{measured_by, restarted}
 use Rattle.sim_time.specs.Moment.{IsMoment}
 use Rattle.reno_sender.proofs.Advances.{advanced_keeps, new_acknowledgement_keeps}
 use Rattle.reno_sender.proofs.Rows.{fill_in_total}
 use Rattle.reno_sender.proofs.Runs.{length-spaced}
+use Rattle.reno_sender.proofs.Samples.{by_sample}
 
 abbrev advanced_from : SenderFields → SenderFields → ℕ → ℕ → SenderFields
 advanced_from g f ack now = record g {
@@ -29,10 +30,8 @@ advanced_from g f ack now = record g {
 }
 
 -- a sample changes nothing of how much goes
-count_by : (timing : Option Timing) (f : SenderFields) (ack now : ℕ) → fill_count (advanced_from (measured_by timing f ack now) f ack now) ≡ let_go f ack
-count_by None f ack now = refl
-count_by (Some t) f ack now =
-    elim (leb t.number ack) as (λ b. fill_count (advanced_from (cond b (with_estimate f (sampled f.srtt f.rttvar (now - t.sent_at))) f) f ack now) ≡ let_go f ack) [ true ↦ refl | false ↦ refl ]
+count_by : (o : Option Timing) (f : SenderFields) (ack now : ℕ) → fill_count (advanced_from (measured_by o f ack now) f ack now) ≡ let_go f ack
+count_by o f ack now = by_sample (λ g. fill_count (advanced_from g f ack now) ≡ let_go f ack) o f ack now refl (λ r. refl)
 
 pub count_is : (f : SenderFields) (ack now : ℕ) → fill_count (advanced f ack now) ≡ let_go f ack
 count_is f ack now = count_by f.timing f ack now

@@ -4,8 +4,8 @@ use Rattle.std.specs.Prelude.{IfSome, IsSome, IsSomeAnd, IsTrue, IsFalse, is_som
 use Rattle.std.proofs.lemmas.Bool.{leb-false, ltb-true, eqb-true, eqb-false, and_parts, false≢true}
 use Rattle.reno_sender.specs.declared.fields.SenderFields.{SenderFields}
 use Rattle.reno_sender.specs.declared.fields.Timing.{Timing}
-use Rattle.reno_sender.specs.Fields.{IsSound, IsTimedWithin, total}
-use Rattle.reno_sender.specs.Timer.{Estimate, sampled, estimate_of, with_estimate, measured_by, restarted}
+use Rattle.reno_sender.specs.Fields.{IsSound, IsTimedWithin, total, is_newreno}
+use Rattle.reno_sender.specs.Timer.{Estimate, sampled, estimate_of, with_sample, measured_by, restarted}
 use Rattle.reno_sender.specs.declared.congestion_control.Progress.TheVariants.{PartialData}
 use Rattle.reno_sender.specs.CongestionControl.{window_at}
 use Rattle.reno_sender.specs.LossRecovery.{window_after, advanced, new_acknowledgement, may_send_new, is_below, is_partial, partly, partial_acknowledgement}
@@ -69,8 +69,8 @@ not_measured f ack now s t = record {
   rto_most = s.rto_most;
 }
 
-with_estimate_is : (f : SenderFields) (e : Estimate) (ack now : ℕ) → IsEstimate e → IsMeasured f (with_estimate f e) ack now
-with_estimate_is f e ack now i = record {
+with_sample_is : (f : SenderFields) (r ack now : ℕ) → IsEstimate (sampled f.srtt f.rttvar r) → IsMeasured f (with_sample f r) ack now
+with_sample_is f r ack now i = record {
   mss_same = refl;
   segments_same = refl;
   rwnd_same = refl;
@@ -90,8 +90,8 @@ with_estimate_is f e ack now i = record {
 }
 
 measured_split : (b : Bool) (f : SenderFields) (t : Timing) (ack now : ℕ) → IsSound f → IsMoment now → f.timing ≡ Some t → (b ≡ false → ack < t.number) →
-    IsMeasured f (cond b (with_estimate f (sampled f.srtt f.rttvar (now - t.sent_at))) f) ack now
-measured_split true f t ack now s m e l = with_estimate_is f _ ack now (sampled_is f.srtt f.rttvar (now - t.sent_at) s.srtt_most s.rttvar_most (omega arith))
+    IsMeasured f (cond b (with_sample f (now - t.sent_at)) f) ack now
+measured_split true f t ack now s m e l = with_sample_is f (now - t.sent_at) ack now (sampled_is f.srtt f.rttvar (now - t.sent_at) s.srtt_most s.rttvar_most (omega arith))
 measured_split false f t ack now s m e l =
     let was : IsTimedWithin f.una f.high t = subst (λ (o : Option Timing). IfSome o (IsTimedWithin f.una f.high)) e s.timed in
     let still : IsTimedWithin ack f.high t = record { above = l refl; most = was.most; sent_most = was.sent_most } in
@@ -211,9 +211,9 @@ partly_deadline old d now rto l m c =
     elim c [ inl e ↦ inr (inl e) | inr e ↦ inr (inr (record { after = rto; after_least = l; after_most = m; is_then = e })) ]
 
 -- a partial acknowledgement comes in recovery, with all sent once only
-is_partial_facts : (f : SenderFields) (ack : ℕ) → IsSound f → is_partial f ack ≡ true → IsTrue f.variant.newreno × (IsTrue f.recovery × (IsSomeAnd f.recover (λ r. ack < r) × (f.nxt ≡ f.high)))
+is_partial_facts : (f : SenderFields) (ack : ℕ) → IsSound f → is_partial f ack ≡ true → IsTrue (is_newreno f) × (IsTrue f.recovery × (IsSomeAnd f.recover (λ r. ack < r) × (f.nxt ≡ f.high)))
 is_partial_facts f ack s e =
-    let outer : (f.variant.newreno ≡ true) × ((f.recovery && is_below ack f.recover) ≡ true) = and_parts _ _ e in
+    let outer : (is_newreno f ≡ true) × ((f.recovery && is_below ack f.recover) ≡ true) = and_parts _ _ e in
     let inner : (f.recovery ≡ true) × (is_below ack f.recover ≡ true) = and_parts _ _ outer.1 in
     (outer.0, (inner.0, (below_some ack f.recover inner.1, (s.newreno_recovery outer.0 inner.0).1)))
 
@@ -228,10 +228,10 @@ partly_from : (f g : SenderFields) (ack now : ℕ) → IsSound f → IsMoment no
       partial = true;
     }) [] now
 partly_from f g ack now s moment a new part m =
-    let facts : IsTrue f.variant.newreno × (IsTrue f.recovery × (IsSomeAnd f.recover (λ r. ack < r) × (f.nxt ≡ f.high))) = is_partial_facts f ack s part in
-    let newreno : IsTrue f.variant.newreno = facts.0 in
+    let facts : IsTrue (is_newreno f) × (IsTrue f.recovery × (IsSomeAnd f.recover (λ r. ack < r) × (f.nxt ≡ f.high))) = is_partial_facts f ack s part in
+    let newreno : IsTrue (is_newreno f) = facts.0 in
     let on : IsTrue f.recovery = facts.1.0 in
-    let not_reno : IsFalse g.variant.newreno → ⊥ = λ reno. false≢true (sym (rw m.variant_same at reno) ∙ newreno) in
+    let not_reno : IsFalse (is_newreno g) → ⊥ = λ reno. false≢true (sym (rw m.variant_same at reno) ∙ newreno) in
     let all_sent : f.nxt ≡ f.high = facts.1.1.1 in
     let out : ack < f.nxt = omega (arith, recover_above f.recover ack f.high facts.1.1.0 s.recover_most) in
     let segment : f.una + f.mss ≤ ack = multiple_below f.mss f.una ack s.mss_least s.una_multiple a.multiple new in
@@ -284,7 +284,7 @@ partly_keeps f ack now s moment a new part =
 -- what is acknowledged in part leaves something to be sent again
 pub partly_out : (f : SenderFields) (ack now : ℕ) → IsSound f → is_partial f ack ≡ true → (partly f ack now).una < (partly f ack now).nxt
 partly_out f ack now s part =
-    let facts : IsTrue f.variant.newreno × (IsTrue f.recovery × (IsSomeAnd f.recover (λ r. ack < r) × (f.nxt ≡ f.high))) = is_partial_facts f ack s part in
+    let facts : IsTrue (is_newreno f) × (IsTrue f.recovery × (IsSomeAnd f.recover (λ r. ack < r) × (f.nxt ≡ f.high))) = is_partial_facts f ack s part in
     omega (arith, recover_above f.recover ack f.high facts.1.1.0 s.recover_most, facts.1.1.1)
 
 partial_split : (b : Bool) (f h : SenderFields) (now : ℕ) → RowKeeps f h [] now → IsMoment now → h.una < h.nxt → h.lt ≤ h.nxt - h.una →

@@ -1,6 +1,8 @@
 pub mod Multiples
 pub mod Runs
+pub mod Samples
 pub mod Sends
+pub mod RenoGrowth
 pub mod CongestionControl
 pub mod Rows
 pub mod Advances

@@ -5,7 +5,7 @@ use Rattle.std.specs.List.{list_any}
 use Rattle.std.proofs.lemmas.Bool.{ltb-true, ltb-false, eqb-false, or_parts, or_left, or_right, and_parts, lt-ltb, le-ltb, lt-leb, le-leb, cases_lt, false≢true}
 use Rattle.reno_sender.specs.declared.fields.SenderFields.{SenderFields}
 use Rattle.reno_sender.specs.declared.fields.Timing.{Timing}
-use Rattle.reno_sender.specs.Timer.{sampled, backed_off, measured_by, with_estimate}
+use Rattle.reno_sender.specs.Timer.{backed_off, measured_by}
 use Rattle.reno_sender.specs.Sending.{Planned, sending, timing_of, spaced, fill_count}
 use Rattle.reno_sender.specs.declared.congestion_control.Lowered.{Lowered}
 use Rattle.reno_sender.specs.declared.congestion_control.Progress.TheVariants.{FurtherDuplicate}
@@ -13,7 +13,10 @@ use Rattle.reno_sender.specs.declared.congestion_control.Loss.TheVariants.{ByDup
 use Rattle.reno_sender.specs.CongestionControl.{window_at, lowered_at}
 use Rattle.reno_sender.specs.LossRecovery.{new_acknowledgement, nothing_sent, further_duplicate, enters, recover_at_loss, fast_retransmit, repeated_duplicate, early_duplicate, is_partial, is_below, partly, partial_acknowledgement, may_send_new, advanced, inflated, one_more}
 use Rattle.reno_sender.specs.Table.{started, acknowledged, timed_out}
+use Rattle.reno_sender.specs.Fields.{is_newreno}
 use Rattle.reno_sender.specs.Laws.{ThresholdAtRecovery, ThresholdAtTimeout, ThresholdAtFurtherTimeout, ThresholdStays, NeverTimesResent, StartNeverTimesResent, AcknowledgementNeverTimesResent, TimeoutNeverTimesResent, TimeoutDoublesRto, RtoStaysUntilSample, LastsUntilRecover, RecoveryLasts}
+use Rattle.reno_sender.proofs.CongestionControl.{loss_leaves_two, first_timeout_leaves_two, further_timeout_leaves}
+use Rattle.reno_sender.proofs.Samples.{by_sample}
 
 three_at_least : (dups : ℕ) → eqb dups 2 ≡ false → ltb dups 2 ≡ false → 3 ≤ dups
 three_at_least dups not_two not_few =
@@ -56,16 +59,13 @@ either_row P false p q x y = y
 
 -- a sample changes the estimates alone
 measured_high : (o : Option Timing) (f : SenderFields) (ack now : ℕ) → (measured_by o f ack now).high ≡ f.high
-measured_high None f ack now = refl
-measured_high (Some t) f ack now = elim (leb t.number ack) as (λ b. (cond b (with_estimate f (sampled f.srtt f.rttvar (now - t.sent_at))) f).high ≡ f.high) [ true ↦ refl | false ↦ refl ]
+measured_high o f ack now = by_sample (λ g. g.high ≡ f.high) o f ack now refl (λ r. refl)
 
 measured_mss : (o : Option Timing) (f : SenderFields) (ack now : ℕ) → (measured_by o f ack now).mss ≡ f.mss
-measured_mss None f ack now = refl
-measured_mss (Some t) f ack now = elim (leb t.number ack) as (λ b. (cond b (with_estimate f (sampled f.srtt f.rttvar (now - t.sent_at))) f).mss ≡ f.mss) [ true ↦ refl | false ↦ refl ]
+measured_mss o f ack now = by_sample (λ g. g.mss ≡ f.mss) o f ack now refl (λ r. refl)
 
 measured_ssthresh : (o : Option Timing) (f : SenderFields) (ack now : ℕ) → (measured_by o f ack now).ssthresh ≡ f.ssthresh
-measured_ssthresh None f ack now = refl
-measured_ssthresh (Some t) f ack now = elim (leb t.number ack) as (λ b. (cond b (with_estimate f (sampled f.srtt f.rttvar (now - t.sent_at))) f).ssthresh ≡ f.ssthresh) [ true ↦ refl | false ↦ refl ]
+measured_ssthresh o f ack now = by_sample (λ g. g.ssthresh ≡ f.ssthresh) o f ack now refl (λ r. refl)
 
 measured_rto : (o : Option Timing) (f : SenderFields) (ack now : ℕ) → IfSome o (λ t. ack < t.number) → (measured_by o f ack now).rto ≡ f.rto
 measured_rto None f ack now l = refl
@@ -83,17 +83,17 @@ threshold_at_recovery f ack now =
     by_rows (λ p. f.recovery ≡ false → p.fields.recovery ≡ true → 2 * f.mss ≤ p.fields.ssthresh) f ack now
     (λ _ _ no yes. absurd (false≢true yes)) (λ _ part no yes. absurd (false≢true (sym no ∙ partial_recovers f ack part)))
     (λ no yes. absurd (false≢true (sym no ∙ yes))) (λ was no yes. absurd (false≢true (sym no ∙ was)))
-    (λ _ _ _ no yes. omega arith) (λ _ _ no yes. absurd (false≢true (sym no ∙ yes)))
+    (λ _ _ _ no yes. loss_leaves_two f) (λ _ _ no yes. absurd (false≢true (sym no ∙ yes)))
     (λ _ _. either_row (λ p. f.recovery ≡ false → p.fields.recovery ≡ true → 2 * f.mss ≤ p.fields.ssthresh) _ _ _ (λ no yes. absurd (false≢true (sym no ∙ yes))) (λ no yes. absurd (false≢true (sym no ∙ yes))))
     (λ _ _ no yes. absurd (false≢true (sym no ∙ yes)))
 
 pub threshold_at_timeout : ThresholdAtTimeout
 unfolding timed_out
-threshold_at_timeout f now first = rw first (omega arith)
+threshold_at_timeout f now first = first_timeout_leaves_two f first
 
 pub threshold_at_further_timeout : ThresholdAtFurtherTimeout
 unfolding timed_out
-threshold_at_further_timeout f now again = rw again refl
+threshold_at_further_timeout f now again = further_timeout_leaves f again
 
 pub threshold_stays : ThresholdStays
 threshold_stays f ack now =
@@ -204,8 +204,7 @@ rto_stays_until_sample f ack now none_ends =
 
 -- recovery with NewReno
 measured_recovery : (o : Option Timing) (f : SenderFields) (ack now : ℕ) → (measured_by o f ack now).recovery ≡ f.recovery
-measured_recovery None f ack now = refl
-measured_recovery (Some t) f ack now = elim (leb t.number ack) as (λ b. (cond b (with_estimate f (sampled f.srtt f.rttvar (now - t.sent_at))) f).recovery ≡ f.recovery) [ true ↦ refl | false ↦ refl ]
+measured_recovery o f ack now = by_sample (λ g. g.recovery ≡ f.recovery) o f ack now refl (λ r. refl)
 
 partial_lasts : (f : SenderFields) (recover ack now : ℕ) → IsTrue f.recovery → ack < recover → LastsUntilRecover (partial_acknowledgement f ack now) recover ack
 partial_lasts f recover ack now on below =
@@ -218,7 +217,7 @@ partial_lasts f recover ack now on below =
 new_ends_recovery : (f : SenderFields) (recover ack now : ℕ) → recover ≤ ack → LastsUntilRecover (new_acknowledgement f ack now) recover ack
 new_ends_recovery f recover ack now past = record { lasts = (λ on. absurd (false≢true on), λ below. absurd (omega arith)); again = λ below. absurd (omega arith) }
 
-not_below : (f : SenderFields) (recover ack : ℕ) → IsTrue f.variant.newreno → IsTrue f.recovery → f.recover ≡ Some recover → is_partial f ack ≡ ltb ack recover
+not_below : (f : SenderFields) (recover ack : ℕ) → IsTrue (is_newreno f) → IsTrue f.recovery → f.recover ≡ Some recover → is_partial f ack ≡ ltb ack recover
 not_below f recover ack newreno on is = rw (newreno, on, is) refl
 
 new_row : (f : SenderFields) (ack now : ℕ) → f.una < ack → acknowledged f ack now ≡ cond (is_partial f ack) (partial_acknowledgement f ack now) (new_acknowledgement f ack now)

@@ -6,7 +6,7 @@ use Rattle.std.proofs.lemmas.Bool.{le-ltb, lt-ltb, ltb-true, leb-true, lt-leb, c
 use Rattle.std.proofs.Math.Nat.{zero-mul, one-mul, mul-mod_left}
 use Rattle.reno_sender.specs.declared.fields.SenderFields.{SenderFields}
 use Rattle.reno_sender.specs.declared.fields.Timing.{Timing}
-use Rattle.reno_sender.specs.Fields.{IsSound, IsTimedWithin, IsMultiple, total, flight_size}
+use Rattle.reno_sender.specs.Fields.{IsSound, IsTimedWithin, IsMultiple, total, flight_size, is_newreno}
 use Rattle.reno_sender.specs.Timer.{backed_off}
 use Rattle.reno_sender.specs.Sending.{Planned, spaced, sending, timing_of, timing_after, filling, fill_count, allowed_end}
 use Rattle.reno_sender.specs.declared.congestion_control.Lowered.{Lowered}
@@ -43,12 +43,12 @@ quiet_keeps f h now s m g w v u i t d = record {
 -- what a sender keeps of losses
 record IsOfLosses (f : SenderFields) (dups : ℕ) (recovery : Bool) (recover : Option ℕ) (partial : Bool) : Type 0 where
   recovery_dups : IsTrue recovery → 3 ≤ dups
-  reno_recovery : IsFalse f.variant.newreno → 3 ≤ dups → IsTrue recovery
-  reno_recover : IsFalse f.variant.newreno → recover ≡ None
-  reno_partial : IsFalse f.variant.newreno → IsFalse partial
+  reno_recovery : IsFalse (is_newreno f) → 3 ≤ dups → IsTrue recovery
+  reno_recover : IsFalse (is_newreno f) → recover ≡ None
+  reno_partial : IsFalse (is_newreno f) → IsFalse partial
   recover_most : IfSome recover (λ r. r ≤ f.high)
-  newreno_nxt : IsTrue f.variant.newreno → (f.nxt ≡ f.high) ⊎ (recover ≡ Some f.high)
-  newreno_recovery : IsTrue f.variant.newreno → IsTrue recovery → IsSomeAnd recover (λ r. f.una < r) × (f.nxt ≡ f.high)
+  newreno_nxt : IsTrue (is_newreno f) → (f.nxt ≡ f.high) ⊎ (recover ≡ Some f.high)
+  newreno_recovery : IsTrue (is_newreno f) → IsTrue recovery → IsSomeAnd recover (λ r. f.una < r) × (f.nxt ≡ f.high)
 
 same_losses : (f : SenderFields) → IsSound f → IsOfLosses f f.dups f.recovery f.recover f.partial
 same_losses f s = record {
@@ -152,16 +152,16 @@ deadline_again (Some u) t e = refl
 
 -- nxt stays, or it goes back at the end of recovery, with recover as high
 abbrev WentBack : SenderFields → ℕ → Type 0
-WentBack h nxt = (nxt ≡ h.nxt) ⊎ (IsFalse h.recovery × (IsTrue h.variant.newreno → h.recover ≡ Some h.high))
+WentBack h nxt = (nxt ≡ h.nxt) ⊎ (IsFalse h.recovery × (IsTrue (is_newreno h) → h.recover ≡ Some h.high))
 
-back_nxt : (h : SenderFields) (nxt : ℕ) → IsSound h → WentBack h nxt → IsTrue h.variant.newreno → (nxt ≡ h.high) ⊎ (h.recover ≡ Some h.high)
+back_nxt : (h : SenderFields) (nxt : ℕ) → IsSound h → WentBack h nxt → IsTrue (is_newreno h) → (nxt ≡ h.high) ⊎ (h.recover ≡ Some h.high)
 back_nxt h nxt s went e =
     elim went [
       | inl stays ↦ elim (s.newreno_nxt e) [ inl all ↦ inl (stays ∙ all) | inr is ↦ inr is ]
       | inr ended ↦ inr (ended.1 e)
     ]
 
-back_recovery : (h : SenderFields) (nxt : ℕ) → IsSound h → WentBack h nxt → IsTrue h.variant.newreno → IsTrue h.recovery → IsSomeAnd h.recover (λ r. h.una < r) × (nxt ≡ h.high)
+back_recovery : (h : SenderFields) (nxt : ℕ) → IsSound h → WentBack h nxt → IsTrue (is_newreno h) → IsTrue h.recovery → IsSomeAnd h.recover (λ r. h.una < r) × (nxt ≡ h.high)
 back_recovery h nxt s went e on =
     elim went [
       | inl stays ↦ (let was : IsSomeAnd h.recover (λ r. h.una < r) × (h.nxt ≡ h.high) = s.newreno_recovery e on in (was.0, stays ∙ was.1))
@@ -289,7 +289,7 @@ again_and_next_well_made h now s moment in_total in_window =
     record { sound = one.sound; resends_una = refl; run_ends = one.run_ends; few = one.few }
 
 -- a duplicate outside recovery is counted
-counted_losses : (f : SenderFields) (dups : ℕ) → IsSound f → IsFalse f.recovery → (IsFalse f.variant.newreno → dups < 3) → IsOfLosses f dups f.recovery f.recover f.partial
+counted_losses : (f : SenderFields) (dups : ℕ) → IsSound f → IsFalse f.recovery → (IsFalse (is_newreno f) → dups < 3) → IsOfLosses f dups f.recovery f.recover f.partial
 counted_losses f dups s e few = record {
   recovery_dups = λ on. absurd (false≢true (sym e ∙ on));
   reno_recovery = λ reno many. absurd (omega (arith, few reno));
@@ -301,7 +301,7 @@ counted_losses f dups s e few = record {
 }
 
 -- a row that changes only dups
-counted_keeps : (f : SenderFields) (dups now : ℕ) → IsSound f → IsFalse f.recovery → (IsFalse f.variant.newreno → dups < 3) → RowKeeps f (record f { dups = dups }) [] now
+counted_keeps : (f : SenderFields) (dups now : ℕ) → IsSound f → IsFalse f.recovery → (IsFalse (is_newreno f) → dups < 3) → RowKeeps f (record f { dups = dups }) [] now
 counted_keeps f dups now s e few =
     let h : SenderFields = record f { dups = dups } in
     let sound_h : IsSound h = windows_sound f f.cwnd f.ssthresh dups f.lt f.rto f.recovery f.resent f.timing f.deadline f.recover f.partial s
@@ -318,7 +318,7 @@ pub early_counted_keeps : (f : SenderFields) (now : ℕ) → IsSound f → IsFal
 early_counted_keeps f now s e few = counted_keeps f (one_more f.dups) now s e (λ _. one_more_few f.dups few)
 
 -- outside recovery Reno has counted two duplicates at most
-newreno_only : (f : SenderFields) → IsSound f → IsFalse f.recovery → 3 ≤ f.dups → IsFalse f.variant.newreno → ⊥
+newreno_only : (f : SenderFields) → IsSound f → IsFalse f.recovery → 3 ≤ f.dups → IsFalse (is_newreno f) → ⊥
 newreno_only f s e many reno = false≢true (sym e ∙ s.reno_recovery reno many)
 
 pub repeated_duplicate_keeps : (f : SenderFields) (now : ℕ) → IsSound f → IsFalse f.recovery → 3 ≤ f.dups → RowKeeps f (repeated_duplicate f).fields (repeated_duplicate f).sent now
@@ -350,7 +350,7 @@ early_duplicate_keeps f now s moment e d =
     early_split (may_send_new f (f.una + min (f.cwnd + 2 * f.mss) f.rwnd)) f now s k moment (λ t. new_ends f (f.una + min (f.cwnd + 2 * f.mss) f.rwnd) s t) (early_duplicate f now) refl
 
 -- a loss is found with all sent once only
-enters_all_sent : (f : SenderFields) → IsSound f → enters f ≡ true → IsTrue f.variant.newreno → f.nxt ≡ f.high
+enters_all_sent : (f : SenderFields) → IsSound f → enters f ≡ true → IsTrue (is_newreno f) → f.nxt ≡ f.high
 enters_all_sent f s e newreno =
     let past : is_past f.recover f.una ≡ true = rw newreno at e in
     elim (s.newreno_nxt newreno) [
@@ -368,7 +368,7 @@ entered_losses f s out e = record {
   reno_recovery = λ _ _. refl;
   reno_recover = λ reno. rw reno (s.reno_recover reno);
   reno_partial = λ _. refl;
-  recover_most = loss_most f.variant.newreno f s;
+  recover_most = loss_most (is_newreno f) f s;
   newreno_nxt = λ newreno. inl (enters_all_sent f s e newreno);
   newreno_recovery = λ newreno _. (rw newreno (omega (arith, s.nxt_high)), enters_all_sent f s e newreno);
 }
@@ -385,7 +385,7 @@ fast_retransmit_keeps f now s moment out e =
     resend_keeps f h f.nxt now (quiet_keeps f h now sound_h refl refl refl refl (omega arith) (omega arith) (inl refl) (inr (inl refl))) out (omega arith) s.nxt_multiple s.lt_flight (inl refl)
 
 -- a third duplicate that tells of no loss is NewReno's alone
-not_entered_newreno : (f : SenderFields) → enters f ≡ false → IsFalse f.variant.newreno → ⊥
+not_entered_newreno : (f : SenderFields) → enters f ≡ false → IsFalse (is_newreno f) → ⊥
 not_entered_newreno f e reno = false≢true (sym (rw reno at e))
 
 pub unentered_keeps : (f : SenderFields) (now : ℕ) → IsSound f → f.recovery ≡ false → enters f ≡ false → RowKeeps f (record f { dups = 3 }) [] now
@@ -442,7 +442,7 @@ timed_out_losses f s = record {
   reno_recovery = λ _ many. absurd (omega arith);
   reno_recover = λ reno. rw reno (s.reno_recover reno);
   reno_partial = s.reno_partial;
-  recover_most = loss_most f.variant.newreno f s;
+  recover_most = loss_most (is_newreno f) f s;
   newreno_nxt = λ newreno. inr (rw newreno refl);
   newreno_recovery = λ _ on. absurd (false≢true on);
 }

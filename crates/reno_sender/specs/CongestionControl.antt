@@ -1,29 +1,25 @@
 -- Congestion control: what cwnd and ssthresh become (RFC 5681 sections 3.1 and 3.2, and with NewReno RFC 6582 section 3.2). One equation a row, from the fields and from what loss recovery says. What counts as a loss, and what is sent, is in LossRecovery.
-use Rattle.std.specs.Prelude.{◌+◌, ◌-◌, ◌*◌, ◌/◌, ℕ, min, max, nat_lt, if◌then◌else◌}
+use Rattle.std.specs.Prelude.{◌+◌, ◌-◌, ◌*◌, ◌/◌, ℕ, max, if◌then◌else◌}
 use Rattle.reno_sender.specs.declared.fields.SenderFields.{SenderFields}
-use Rattle.reno_sender.specs.declared.congestion_control.TheConstants.{MOST_CWND}
 use Rattle.reno_sender.specs.declared.congestion_control.Progress.{Progress}
 use Rattle.reno_sender.specs.declared.congestion_control.Progress.TheVariants.{NewData, FurtherDuplicate, PartialData, RecoveryEnd}
 use Rattle.reno_sender.specs.declared.congestion_control.Loss.{Loss}
 use Rattle.reno_sender.specs.declared.congestion_control.Loss.TheVariants.{ByDuplicates, ByTimer}
 use Rattle.reno_sender.specs.declared.congestion_control.Lowered.{Lowered}
 use Rattle.reno_sender.specs.Fields.{flight_size}
-
--- additions to cwnd stop at 2^40
-abbrev pub enlarged : ℕ → ℕ → ℕ
-enlarged cwnd bytes = min (cwnd + bytes) MOST_CWND
+use Rattle.reno_sender.specs.RenoGrowth.{enlarged, grown_by_reno}
 
 -- half of what is in flight, at least two segments (RFC 5681 section 3.1, equation 4)
 abbrev pub halved : ℕ → ℕ → ℕ
 halved flight mss = max (flight / 2) (2 * mss)
 
 -- cwnd where no loss is found, in four rows; ssthresh stays
--- new data is acknowledged outside recovery: slow start below ssthresh (RFC 5681 section 3.1, equation 2), else congestion avoidance (equation 3)
+-- new data is acknowledged outside recovery: cwnd grows (RFC 5681 section 3.1)
 -- a further duplicate in recovery: one segment has left the network (RFC 5681 section 3.2 step 4)
 -- data is acknowledged in part: cwnd falls by it and rises by one segment, to one segment at least (RFC 6582 section 3.2 step 3)
 -- recovery ends (RFC 5681 section 3.2 step 6)
 abbrev pub window_at : SenderFields → Progress → ℕ
-window_at f (NewData bytes) = if nat_lt f.cwnd f.ssthresh then enlarged f.cwnd (min bytes f.mss) else enlarged f.cwnd (max (f.mss * f.mss / f.cwnd) 1)
+window_at f (NewData bytes) = grown_by_reno f bytes
 window_at f FurtherDuplicate = enlarged f.cwnd f.mss
 window_at f (PartialData bytes) = max (f.cwnd + f.mss - bytes) f.mss
 window_at f RecoveryEnd = f.ssthresh

@@ -1,6 +1,7 @@
 pub mod Fields
 pub mod Timer
 pub mod Sending
+pub mod RenoGrowth
 pub mod CongestionControl
 pub mod LossRecovery
 pub mod Table

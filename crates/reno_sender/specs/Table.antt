@@ -5,7 +5,7 @@ use Rattle.reno_sender.specs.Sending.{Planned, filling}
 use Rattle.reno_sender.specs.LossRecovery.{third_duplicate, timeout}
 use Rattle.sim_time.specs.InitialWindow.{initial_window_of}
 use Rattle.sim_time.specs.declared.settings.SenderSettings.{SenderSettings}
-pub use Rattle.reno_sender.specs.Timer.{measured_by, with_estimate}
+pub use Rattle.reno_sender.specs.Timer.{measured_by, with_sample}
 pub use Rattle.reno_sender.specs.LossRecovery.{nothing_sent, one_more, early_duplicate, enters, fast_retransmit, repeated_duplicate, inflated, further_duplicate, advanced, new_acknowledgement, is_below, is_partial, partly, partial_acknowledgement}
 
 -- at first: nothing sent, the initial window, no round trip measured (RFC 5681 section 3.1, RFC 6298 section 2.1)

@@ -26,14 +26,14 @@ sampled (Some srtt) rttvar r = estimate_of ((7 * srtt + r) / 8) ((3 * rttvar + a
 abbrev pub backed_off : ℕ → ℕ
 backed_off rto = min (2 * rto) 60000000000
 
--- a sample replaces the estimates and ends the timing; a backed-off rto stays until then
-abbrev pub with_estimate : SenderFields → Estimate → SenderFields
-with_estimate f e = record f { timing = None; srtt = Some e.srtt; rttvar = e.rttvar; rto = e.rto }
+-- all that a sample does: it replaces the estimates and ends the timing; a backed-off rto stays until then
+abbrev pub with_sample : SenderFields → ℕ → SenderFields
+with_sample f r = let e = sampled f.srtt f.rttvar r in record f { timing = None; srtt = Some e.srtt; rttvar = e.rttvar; rto = e.rto }
 
 -- an acknowledgement at or past the timed number gives a sample (sections 2 and 3)
 abbrev pub measured_by : Option Timing → SenderFields → ℕ → ℕ → SenderFields
 measured_by None f ack now = f
-measured_by (Some t) f ack now = if nat_le t.number ack then with_estimate f (sampled f.srtt f.rttvar (now - t.sent_at)) else f
+measured_by (Some t) f ack now = if nat_le t.number ack then with_sample f (now - t.sent_at) else f
 
 -- the timer after a new acknowledgement: off where all is acknowledged, else from now on (sections 5.2 and 5.3)
 abbrev pub restarted : ℕ → ℕ → ℕ → Option ℕ

@@ -1,9 +1,12 @@
 //! Congestion control: what the congestion window and the slow start threshold become (RFC 5681 sections 3.1 and 3.2,
-//! with NewReno RFC 6582 section 3.2). Loss recovery asks it at each of its rows. A further control is a module beside
-//! this one with `window_at` and `lowered_at` of its own.
+//! with NewReno RFC 6582 section 3.2). Loss recovery asks it at each of its rows. Each way to grow is a module below this
+//! one, and `window_at` alone chooses among them.
 ghost use Rattle.std.specs.Prelude.{◌≡◌, ◌≤◌, ◌^◌};
 ghost use Rattle.reno_sender.specs.Fields.{IsSound};
-ghost use Rattle.reno_sender.specs.CongestionControl.{enlarged, halved, lowered_at, window_at};
+ghost use Rattle.reno_sender.specs.RenoGrowth.{enlarged};
+ghost use Rattle.reno_sender.specs.CongestionControl.{halved, lowered_at, window_at};
+
+mod reno;
 
 use crate::fields::SenderFields;
 
@@ -63,13 +66,7 @@ pub(crate) fn window_at(fields: &SenderFields, progress: Progress) -> u64
     ensures { result ≡ window_at fields.now progress }
 {
     match progress {
-        Progress::NewData(bytes) => {
-            if fields.cwnd < fields.ssthresh {
-                enlarged(fields.cwnd, bytes.min(fields.mss))
-            } else {
-                enlarged(fields.cwnd, (fields.mss * fields.mss / fields.cwnd).max(1))
-            }
-        }
+        Progress::NewData(bytes) => reno::grown(fields, bytes),
         Progress::FurtherDuplicate => enlarged(fields.cwnd, fields.mss),
         Progress::PartialData(bytes) => {
             (fields.cwnd + fields.mss)
