@@ -4,9 +4,9 @@ import struct
 
 from tcpsim_model.scenario import (MOST_FLOWS, MOST_LINKS, MOST_LOSSES, MOST_NODES, MOST_ROUTES, Flow, Link, Refused,
                                    Scenario, fault_of_whole, in_range)
+from tcpsim_model.variants import ALL_BITS, byte_of, of_byte
 
 MAGIC = {1: b'TCB1', 2: b'TCB2'}
-NEWRENO, IW10 = 1, 2                    # of a flow's variant, added
 HEADER = struct.Struct('>4sQHHHI')      # magic, end, numbers of nodes, links, flows, routes
 LINK = struct.Struct('>HHQQBHQQHB')     # from, to, rate, delay, queue, capacity, target, interval,
 #                                         maxpacket, number of `lose` entries, which follow
@@ -91,7 +91,7 @@ def flow_is_right(flow, nodes, end):
     sender, receiver, mss, segments, start, rwnd, delack, *variant = flow
     return (sender < nodes and receiver < nodes and in_range('mss', mss) and in_range('segments', segments)
             and start < end and in_range('rwnd', rwnd) and rwnd >= mss and in_range('delack', delack)
-            and all(bits <= NEWRENO + IW10 for bits in variant))
+            and all(bits <= ALL_BITS for bits in variant))
 
 
 def numbers_are_right(header, kinds, links, flows, routes):
@@ -106,8 +106,7 @@ def numbers_are_right(header, kinds, links, flows, routes):
 
 def flow_of(record):
     """The flow of a record whose numbers are right; one without a variant is `reno iw3`."""
-    variant = record[7] if len(record) > 7 else 0
-    return Flow(*record[:7], bool(variant & NEWRENO), bool(variant & IW10))
+    return Flow(*record[:7], *of_byte(record[7] if len(record) > 7 else 0))
 
 
 def load(data):
@@ -140,7 +139,6 @@ def save(s, version=2):
         out += [LOSE.pack(number) for number in k.lose]
     for f in s.flows:
         record = f.sender, f.receiver, f.mss, f.segments, f.start, f.rwnd, f.delack
-        variant = NEWRENO * f.newreno + IW10 * f.iw10
-        out.append(FLOW[version].pack(*record, *(variant,) * (version == 2)))
+        out.append(FLOW[version].pack(*record, *(byte_of(f),) * (version == 2)))
     out += [ROUTE.pack(*route) for route in s.routes]
     return b''.join(out)

@@ -2,6 +2,7 @@
 from collections import deque
 
 from tcpsim_model.scenario import MOST_ROUTER_LINKS, RECEIVER, ROUTER, SENDER, Flow, Link, Scenario
+from tcpsim_model.variants import drawn
 
 
 SERIAL = 1_040_000      # ns that 1,040 bytes take at 8 Mbit/s: waits in a queue are often whole such times
@@ -33,13 +34,13 @@ class Net:
         """A link each way."""
         return self.link(a, b, rate, delay, queue), self.link(b, a, rate, delay, queue)
 
-    def flow(self, at, to, up, down, mss, segments, start=0, rwnd=2**30, delack=0, newreno=False, iw10=False):
+    def flow(self, at, to, up, down, mss, segments, start=0, rwnd=2**30, delack=0, *variant):
         """A sender on a cable to router `at` and a receiver on a cable to router `to`; `up` and `down`
         are (rate, delay, queue) of the two cables."""
         sender, receiver = self.node(SENDER), self.node(RECEIVER)
         self.cable(sender, at, *up)
         self.cable(receiver, to, *down)
-        self.flows.append(Flow(sender, receiver, mss, segments, start, rwnd, delack, newreno, iw10))
+        self.flows.append(Flow(sender, receiver, mss, segments, start, rwnd, delack, *variant))
         return len(self.flows) - 1
 
     def next_links(self, goal):
@@ -105,18 +106,13 @@ def random_cable(pick, kinds, equal):
 
 
 def random_flow(pick, equal, most_segments):
-    """mss, segments, start, rwnd, delack, newreno, iw10"""
+    """mss, segments, start, rwnd, delack, and the variant"""
     mss = pick.choice((1000, 960)) if equal else any_size(pick, 1, 9000)
     segments = any_size(pick, 1, most_segments)
     start = pick.choice((0, 0, 10**6)) if equal else pick.choice((0, any_size(pick, 1, 10**10)))
     rwnd = min(mss * any_size(pick, 1, 200) + pick.choice((0, 0, pick.randint(0, mss))), 2**30)
     delack = pick.choice((0, 0, 1, 40_000, 10**6, 2 * 10**8, 5 * 10**8))
-    return mss, segments, start, rwnd, delack, *random_variant(pick)
-
-
-def random_variant(pick):
-    """newreno, iw10"""
-    return pick.random() < 0.6, pick.random() < 0.4
+    return mss, segments, start, rwnd, delack, *drawn(pick)
 
 
 def random_lose(pick, segments):
@@ -164,7 +160,7 @@ def slow_queue(pick):
         cable = 8 * 10**pick.choice((6, 7)), pick.choice((1, 2, 5)) * SERIAL, droptail(1000)
         start = pick.randint(0, 40) * SERIAL * pick.choice((1, 1, 20))
         net.flow(*routers, cable, cable, 1000, pick.choice((3, 10, 30, 100)), start, pick.choice((8, 20, 200)) * 1000,
-                 pick.choice((0, 0, SERIAL)), *random_variant(pick))
+                 pick.choice((0, 0, SERIAL)), *drawn(pick))
     return net.scenario(10**15)
 
 

@@ -6,6 +6,7 @@ from tcpsim_model.queues import Own, Packet, queue_of
 from tcpsim_model.receiver import Receiver
 from tcpsim_model.scenario import ROUTER, SENDER
 from tcpsim_model.sender import Sender
+from tcpsim_model.variants import of_flow
 
 START, RTO, DELACK, FIRST_FREE = 0, 1, 2, 3     # a node's alarms; port p is free: FIRST_FREE + p
 HEADER_BYTES = 40
@@ -59,7 +60,7 @@ class Network:
         self.touched = set()                        # the links over which the last event sent, or where it dropped
         self.dropped = []                           # what the last event dropped: reason, link and packet of each
         for number, flow in enumerate(self.flows):
-            self.ends[flow.sender] = Sender(flow.mss, flow.segments, flow.rwnd, flow.newreno, flow.iw10)
+            self.ends[flow.sender] = Sender(flow.mss, flow.segments, flow.rwnd, **of_flow(flow))
             self.ends[flow.receiver] = Receiver(flow.mss, flow.delack)
             self.flow_at[flow.sender] = self.flow_at[flow.receiver] = number
             self.set_alarm(flow.sender, START, flow.start)

@@ -2,6 +2,7 @@
 from copy import deepcopy
 
 from tcpsim_model.scenario import ROUTER
+from tcpsim_model.variants import FIELDS
 
 
 def kept(records, dropped):
@@ -49,10 +50,8 @@ def smaller(s):
             yield changed(s, 'flows', number, start=0)
         if flow.delack:
             yield changed(s, 'flows', number, delack=0)
-        if flow.iw10:
-            yield changed(s, 'flows', number, iw10=False)
-        if flow.newreno:
-            yield changed(s, 'flows', number, newreno=False)
+        for field in (it for it in reversed(FIELDS) if getattr(flow, it)):
+            yield changed(s, 'flows', number, **{field: False})
     for number, link in enumerate(s.links):
         if link.lose:
             yield changed(s, 'links', number, lose=[])

@@ -5,6 +5,7 @@ from tcpsim_model import image
 from tcpsim_model.scenario import (MOST_FLOWS, MOST_LINKS, MOST_LOSSES, MOST_NODES, MOST_ROUTER_LINKS, MOST_ROUTES,
                                    RANGES, ROUTER, Flow, Link, Scenario)
 from tcpsim_model.text import disassemble, lines_of, words_of
+from tcpsim_model.variants import FIELDS, TCPS, WINDOWS
 
 # The words of each statement after the first: what is asked in each place.
 PLACES = {
@@ -16,7 +17,7 @@ PLACES = {
     b'lose': ('link', 'lose'),
 }
 # Words at a flow's end, right and wrong.
-VARIANT_WORDS = (b'reno', b'newreno', b'iw3', b'iw10', b'Reno', b'ren', b'new', b'renonew', b'iw5', b'iw1', b'iw100', b'IW10',
+VARIANT_WORDS = (*TCPS, *WINDOWS, b'Reno', b'ren', b'new', b'renonew', b'iw5', b'iw1', b'iw100', b'IW10',
                  b'iw03', b'10', b'0')
 # One flow with all that it may have.
 SMALL = b'''sim 5000000
@@ -336,7 +337,7 @@ def images_at_limits(version):
         yield saved(flows=flows * count)
     for count in (0, 1, MOST_ROUTER_LINKS, MOST_ROUTER_LINKS + 1):
         yield saved((0, 1, ROUTER), links + [link(2, 0)] * count)
-    for variant in itertools.product((False, True), repeat=2):
+    for variant in itertools.product((False, True), repeat=len(FIELDS)):
         yield saved(flows=[Flow(0, 1, 1, 1, 0, 1, 0, *variant)])
     every = [(router, end, 0) for router, end in itertools.product(range(MOST_NODES), range(MOST_NODES))]
     for routes in (every, [*every, (255, 255, 0)], [*every, (256, 0, 0)], every[:2][::-1], every[:1] * 2):

@@ -3,13 +3,13 @@ import re
 
 from tcpsim_model.scenario import (KIND_NAMES, MOST_FLOWS, MOST_LINKS, MOST_LOSSES, MOST_NODES, MOST_ROUTER_LINKS,
                                    RECEIVER, ROUTER, SENDER, Flow, Link, Refused, Scenario, fault_of_whole, in_range)
+from tcpsim_model.variants import TCPS, WINDOWS, of_words, words_of as variant_words
 
 NOT_PRINTABLE = re.compile(rb'[^ -~]')
 NUMBER = re.compile(rb'0|[1-9][0-9]*')
 NAME = re.compile(rb'[a-z][a-z0-9]{0,14}')
 DIGITS_ENOUGH = 20          # a number of more digits is out of every range
 NODE, LINK, FLOW = 'node', 'link', 'flow'
-SENDERS, WINDOWS = (b'reno', b'newreno'), (b'iw3', b'iw10')      # a flow's last two words: both or neither
 
 
 class Fault(Exception):
@@ -124,9 +124,9 @@ class Book:
         refuse_if(rwnd < mss, 'E5')
         flow = Flow(sender, receiver, mss, segments, start, rwnd, number_in('delack', words[8]))
         if len(words) > 9:
-            refuse_if(words[9] not in SENDERS, 'E4')
+            refuse_if(words[9] not in TCPS, 'E4')
             refuse_if(words[10] not in WINDOWS, 'E4')
-            flow.newreno, flow.iw10 = words[9] == b'newreno', words[10] == b'iw10'
+            vars(flow).update(of_words(*words[9:]))
         self.declare(name, FLOW, flow, self.flows, MOST_FLOWS)
 
     def read_route(self, words):
@@ -187,7 +187,7 @@ def disassemble(s):
         out.append(f'link l{n} n{k.source} n{k.to} {k.rate} {k.delay} {queue}')
     for n, f in enumerate(s.flows):
         out.append(f'flow f{n} n{f.sender} n{f.receiver} {f.mss} {f.segments} {f.start} {f.rwnd} {f.delack}'
-                   f' {SENDERS[f.newreno].decode()} {WINDOWS[f.iw10].decode()}')
+                   f' {variant_words(f).decode()}')
     out += [f'route n{router} n{destination} l{link}' for router, destination, link in s.routes]
     out += [f'lose l{n} {offered}' for n, k in enumerate(s.links) for offered in k.lose]
     return ''.join(line + '\n' for line in out).encode()

@@ -108,9 +108,11 @@ class Terminal:
     def clear(self):
         """Ctrl-C at the prompt, up to the next one. Python sees it while it waits for a key alone: it comes again where a key
         that was typed just before was read meanwhile, and prompts of it may stand before the next answers."""
-        self.type('\x03')
-        while self.child.expect_exact([PROMPT, pexpect.TIMEOUT], timeout=1):
+        for _ in range(PATIENCE):
             self.type('\x03')
+            if self.child.expect_exact([PROMPT, pexpect.TIMEOUT], timeout=1) == 0:
+                return
+        raise AssertionError('Ctrl-C at the prompt shows no other one')
 
     def complete(self, line):
         """What a line is after Tab, which completes it."""

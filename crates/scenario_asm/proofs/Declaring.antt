@@ -8,7 +8,8 @@ use Rattle.std.specs.Str.{bytes_eq}
 use Rattle.std.proofs.lemmas.Bool.{cases_Bool}
 use Rattle.std.proofs.lemmas.Bool.Decides.{nat_tests}
 use Rattle.std.proofs.lemmas.Slice.Eq.{bytes_eq-Decides}
-use Rattle.scenario_image.specs.declared.limits.TheConstants.{LATEST_END, MOST_NODES, MOST_LINKS, MOST_FLOWS, MOST_LOSE}
+use Rattle.sim_time.specs.declared.limits.TheConstants.{LATEST_END}
+use Rattle.scenario_image.specs.declared.limits.TheConstants.{MOST_NODES, MOST_LINKS, MOST_FLOWS, MOST_LOSE}
 use Rattle.scenario_image.specs.declared.parts.NodeKind.TheVariants.{Router}
 use Rattle.scenario_asm.specs.declared.fault.Fault.{Fault}
 use Rattle.scenario_asm.specs.declared.fault.Fault.TheVariants.{E1, E2, E3}

@@ -21,6 +21,7 @@ pub mod OneAnswer
 pub mod Declaring
 pub mod Decimals
 pub mod SpeltLines
+pub mod TcpWords
 pub mod Numbered
 pub mod SaidAgain
 pub mod CanonicalMeaning

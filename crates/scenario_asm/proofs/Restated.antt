@@ -7,6 +7,7 @@ use Rattle.std.proofs.lemmas.Bool.Decides.{nat_tests}
 use Rattle.std.proofs.lemmas.List.{append-nil, map-append, length-set}
 use Rattle.std.proofs.lemmas.List.Concat.{flat_map-append}
 use Rattle.std.proofs.lemmas.List.Elements.{All-head, All-tail}
+use Rattle.sim_time.specs.declared.limits.TheConstants.{LATEST_END}
 use Rattle.scenario_image.specs.Range.{IsBetween}
 use Rattle.scenario_image.specs.LinkLimits.{IsLinkInLimits}
 use Rattle.scenario_image.specs.FlowLimits.{IsFlowInLimits}
@@ -114,7 +115,7 @@ none_stand =
     }
 
 -- the end
-pub sim_stands : (end : ℕ) → IsBetween 1 1000000000000000 end → Stands (end ∷ []) (Sim end ∷ []) [] [] [] []
+pub sim_stands : (end : ℕ) → IsBetween 1 LATEST_END end → Stands (end ∷ []) (Sim end ∷ []) [] [] [] []
 sim_stands end limits =
     push [] (end ∷ []) [] [] [] [] [] [] [] [] [] (Sim end) none_stand (sim_spelt end limits.1) (sim_says (known_of []) end limits.0 limits.1) refl (λ link past. refl)
     (subst (λ known. IsNumbered known [] [] [] []) (sim_known [] end) none_stand.known)
@@ -149,7 +150,7 @@ link_stands ends statements kinds links flows routes link was limits few less ap
     (subst P (link_known statements name (line_of_link link) free was.lost) (link_numbered (known_of statements) kinds links flows routes (bare link) was.known (omega arith)))
 
 -- one more flow
-pub flow_stands : (ends : List ℕ) (statements : List Statement) (kinds : List NodeKind) (links : List LinkPart) (flows : List FlowPart) (routes : List RoutePart) (end : ℕ) (flow : FlowPart) → Stands ends statements kinds links flows routes → IsFlowInLimits (length kinds) end flow → end ≤ 1000000000000000 → length kinds ≤ 256 → length flows < 128 → slice_get kinds flow.sender ≡ Some Sender → slice_get kinds flow.receiver ≡ Some Receiver → Stands ends (statements ++ Flow (flow_label (length flows)) flow ∷ []) kinds links (flows ++ flow ∷ []) routes
+pub flow_stands : (ends : List ℕ) (statements : List Statement) (kinds : List NodeKind) (links : List LinkPart) (flows : List FlowPart) (routes : List RoutePart) (end : ℕ) (flow : FlowPart) → Stands ends statements kinds links flows routes → IsFlowInLimits (length kinds) end flow → end ≤ LATEST_END → length kinds ≤ 256 → length flows < 128 → slice_get kinds flow.sender ≡ Some Sender → slice_get kinds flow.receiver ≡ Some Receiver → Stands ends (statements ++ Flow (flow_label (length flows)) flow ∷ []) kinds links (flows ++ flow ∷ []) routes
 flow_stands ends statements kinds links flows routes end flow was limits soon few less sender receiver =
     let name = flow_label (length flows) in
     let s : Statement = Flow name flow in

@@ -4,7 +4,8 @@ use Rattle.std.proofs.lemmas.Bool.{cases_Bool}
 use Rattle.std.proofs.lemmas.Bool.Decides.{nat_tests}
 use Rattle.std.specs.Option.{option_or, ForSome}
 use Rattle.std.specs.List.{slice_get, list_all}
-use Rattle.scenario_image.specs.declared.limits.TheConstants.{LATEST_END, MOST_NODES, MOST_LINKS, MOST_FLOWS, MOST_LOSE}
+use Rattle.sim_time.specs.declared.limits.TheConstants.{LATEST_END}
+use Rattle.scenario_image.specs.declared.limits.TheConstants.{MOST_NODES, MOST_LINKS, MOST_FLOWS, MOST_LOSE}
 use Rattle.scenario_image.specs.declared.parts.NodeKind.{NodeKind}
 use Rattle.scenario_image.specs.declared.parts.NodeKind.TheVariants.{Sender, Receiver, Router}
 use Rattle.scenario_image.specs.declared.parts.LinkPart.{LinkPart}

@@ -6,7 +6,9 @@ use Rattle.std.proofs.lemmas.Bool.{and_from, or_from, ne_eqb, lt-leb, not_from_f
 use Rattle.sim_time.specs.declared.rate.TheConstants.{LEAST_RATE, GREATEST_RATE}
 use Rattle.sim_time.specs.declared.variant.Iw.{Iw}
 use Rattle.sim_time.specs.declared.variant.Iw.TheVariants.{Iw3, Iw10}
-use Rattle.scenario_image.specs.declared.limits.TheConstants.{LATEST_END, LONGEST_DELAY, GREATEST_MSS, MOST_SEGMENTS, GREATEST_RWND, LONGEST_DELACK, MOST_LOSE, MOST_NODES, MOST_LINKS, MOST_FLOWS}
+use Rattle.sim_time.specs.declared.variant.TheConstants.{RENO}
+use Rattle.sim_time.specs.declared.limits.TheConstants.{LATEST_END}
+use Rattle.scenario_image.specs.declared.limits.TheConstants.{LONGEST_DELAY, GREATEST_MSS, MOST_SEGMENTS, GREATEST_RWND, LONGEST_DELACK, MOST_LOSE, MOST_NODES, MOST_LINKS, MOST_FLOWS}
 use Rattle.sim_time.specs.QueueLimits.{IsCodelInLimits, IsQueueInLimits}
 use Rattle.scenario_image.specs.LinkLimits.{IsLinkInLimits}
 use Rattle.scenario_image.specs.FlowLimits.{IsFlowInLimits}
@@ -27,11 +29,13 @@ use Rattle.scenario_asm.specs.declared.statement.Statement.TheVariants.{Sim, Nod
 use Rattle.scenario_asm.specs.Lines.{Word}
 use Rattle.scenario_asm.specs.Numbers.{is_name, number, number_verdict}
 use Rattle.scenario_asm.specs.Names.{Known, number_of, kind_of_word, link_of_word, is_sender, is_receiver, is_router, is_end, is_from, is_routed, is_full_router, lost_of, lose_list, last_of, least_above, used_verdict, new_name_verdict, node_verdict, other_node_verdict, destination_verdict}
-use Rattle.scenario_asm.specs.Statements.{statement_at, newreno_named, iw_named, node_verdicts, link_verdicts, link_said, flow_verdicts, route_verdicts, lose_verdicts}
-use Rattle.scenario_asm.specs.Spelling.{node_label, link_label, flow_label, newreno_word, iw_word, spelling}
+use Rattle.scenario_asm.specs.Statements.{statement_at, iw_named, node_verdicts, link_verdicts, link_said, flow_verdicts, route_verdicts, lose_verdicts}
+use Rattle.scenario_asm.specs.Spelling.{node_label, link_label, flow_label, iw_word, spelling}
+use Rattle.scenario_asm.specs.TcpWords.{tcp_named, tcp_word}
 use Rattle.scenario_asm.specs.CanonicalText.{line_of_link}
 use Rattle.scenario_asm.specs.Verdicts.{Verdict, first_fault, faulty_if, faulty_unless}
 use Rattle.scenario_asm.proofs.Right.{AreNone}
+use Rattle.scenario_asm.proofs.TcpWords.{tcp_again, tcp_none}
 use Rattle.scenario_asm.proofs.Verdicts.{judged_ok}
 use Rattle.scenario_asm.proofs.Decimals.{number_decimal, decimal_right, label_name}
 use Rattle.scenario_asm.proofs.Numbered.{IsNumbered, node_number, node_kind_is, link_number, link_is, is_there}
@@ -48,7 +52,7 @@ new_none : (known : Known) (word : Word) → is_name word ≡ true → known.ite
 new_none known word name free = rw (name, free) refl
 
 -- `sim`
-pub sim_says : (known : Known) (end : ℕ) → 1 ≤ end → end ≤ 1000000000000000 → statement_at known (spelling (Sim end)) ≡ Ok (Sim end)
+pub sim_says : (known : Known) (end : ℕ) → 1 ≤ end → end ≤ LATEST_END → statement_at known (spelling (Sim end)) ≡ Ok (Sim end)
 sim_says known end low high =
     let small : end < 2 ^ 64 = omega arith in
     let said : ℕ → Result Statement Fault = λ n. Ok (Sim n) in
@@ -175,21 +179,14 @@ link_says known kinds links flows routes link at limits few less apart room =
     queue_says known (link_label (length links)) link.from link.to link.rate link.delay link.capacity link.queue (line_fine known kinds links flows routes link at limits few less apart room) limits.queue_range
 
 -- `flow`
-newreno_again : (newreno : Bool) → newreno_named (newreno_word newreno) ≡ Some newreno
-newreno_again true = refl
-newreno_again false = refl
-
 iw_again : (iw : Iw) → iw_named (iw_word iw) ≡ Some iw
 iw_again Iw3 = refl
 iw_again Iw10 = refl
 
-newreno_none : (newreno : Bool) → faulty_unless (is_some (newreno_named (newreno_word newreno))) E4 ≡ None
-newreno_none newreno = ap (λ read. faulty_unless (is_some read) E4) (newreno_again newreno)
-
 iw_none : (iw : Iw) → faulty_unless (is_some (iw_named (iw_word iw))) E4 ≡ None
 iw_none iw = ap (λ read. faulty_unless (is_some read) E4) (iw_again iw)
 
-flow_verdicts_none : (known : Known) (kinds : List NodeKind) (links : List LinkPart) (flows : List FlowPart) (routes : List RoutePart) (end : ℕ) (flow : FlowPart) → IsNumbered known kinds links flows routes → IsFlowInLimits (length kinds) end flow → end ≤ 1000000000000000 → length kinds ≤ 256 → length flows < 128 → slice_get kinds flow.sender ≡ Some Sender → slice_get kinds flow.receiver ≡ Some Receiver → AreNone (flow_verdicts known (spelling (Flow (flow_label (length flows)) flow)))
+flow_verdicts_none : (known : Known) (kinds : List NodeKind) (links : List LinkPart) (flows : List FlowPart) (routes : List RoutePart) (end : ℕ) (flow : FlowPart) → IsNumbered known kinds links flows routes → IsFlowInLimits (length kinds) end flow → end ≤ LATEST_END → length kinds ≤ 256 → length flows < 128 → slice_get kinds flow.sender ≡ Some Sender → slice_get kinds flow.receiver ≡ Some Receiver → AreNone (flow_verdicts known (spelling (Flow (flow_label (length flows)) flow)))
 flow_verdicts_none known kinds links flows routes end flow at limits soon few less sender receiver = (
   new_none known (flow_label (length flows)) (label_name 102 (length flows) refl (omega arith)) (at.no_flow (length flows) (omega arith) (omega arith)),
   (
@@ -204,7 +201,7 @@ flow_verdicts_none known kinds links flows routes end flow at limits soon few le
             decimal_right 0 (LATEST_END - 1) flow.start (omega (arith, limits.start_range)) (omega arith) (omega (arith, limits.start_range)),
             (
               decimal_right (number (decimal flow.mss)) GREATEST_RWND flow.rwnd (omega (arith, limits.rwnd_range.1)) (omega (arith, limits.rwnd_range.0, number_decimal flow.mss (omega (arith, limits.mss_range.1)))) limits.rwnd_range.1,
-              (decimal_right 0 LONGEST_DELACK flow.delack (omega (arith, limits.delack_range)) (omega arith) limits.delack_range, (newreno_none flow.variant.newreno, (iw_none flow.variant.iw, tt))),
+              (decimal_right 0 LONGEST_DELACK flow.delack (omega (arith, limits.delack_range)) (omega arith) limits.delack_range, (tcp_none flow.variant, (iw_none flow.variant.iw, tt))),
             ),
           ),
         ),
@@ -213,7 +210,7 @@ flow_verdicts_none known kinds links flows routes end flow at limits soon few le
   ),
 )
 
-flow_same : (known : Known) (kinds : List NodeKind) (links : List LinkPart) (flows : List FlowPart) (routes : List RoutePart) (end : ℕ) (flow : FlowPart) → IsNumbered known kinds links flows routes → IsFlowInLimits (length kinds) end flow → end ≤ 1000000000000000 → ◌≡◌ {A = FlowPart} (record { sender = number_of known (node_label flow.sender); receiver = number_of known (node_label flow.receiver); mss = number (decimal flow.mss); segments = number (decimal flow.segments); start = number (decimal flow.start); rwnd = number (decimal flow.rwnd); delack = number (decimal flow.delack); variant = record { newreno = unwrap_or (newreno_named (newreno_word flow.variant.newreno)) false; iw = unwrap_or (iw_named (iw_word flow.variant.iw)) Iw3 } }) flow
+flow_same : (known : Known) (kinds : List NodeKind) (links : List LinkPart) (flows : List FlowPart) (routes : List RoutePart) (end : ℕ) (flow : FlowPart) → IsNumbered known kinds links flows routes → IsFlowInLimits (length kinds) end flow → end ≤ LATEST_END → ◌≡◌ {A = FlowPart} (record { sender = number_of known (node_label flow.sender); receiver = number_of known (node_label flow.receiver); mss = number (decimal flow.mss); segments = number (decimal flow.segments); start = number (decimal flow.start); rwnd = number (decimal flow.rwnd); delack = number (decimal flow.delack); variant = record (unwrap_or (tcp_named (tcp_word flow.variant)) RENO) { iw = unwrap_or (iw_named (iw_word flow.variant.iw)) Iw3 } }) flow
 flow_same known kinds links flows routes end flow at limits soon =
     let sender = node_number known kinds links flows routes at flow.sender limits.sender_node in
     let receiver = node_number known kinds links flows routes at flow.receiver limits.receiver_node in
@@ -222,9 +219,9 @@ flow_same known kinds links flows routes end flow at limits soon =
     let start = number_decimal flow.start (omega (arith, limits.start_range)) in
     let rwnd = number_decimal flow.rwnd (omega (arith, limits.rwnd_range.1)) in
     let delack = number_decimal flow.delack (omega (arith, limits.delack_range)) in
-    rw (sender, receiver, mss, segments, start, rwnd, delack, newreno_again flow.variant.newreno, iw_again flow.variant.iw) refl
+    rw (sender, receiver, mss, segments, start, rwnd, delack, tcp_again flow.variant, iw_again flow.variant.iw) refl
 
-pub flow_says : (known : Known) (kinds : List NodeKind) (links : List LinkPart) (flows : List FlowPart) (routes : List RoutePart) (end : ℕ) (flow : FlowPart) → IsNumbered known kinds links flows routes → IsFlowInLimits (length kinds) end flow → end ≤ 1000000000000000 → length kinds ≤ 256 → length flows < 128 → slice_get kinds flow.sender ≡ Some Sender → slice_get kinds flow.receiver ≡ Some Receiver → statement_at known (spelling (Flow (flow_label (length flows)) flow)) ≡ Ok (Flow (flow_label (length flows)) flow)
+pub flow_says : (known : Known) (kinds : List NodeKind) (links : List LinkPart) (flows : List FlowPart) (routes : List RoutePart) (end : ℕ) (flow : FlowPart) → IsNumbered known kinds links flows routes → IsFlowInLimits (length kinds) end flow → end ≤ LATEST_END → length kinds ≤ 256 → length flows < 128 → slice_get kinds flow.sender ≡ Some Sender → slice_get kinds flow.receiver ≡ Some Receiver → statement_at known (spelling (Flow (flow_label (length flows)) flow)) ≡ Ok (Flow (flow_label (length flows)) flow)
 flow_says known kinds links flows routes end flow at limits soon few less sender receiver =
     let words : List Word = spelling (Flow (flow_label (length flows)) flow) in
     let said : FlowPart → Result Statement Fault = λ part. Ok (Flow (flow_label (length flows)) part) in

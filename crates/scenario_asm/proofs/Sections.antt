@@ -7,6 +7,7 @@ use Rattle.std.proofs.lemmas.List.{append-nil, length_push, map-append, length-m
 use Rattle.std.proofs.lemmas.List.Sums.{sum_by-cons, sum_by-append}
 use Rattle.std.proofs.lemmas.List.Elements.{All-head, All-tail}
 use Rattle.std.proofs.lemmas.Option.{slice_get-get_or}
+use Rattle.sim_time.specs.declared.limits.TheConstants.{LATEST_END}
 use Rattle.scenario_image.specs.Range.{IsBetween}
 use Rattle.scenario_image.specs.LinkLimits.{IsLoseInLimits, IsLinkInLimits}
 use Rattle.scenario_image.specs.FlowLimits.{IsFlowInLimits}
@@ -86,7 +87,7 @@ pub record IsFlowFine (kinds : List NodeKind) (end : ℕ) (flow : FlowPart) : Ty
   pub receiver : slice_get kinds flow.receiver ≡ Some Receiver
 
 -- the flows
-pub flows_stand : (ends : List ℕ) (statements : List Statement) (kinds : List NodeKind) (links : List LinkPart) (before after : List FlowPart) (routes : List RoutePart) (end number : ℕ) → number ≡ length before → Stands ends statements kinds links before routes → end ≤ 1000000000000000 → length kinds ≤ 256 → length before + length after ≤ 128 → All (IsFlowFine kinds end) after → Stands ends (statements ++ flow_statements number after) kinds links (before ++ after) routes
+pub flows_stand : (ends : List ℕ) (statements : List Statement) (kinds : List NodeKind) (links : List LinkPart) (before after : List FlowPart) (routes : List RoutePart) (end number : ℕ) → number ≡ length before → Stands ends statements kinds links before routes → end ≤ LATEST_END → length kinds ≤ 256 → length before + length after ≤ 128 → All (IsFlowFine kinds end) after → Stands ends (statements ++ flow_statements number after) kinds links (before ++ after) routes
 flows_stand ends statements kinds links before [] routes end number is was soon few less fine = same_stands ends _ _ _ _ _ _ _ _ _ _ (sym (append-nil statements)) refl refl (sym (append-nil before)) refl was
 flows_stand ends statements kinds links before (flow ∷ after) routes end number is was soon few less fine =
     let Fine : FlowPart → Type 0 = λ f. IsFlowFine kinds end f in

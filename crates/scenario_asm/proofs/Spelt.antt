@@ -1,5 +1,5 @@
 -- Each spelt statement is a line of plain words.
-use Rattle.std.proofs.Common.{◌≡◌, ◌<◌, ◌≤◌, ◌^◌, ℕ, Bool, true, false, List, [], ◌∷◌, length, refl, arith}
+use Rattle.std.proofs.Common.{◌≡◌, ◌<◌, ◌≤◌, ◌^◌, ℕ, true, List, [], ◌∷◌, length, refl, arith}
 use Rattle.std.specs.Prelude.{codes, decimal}
 use Rattle.std.specs.List.{join_by}
 use Rattle.std.proofs.lemmas.Bool.{and_from}
@@ -13,6 +13,7 @@ use Rattle.scenario_image.specs.declared.parts.NodeKind.{NodeKind}
 use Rattle.scenario_image.specs.declared.parts.NodeKind.TheVariants.{Sender, Receiver, Router}
 use Rattle.sim_time.specs.declared.queue_kind.QueueKind.{QueueKind}
 use Rattle.sim_time.specs.declared.queue_kind.QueueKind.TheVariants.{DropTail, Codel}
+use Rattle.sim_time.specs.declared.limits.TheConstants.{LATEST_END}
 use Rattle.scenario_image.specs.declared.parts.LinkPart.{LinkPart}
 use Rattle.scenario_image.specs.declared.parts.FlowPart.{FlowPart}
 use Rattle.scenario_image.specs.declared.parts.RoutePart.{RoutePart}
@@ -23,10 +24,11 @@ use Rattle.scenario_asm.specs.Lines.{Word}
 use Rattle.scenario_asm.specs.Numbers.{is_letter_or_digit}
 use Rattle.scenario_asm.specs.Names.{Known}
 use Rattle.scenario_asm.specs.Statements.{statement_at, as_said, line_at}
-use Rattle.scenario_asm.specs.Spelling.{node_label, link_label, flow_label, kind_word, queue_words, newreno_word, iw_word, spelling, line_for}
+use Rattle.scenario_asm.specs.Spelling.{node_label, link_label, flow_label, kind_word, queue_words, iw_word, spelling, line_for}
 use Rattle.scenario_asm.specs.CanonicalText.{line_of_link}
 use Rattle.scenario_asm.proofs.Decimals.{decimal_fits}
 use Rattle.scenario_asm.proofs.SpeltLines.{IsPlain, ArePlain, is_free, joined_free, joined_says}
+use Rattle.scenario_asm.proofs.TcpWords.{plain_tcp}
 
 -- a statement that is spelt in plain words
 pub record IsSpelt (statement : Statement) : Type 0 where
@@ -44,10 +46,6 @@ plain_kind : (kind : NodeKind) → IsPlain (kind_word kind)
 plain_kind Sender = record { some = omega arith; fits = refl }
 plain_kind Receiver = record { some = omega arith; fits = refl }
 plain_kind Router = record { some = omega arith; fits = refl }
-
-plain_newreno : (newreno : Bool) → IsPlain (newreno_word newreno)
-plain_newreno true = record { some = omega arith; fits = refl }
-plain_newreno false = record { some = omega arith; fits = refl }
 
 plain_iw : (iw : Iw) → IsPlain (iw_word iw)
 plain_iw Iw3 = record { some = omega arith; fits = refl }
@@ -69,7 +67,7 @@ plain_queue capacity (Codel codel) few limits = (
   ),
 )
 
-pub sim_spelt : (end : ℕ) → end ≤ 1000000000000000 → IsSpelt (Sim end)
+pub sim_spelt : (end : ℕ) → end ≤ LATEST_END → IsSpelt (Sim end)
 sim_spelt end few = record { some = omega arith; plain = (record { some = omega arith; fits = refl }, (plain_decimal end (omega arith), tt)) }
 
 pub node_spelt : (n : ℕ) (kind : NodeKind) → n < 10000 → IsSpelt (Node (node_label n) kind)
@@ -97,7 +95,7 @@ link_spelt n node_count link few less limits =
       );
     }
 
-pub flow_spelt : (n node_count end : ℕ) (flow : FlowPart) → n < 10000 → node_count ≤ 256 → end ≤ 1000000000000000 → IsFlowInLimits node_count end flow → IsSpelt (Flow (flow_label n) flow)
+pub flow_spelt : (n node_count end : ℕ) (flow : FlowPart) → n < 10000 → node_count ≤ 256 → end ≤ LATEST_END → IsFlowInLimits node_count end flow → IsSpelt (Flow (flow_label n) flow)
 flow_spelt n node_count end flow few less soon limits =
     record {
       some = omega arith;
@@ -115,7 +113,7 @@ flow_spelt n node_count end flow few less soon limits =
                   plain_decimal flow.segments (omega (arith, limits.segments_range.1)),
                   (
                     plain_decimal flow.start (omega (arith, limits.start_range)),
-                    (plain_decimal flow.rwnd (omega (arith, limits.rwnd_range.1)), (plain_decimal flow.delack (omega (arith, limits.delack_range)), (plain_newreno flow.variant.newreno, (plain_iw flow.variant.iw, tt)))),
+                    (plain_decimal flow.rwnd (omega (arith, limits.rwnd_range.1)), (plain_decimal flow.delack (omega (arith, limits.delack_range)), (plain_tcp flow.variant, (plain_iw flow.variant.iw, tt)))),
                   ),
                 ),
               ),

@@ -7,7 +7,8 @@ use Rattle.std.proofs.lemmas.Grind.{common_steps}
 use Rattle.std.proofs.lemmas.Bool.Decides.{nat_tests}
 use Rattle.std.proofs.lemmas.Bool.{cases_lt}
 use Rattle.std.proofs.lemmas.List.{take_at}
-use Rattle.scenario_image.specs.declared.limits.TheConstants.{LATEST_END, MOST_LINKS, MOST_FLOWS}
+use Rattle.sim_time.specs.declared.limits.TheConstants.{LATEST_END}
+use Rattle.scenario_image.specs.declared.limits.TheConstants.{MOST_LINKS, MOST_FLOWS}
 use Rattle.scenario_asm.specs.declared.fault.Fault.TheVariants.{E2, E3}
 use Rattle.scenario_asm.specs.declared.statement.Statement.TheVariants.{Link, Flow}
 use Rattle.scenario_asm.specs.Lines.{Word, words_of, is_printable}

@@ -4,6 +4,7 @@ pub mod Lines
 pub mod Bounds
 pub mod Numbers
 pub mod Names
+pub mod TcpWords
 pub mod Statements
 pub mod Routes
 pub mod Text

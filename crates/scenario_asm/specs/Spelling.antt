@@ -1,5 +1,5 @@
 -- How statements are spelt in the canonical text.
-use Rattle.std.specs.Prelude.{ℕ, Bool, true, false, List, [], ◌∷◌, ◌++◌, codes, decimal, flat_map}
+use Rattle.std.specs.Prelude.{ℕ, List, [], ◌∷◌, ◌++◌, codes, decimal, flat_map}
 use Rattle.std.specs.List.{join_by}
 use Rattle.sim_time.specs.declared.variant.Iw.{Iw}
 use Rattle.sim_time.specs.declared.variant.Iw.TheVariants.{Iw3, Iw10}
@@ -10,6 +10,7 @@ use Rattle.sim_time.specs.declared.queue_kind.QueueKind.TheVariants.{DropTail, C
 use Rattle.scenario_asm.specs.declared.statement.Statement.{Statement}
 use Rattle.scenario_asm.specs.declared.statement.Statement.TheVariants.{Sim, Node, Link, Flow, Route, Lose}
 use Rattle.scenario_asm.specs.Lines.{Word}
+use Rattle.scenario_asm.specs.TcpWords.{tcp_word}
 
 -- the name of the node of a number: n0, n1, ..
 abbrev pub node_label : ℕ → Word
@@ -34,11 +35,6 @@ abbrev pub queue_words : ℕ → QueueKind → List Word
 queue_words capacity DropTail = codes "droptail" ∷ decimal capacity ∷ []
 queue_words capacity (Codel codel) = codes "codel" ∷ decimal capacity ∷ decimal codel.target ∷ decimal codel.interval ∷ decimal codel.maxpacket ∷ []
 
--- the word for which sender a flow has
-abbrev pub newreno_word : Bool → Word
-newreno_word false = codes "reno"
-newreno_word true = codes "newreno"
-
 -- the word for how large its initial window is
 abbrev pub iw_word : Iw → Word
 iw_word Iw3 = codes "iw3"
@@ -51,7 +47,7 @@ spelling (Node name kind) = codes "node" ∷ name ∷ kind_word kind ∷ []
 spelling (Link name link) = codes "link" ∷ name ∷ node_label link.from ∷ node_label link.to ∷ decimal link.rate ∷ decimal link.delay ∷ queue_words link.capacity link.queue
 spelling (Flow name flow) =
     codes "flow" ∷ name ∷ node_label flow.sender ∷ node_label flow.receiver ∷ decimal flow.mss ∷ decimal flow.segments ∷ decimal flow.start ∷ decimal flow.rwnd ∷ decimal flow.delack
-    ∷ newreno_word flow.variant.newreno ∷ iw_word flow.variant.iw ∷ []
+    ∷ tcp_word flow.variant ∷ iw_word flow.variant.iw ∷ []
 spelling (Route route) = codes "route" ∷ node_label route.router ∷ node_label route.destination ∷ link_label route.link ∷ []
 spelling (Lose lose) = codes "lose" ∷ link_label lose.link ∷ decimal lose.number ∷ []
 

@@ -1,9 +1,11 @@
 -- The statements: what a line says, or its first fault.
-use Rattle.std.specs.Prelude.{ℕ, ◌-◌, Bool, true, false, ◌||◌, ◌==◌, nat_le, List, [], ◌∷◌, ◌++◌, length, codes, Option, Some, None, Result, Ok, Err, if◌then◌else◌, unwrap_or, is_some}
+use Rattle.std.specs.Prelude.{ℕ, ◌-◌, Bool, false, ◌||◌, ◌==◌, nat_le, List, [], ◌∷◌, ◌++◌, length, codes, Option, Some, None, Result, Ok, Err, if◌then◌else◌, unwrap_or, is_some}
 use Rattle.std.specs.List.{slice_get, slice_index_or, list_all}
 use Rattle.std.specs.Str.{bytes_eq}
 use Rattle.sim_time.specs.declared.variant.Iw.{Iw}
 use Rattle.sim_time.specs.declared.variant.Iw.TheVariants.{Iw3, Iw10}
+use Rattle.sim_time.specs.declared.variant.Variant.{Variant}
+use Rattle.sim_time.specs.declared.variant.TheConstants.{RENO}
 use Rattle.scenario_asm.specs.Bounds.{LEAST_RATE, GREATEST_RATE, LATEST_END, LONGEST_DELAY, GREATEST_MSS, MOST_SEGMENTS, GREATEST_RWND, LONGEST_DELACK, MOST_LOSE, MOST_NODES, MOST_LINKS, MOST_FLOWS}
 use Rattle.scenario_image.specs.declared.parts.NodeKind.{NodeKind}
 use Rattle.scenario_image.specs.declared.parts.NodeKind.TheVariants.{Sender, Receiver, Router}
@@ -17,6 +19,7 @@ use Rattle.scenario_asm.specs.declared.statement.Statement.{Statement}
 use Rattle.scenario_asm.specs.declared.statement.Statement.TheVariants.{Sim, Node, Link, Flow, Route, Lose}
 use Rattle.scenario_asm.specs.Lines.{Word, words_of, is_printable}
 use Rattle.scenario_asm.specs.Numbers.{number, number_verdict}
+use Rattle.scenario_asm.specs.TcpWords.{tcp_named}
 use Rattle.scenario_asm.specs.Names.{Known, number_of, lost_of, last_of, least_above, is_full_router, new_name_verdict, node_verdict, other_node_verdict, sender_verdict, receiver_verdict, router_verdict, destination_verdict, link_verdict, outgoing_verdict}
 use Rattle.scenario_asm.specs.Verdicts.{Verdict, first_fault, faulty_unless, judged_line}
 
@@ -100,10 +103,6 @@ link_statement known words =
 abbrev pub has_flow_length : List Word → Bool
 has_flow_length words = length words == 9 || length words == 11
 
--- whether a word names NewReno
-abbrev pub newreno_named : Word → Option Bool
-newreno_named word = if bytes_eq word (codes "reno") then Some false else (if bytes_eq word (codes "newreno") then Some true else None)
-
 -- the initial window that a word names
 abbrev pub iw_named : Word → Option Iw
 iw_named word = if bytes_eq word (codes "iw3") then Some Iw3 else (if bytes_eq word (codes "iw10") then Some Iw10 else None)
@@ -114,21 +113,21 @@ named_or default named None = Some default
 named_or default named (Some word) = named word
 
 -- what the tenth word names; where it is left out, reno
-abbrev pub newreno_at : List Word → Option Bool
-newreno_at words = named_or false newreno_named (slice_get words 9)
+abbrev pub tcp_at : List Word → Option Variant
+tcp_at words = named_or RENO tcp_named (slice_get words 9)
 
 -- what the eleventh word names; where it is left out, the smaller initial window
 abbrev pub iw_at : List Word → Option Iw
 iw_at words = named_or Iw3 iw_named (slice_get words 10)
 
-abbrev pub newreno_verdict : List Word → Verdict
-newreno_verdict words = faulty_unless (is_some (newreno_at words)) E4
+abbrev pub tcp_verdict : List Word → Verdict
+tcp_verdict words = faulty_unless (is_some (tcp_at words)) E4
 
 abbrev pub iw_verdict : List Word → Verdict
 iw_verdict words = faulty_unless (is_some (iw_at words)) E4
 
-abbrev pub newreno_said : List Word → Bool
-newreno_said words = unwrap_or (newreno_at words) false
+abbrev pub tcp_said : List Word → Variant
+tcp_said words = unwrap_or (tcp_at words) RENO
 
 abbrev pub iw_said : List Word → Iw
 iw_said words = unwrap_or (iw_at words) Iw3
@@ -144,7 +143,7 @@ flow_verdicts known words =
     ∷ number_verdict 0 (LATEST_END - 1) (nth words 6)
     ∷ number_verdict (number (nth words 4)) GREATEST_RWND (nth words 7)
     ∷ number_verdict 0 LONGEST_DELACK (nth words 8)
-    ∷ newreno_verdict words
+    ∷ tcp_verdict words
     ∷ iw_verdict words
     ∷ []
 
@@ -158,10 +157,10 @@ flow_said known words = record {
   start = number (nth words 6);
   rwnd = number (nth words 7);
   delack = number (nth words 8);
-  variant = record { newreno = newreno_said words; iw = iw_said words };
+  variant = record (tcp_said words) { iw = iw_said words };
 }
 
--- `flow NAME SENDER RECEIVER MSS SEGMENTS START RWND DELACK`, and with both or neither of `reno` or `newreno` and `iw3` or `iw10` behind these
+-- `flow NAME SENDER RECEIVER MSS SEGMENTS START RWND DELACK`, and behind these with both or neither of a word of TcpWords, and `iw3` or `iw10`
 abbrev pub flow_at : Known → List Word → Result Statement Fault
 flow_at known words = judged_line (has_flow_length words) (flow_verdicts known words) (nat_le MOST_FLOWS (length known.flows)) (Flow (nth words 1) (flow_said known words))
 

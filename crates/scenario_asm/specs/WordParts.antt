@@ -10,7 +10,7 @@ use Rattle.scenario_asm.specs.Numbers.{number, number_verdict}
 use Rattle.scenario_asm.specs.Names.{Known, number_of, new_name_verdict, node_verdict, other_node_verdict, sender_verdict, receiver_verdict}
 use Rattle.scenario_asm.specs.Places.{first_faulty}
 use Rattle.scenario_asm.specs.Refusals.{fault_in, word_in}
-use Rattle.scenario_asm.specs.Statements.{nth, is_drop_tail, is_codel, newreno_verdict, newreno_said, iw_verdict, iw_said}
+use Rattle.scenario_asm.specs.Statements.{nth, is_drop_tail, is_codel, tcp_verdict, tcp_said, iw_verdict, iw_said}
 use Rattle.scenario_asm.specs.Verdicts.{Verdict, first_fault, faulty_unless}
 
 -- words from a place on are read: as a value where no verdict on them is a fault, and else they are refused for the first, at its word
@@ -40,10 +40,10 @@ flow_numbers_said words = record { mss = number (nth words 4); segments = number
 
 -- which sender it has
 abbrev pub variant_verdicts : List Word → List Verdict
-variant_verdicts words = newreno_verdict words ∷ iw_verdict words ∷ []
+variant_verdicts words = tcp_verdict words ∷ iw_verdict words ∷ []
 
 abbrev pub variant_said : List Word → Variant
-variant_said words = record { newreno = newreno_said words; iw = iw_said words }
+variant_said words = record (tcp_said words) { iw = iw_said words }
 
 -- the name and the ends of a link
 abbrev pub link_end_verdicts : Known → List Word → List Verdict

@@ -15,6 +15,7 @@ pub mod place;
 mod spelling;
 mod statement;
 mod table;
+mod tcp_words;
 
 pub use assembler::assemble;
 pub use disassembler::disassemble;

@@ -2,8 +2,10 @@
 ghost use Rattle.std.specs.Prelude.{◌≡◌, ◌++◌, ◌∷◌, [], codes, decimal, flat_map, OnOk};
 ghost use Rattle.scenario_asm.specs.declared.statement.Statement.TheVariants.{Sim, Node, Link, Flow, Route, Lose};
 ghost use Rattle.scenario_asm.specs.CanonicalText.{line_of_link};
-ghost use Rattle.scenario_asm.specs.Spelling.{node_label, link_label, flow_label, kind_word, queue_words, newreno_word, iw_word, line_for};
+ghost use Rattle.scenario_asm.specs.Spelling.{node_label, link_label, flow_label, kind_word, queue_words, iw_word, line_for};
+ghost use Rattle.scenario_asm.specs.TcpWords.{tcp_word};
 
+use crate::tcp_words::tcp_part;
 use itoa::Buffer;
 use scenario_image::{CodelParameters, FlowPart, LinkPart, NodeKind, QueueKind, RoutePart};
 use sim_time::{Iw, Time, Variant};
@@ -90,13 +92,6 @@ fn put_flow_numbers(text: &mut Vec<u8>, flow: FlowPart) -> Result<(), AllocError
     put(text, b" ", u64::from(flow.delack))
 }
 
-/// The word for which sender a flow has, behind a space.
-fn newreno_part(newreno: bool) -> &'static [u8]
-    ensures { result.now ≡ codes " " ++ newreno_word newreno }
-{
-    if newreno { b" newreno" } else { b" reno" }
-}
-
 /// The word for how large its initial window is, behind a space, and the line's end.
 fn iw_end(iw: Iw) -> &'static [u8]
     ensures { result.now ≡ codes " " ++ iw_word iw ++ codes "\n" }
@@ -109,9 +104,9 @@ fn iw_end(iw: Iw) -> &'static [u8]
 
 /// Appends which sender a flow has, and ends the line. After an `Err` a part of it may stand there.
 fn put_variant(text: &mut Vec<u8>, variant: Variant) -> Result<(), AllocError>
-    ensures { OnOk result (text.new.items ≡ text.old.items ++ (flat_map (λ word. codes " " ++ word) (newreno_word variant.newreno ∷ iw_word variant.iw ∷ []) ++ codes "\n")) }
+    ensures { OnOk result (text.new.items ≡ text.old.items ++ (flat_map (λ word. codes " " ++ word) (tcp_word variant ∷ iw_word variant.iw ∷ []) ++ codes "\n")) }
 {
-    text.extend_from_slice(newreno_part(variant.newreno))?;
+    text.extend_from_slice(tcp_part(variant))?;
     text.extend_from_slice(iw_end(variant.iw))
 }
 

@@ -1,9 +1,10 @@
 -- What is written is read again: the image of parts within limits, whatever follows it.
-use Rattle.std.proofs.Common.{◌≡◌, ℕ, suc, ◌+◌, ◌*◌, ◌%◌, ◌^◌, ◌<◌, ◌≤◌, Bool, true, false, List, [], ◌∷◌, ◌++◌, map, length, take, drop, Option, Some, All, arith, refl, ap, sym, ◌∙◌, append_assoc}
+use Rattle.std.proofs.Common.{◌≡◌, ℕ, suc, ◌+◌, ◌*◌, ◌%◌, ◌^◌, ◌<◌, ◌≤◌, List, [], ◌∷◌, ◌++◌, map, length, take, drop, Option, Some, All, arith, refl, ap, sym, ◌∙◌, append_assoc}
 use Rattle.std.specs.List.{flat_map, AllByRecursion}
 use Rattle.std.specs.Option.{option_map, option_and_then}
 use Rattle.std.proofs.lemmas.List.{drop-drop, length-append, take_at, drop_at}
 use Rattle.std.proofs.lemmas.List.Elements.{recursion_from_All}
+use Rattle.sim_time.specs.declared.limits.TheConstants.{LATEST_END}
 use Rattle.byteorder.specs.Endian.{big_number, big_bytes}
 use Rattle.byteorder.specs.Numbers.{big_number-reads_back}
 use Rattle.scenario_image.specs.Limits.{IsInLimits}
@@ -11,11 +12,9 @@ use Rattle.sim_time.specs.QueueLimits.{IsQueueInLimits}
 use Rattle.scenario_image.specs.LinkLimits.{IsLinkInLimits}
 use Rattle.scenario_image.specs.FlowLimits.{IsFlowInLimits}
 use Rattle.scenario_image.specs.RouteLimits.{IsRouteInLimits}
-use Rattle.sim_time.specs.declared.variant.Iw.{Iw}
-use Rattle.sim_time.specs.declared.variant.Iw.TheVariants.{Iw3, Iw10}
-use Rattle.scenario_image.specs.Image.{magic, node_byte, link_image, newreno_bit, iw_bit, flow_image, route_image, image, MayStandIn}
+use Rattle.scenario_image.specs.Image.{magic, node_byte, link_image, flow_image, route_image, image, MayStandIn}
 use Rattle.scenario_image.specs.Layout.{version_of, node_count, link_count, flow_count, route_count, link_size, links_size, flow_size, layout_size}
-use Rattle.scenario_image.specs.Reading.{each_at, node_of_byte, nodes_at, link_in_front, links_at, variant_of_byte, variant_at, flow_with, flow_at, flows_at, route_at, parts_with, parts_behind, parts_at}
+use Rattle.scenario_image.specs.Reading.{each_at, node_of_byte, nodes_at, link_in_front, links_at, variant_at, flow_with, flow_at, flows_at, route_at, parts_with, parts_behind, parts_at}
 use Rattle.scenario_image.specs.declared.parts.NodeKind.{NodeKind}
 use Rattle.scenario_image.specs.declared.parts.NodeKind.TheVariants.{Sender, Receiver, Router}
 use Rattle.sim_time.specs.declared.queue_kind.QueueKind.{QueueKind}
@@ -26,6 +25,7 @@ use Rattle.scenario_image.specs.declared.parts.RoutePart.{RoutePart}
 use Rattle.scenario_image.specs.declared.parts.ScenarioParts.{ScenarioParts}
 use Rattle.scenario_image.specs.declared.version.Version.{Version}
 use Rattle.scenario_image.specs.declared.version.Version.TheVariants.{One, Two}
+use Rattle.scenario_image.proofs.VariantBytes.{byte_again}
 use Rattle.scenario_image.proofs.Takes.{body, behind_magic, image_regroup, length_map}
 
 two : (n : ℕ) → n < 65536 → big_number 2 (big_bytes 2 n ++ []) ≡ n
@@ -48,15 +48,9 @@ record FlowFits (version : Version) (flow : FlowPart) : Type 0 where
   delack : flow.delack < 4294967296
   stands : MayStandIn version flow
 
-bits_again : (newreno : Bool) (iw : Iw) → variant_of_byte ((newreno_bit newreno + iw_bit iw) % 256) ≡ Some (record { newreno = newreno; iw = iw })
-bits_again false Iw3 = refl
-bits_again true Iw3 = refl
-bits_again false Iw10 = refl
-bits_again true Iw10 = refl
-
 variant_again : (version : Version) (flow : FlowPart) (rest : List ℕ) → MayStandIn version flow → variant_at version (flow_image version flow ++ rest) ≡ Some flow.variant
 variant_again One flow rest stands = ap Some (sym stands)
-variant_again Two flow rest stands = bits_again flow.variant.newreno flow.variant.iw
+variant_again Two flow rest stands = byte_again flow.variant
 
 numbers_again : (version : Version) (flow : FlowPart) (rest : List ℕ) → FlowFits version flow → flow_with (flow_image version flow ++ rest) flow.variant ≡ flow
 numbers_again version flow rest fits = λ i. record {
@@ -205,7 +199,7 @@ flows_again version (flow ∷ flows) rest fits =
 
 -- ---- all parts
 
-flow_fits : (version : Version) (nodes end : ℕ) (flow : FlowPart) → nodes ≤ 256 → end ≤ 10 ^ 15 → MayStandIn version flow → IsFlowInLimits nodes end flow → FlowFits version flow
+flow_fits : (version : Version) (nodes end : ℕ) (flow : FlowPart) → nodes ≤ 256 → end ≤ LATEST_END → MayStandIn version flow → IsFlowInLimits nodes end flow → FlowFits version flow
 flow_fits version nodes end flow few early stands limits = record {
   sender = omega (arith, few, limits.sender_node);
   receiver = omega (arith, few, limits.receiver_node);

@@ -8,6 +8,7 @@ pub mod FirstFault
 pub mod Appends
 pub mod Loops
 pub mod Numbers
+pub mod VariantBytes
 pub mod Takes
 pub mod Enough
 pub mod Again

@@ -6,12 +6,14 @@ use Rattle.std.proofs.lemmas.Bool.{eqb-true}
 use Rattle.std.proofs.lemmas.List.{drop-drop, length-drop, length-take, take-append-drop}
 use Rattle.std.proofs.lemmas.Option.{none-some, same_Some, cond_some, option_and_then_some}
 use Rattle.byteorder.specs.Endian.{big_number, big_bytes}
-use Rattle.sim_time.specs.declared.variant.Iw.TheVariants.{Iw3, Iw10}
 use Rattle.sim_time.specs.declared.variant.Variant.{Variant}
-use Rattle.scenario_image.specs.Image.{magic, node_byte, queue_byte, codel_image, link_image, variant_byte, flow_image, route_image, image, reno_iw3, MayStandIn}
+use Rattle.sim_time.specs.declared.variant.TheConstants.{RENO}
+use Rattle.scenario_image.specs.Image.{magic, node_byte, queue_byte, codel_image, link_image, flow_image, route_image, image, MayStandIn}
+use Rattle.scenario_image.specs.Variants.{variant_byte, variant_of_byte}
 use Rattle.scenario_image.specs.Layout.{version_of, node_count, link_count, flow_count, route_count, link_size, links_size, flow_size, layout_size}
-use Rattle.scenario_image.specs.Reading.{each_at, node_of_byte, nodes_at, codel_at, queue_of_byte, link_with, link_in_front, links_at, variant_of_byte, flow_with, flow_at, flows_at, route_at, parts_with, parts_behind, parts_at}
+use Rattle.scenario_image.specs.Reading.{each_at, node_of_byte, nodes_at, codel_at, queue_of_byte, link_with, link_in_front, links_at, flow_with, flow_at, flows_at, route_at, parts_with, parts_behind, parts_at}
 use Rattle.scenario_image.proofs.Courses.{mapped_some}
+use Rattle.scenario_image.proofs.VariantBytes.{byte_takes}
 use Rattle.scenario_image.proofs.Numbers.{IsBytes, bytes_drop, one, two, four, eight}
 use Rattle.scenario_image.specs.declared.parts.NodeKind.{NodeKind}
 use Rattle.scenario_image.specs.declared.parts.NodeKind.TheVariants.{Sender, Receiver, Router}
@@ -31,13 +33,6 @@ numbers_take bytes tail variant fits long rest =
     two bytes fits 0 _ (omega (arith, long)) (two bytes fits 2 _ (omega (arith, long)) (two bytes fits 4 _ (omega (arith, long)) (four bytes fits 6 _ (omega (arith, long))
     (eight bytes fits 10 _ (omega (arith, long)) (four bytes fits 18 _ (omega (arith, long)) (four bytes fits 22 _ (omega (arith, long)) rest))))))
 
-variant_takes : (byte : ℕ) (variant : Variant) → variant_of_byte byte ≡ Some variant → byte ≡ variant_byte variant
-variant_takes zero variant is = ap variant_byte (same_Some reno_iw3 variant is)
-variant_takes (suc zero) variant is = let read : Variant = record { newreno = true; iw = Iw3 } in ap variant_byte (same_Some read variant is)
-variant_takes (suc (suc zero)) variant is = let read : Variant = record { newreno = false; iw = Iw10 } in ap variant_byte (same_Some read variant is)
-variant_takes (suc (suc (suc zero))) variant is = let read : Variant = record { newreno = true; iw = Iw10 } in ap variant_byte (same_Some read variant is)
-variant_takes (suc (suc (suc (suc byte)))) variant is = absurd (none-some variant is)
-
 -- a flow that bytes begin with
 record FlowTaken (version : Version) (bytes : List ℕ) (flow : FlowPart) : Type 0 where
   spelled : bytes ≡ flow_image version flow ++ drop (flow_size version) bytes
@@ -45,11 +40,11 @@ record FlowTaken (version : Version) (bytes : List ℕ) (flow : FlowPart) : Type
 
 flow_takes : (version : Version) (bytes : List ℕ) (flow : FlowPart) → IsBytes bytes → flow_size version ≤ length bytes → flow_at version bytes ≡ Some flow → FlowTaken version bytes flow
 flow_takes One bytes flow fits long is =
-    subst (FlowTaken One bytes) (same_Some (flow_with bytes reno_iw3) flow is) (record { spelled = numbers_take bytes (drop 26 bytes) reno_iw3 fits long refl; stands = refl })
+    subst (FlowTaken One bytes) (same_Some (flow_with bytes RENO) flow is) (record { spelled = numbers_take bytes (drop 26 bytes) RENO fits long refl; stands = refl })
 flow_takes Two bytes flow fits long is =
     let (variant, read, same) = mapped_some (flow_with bytes) (variant_of_byte (get_or bytes 26 0)) flow is in
     let byte : drop 26 bytes ≡ big_bytes 1 (variant_byte variant) ++ drop 27 bytes =
-    one bytes fits 26 _ (omega (arith, long)) refl ∙ ap (λ (n : ℕ). big_bytes 1 n ++ drop 27 bytes) (variant_takes (get_or bytes 26 0) variant read) in
+    one bytes fits 26 _ (omega (arith, long)) refl ∙ ap (λ (n : ℕ). big_bytes 1 n ++ drop 27 bytes) (byte_takes (get_or bytes 26 0) variant read) in
     subst (FlowTaken Two bytes) same (record { spelled = numbers_take bytes _ variant fits (omega (arith, long)) byte; stands = tt })
 
 -- so many flows that bytes begin with

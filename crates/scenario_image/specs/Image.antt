@@ -1,10 +1,10 @@
 -- The images of a scenario, in two versions, field by field. Numbers stand with their highest byte first.
-use Rattle.std.specs.Prelude.{◌≡◌, ℕ, ◌+◌, Bool, false, if◌then◌else◌, List, [], ◌++◌, length, map, codes, All}
+use Rattle.std.specs.Prelude.{◌≡◌, ℕ, List, [], ◌++◌, length, map, codes, All}
 use Rattle.std.specs.List.{flat_map}
 use Rattle.byteorder.specs.Endian.{big_bytes}
-use Rattle.sim_time.specs.declared.variant.Iw.{Iw}
-use Rattle.sim_time.specs.declared.variant.Iw.TheVariants.{Iw3, Iw10}
 use Rattle.sim_time.specs.declared.variant.Variant.{Variant}
+use Rattle.sim_time.specs.declared.variant.TheConstants.{RENO}
+use Rattle.scenario_image.specs.Variants.{variant_byte}
 use Rattle.scenario_image.specs.declared.version.Version.{Version}
 use Rattle.scenario_image.specs.declared.version.Version.TheVariants.{One, Two}
 use Rattle.scenario_image.specs.declared.parts.NodeKind.{NodeKind}
@@ -60,18 +60,6 @@ link_image link =
     ++ big_bytes 1 (length link.lose)
     ++ flat_map (big_bytes 4) link.lose
 
--- the bit of NewReno in a flow's last byte, and that of the initial window of ten segments
-abbrev pub newreno_bit : Bool → ℕ
-newreno_bit newreno = if newreno then 1 else 0
-
-abbrev pub iw_bit : Iw → ℕ
-iw_bit Iw3 = 0
-iw_bit Iw10 = 2
-
--- the byte of a flow's variant
-abbrev pub variant_byte : Variant → ℕ
-variant_byte variant = newreno_bit variant.newreno + iw_bit variant.iw
-
 -- what stands of a flow's variant: nothing in version 1, one byte in version 2
 abbrev pub variant_image : Version → Variant → List ℕ
 variant_image One variant = []
@@ -102,13 +90,9 @@ image version parts =
     ++ flat_map (flow_image version) parts.flows
     ++ flat_map route_image parts.routes
 
--- the variant of each flow of version 1
-abbrev pub reno_iw3 : Variant
-reno_iw3 = record { newreno = false; iw = Iw3 }
-
 -- a flow may stand in an image of version 2, and in one of version 1 where it is reno with the smaller initial window
 abbrev pub MayStandIn : Version → FlowPart → Type 0
-MayStandIn One flow = flow.variant ≡ reno_iw3
+MayStandIn One flow = flow.variant ≡ RENO
 MayStandIn Two flow = Unit {0}
 
 -- bytes are an image of parts, of one version or the other

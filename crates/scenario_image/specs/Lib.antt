@@ -9,6 +9,7 @@ pub mod Paths
 pub mod Scenario
 pub mod Fault
 pub mod PathLaws
+pub mod Variants
 pub mod Image
 pub mod Plain
 pub mod Settings

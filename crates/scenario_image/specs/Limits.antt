@@ -1,5 +1,6 @@
 -- The ranges of a scenario's numbers.
 use Rattle.std.specs.Prelude.{◌≤◌, ◌^◌, length, All, AllPairs}
+use Rattle.sim_time.specs.declared.limits.TheConstants.{LATEST_END}
 use Rattle.scenario_image.specs.Range.{IsBetween}
 use Rattle.scenario_image.specs.LinkLimits.{IsLinkInLimits}
 use Rattle.scenario_image.specs.FlowLimits.{IsFlowInLimits}
@@ -15,7 +16,7 @@ pub record AreCountsInLimits (parts : ScenarioParts) : Type 0 where
 
 -- each number of a scenario is in its range, and the routes rise
 pub record IsInLimits (parts : ScenarioParts) : Type 0 where
-  pub end_range : IsBetween 1 (10 ^ 15) parts.end
+  pub end_range : IsBetween 1 LATEST_END parts.end
   pub counts : AreCountsInLimits parts
   pub each_link : All (IsLinkInLimits (length parts.nodes)) parts.links
   pub each_flow : All (IsFlowInLimits (length parts.nodes) parts.end) parts.flows

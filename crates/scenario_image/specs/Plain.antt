@@ -1,6 +1,6 @@
 -- The plainest link and flow: what a scenario that looks at something else has.
 use Rattle.std.specs.Prelude.{ℕ, []}
-use Rattle.scenario_image.specs.Image.{reno_iw3}
+use Rattle.sim_time.specs.declared.variant.TheConstants.{RENO}
 use Rattle.sim_time.specs.declared.queue_kind.QueueKind.TheVariants.{DropTail}
 use Rattle.scenario_image.specs.declared.parts.LinkPart.{LinkPart}
 use Rattle.scenario_image.specs.declared.parts.FlowPart.{FlowPart}
@@ -27,5 +27,5 @@ plain_flow sender receiver = record {
   start = 0;
   rwnd = 64000;
   delack = 0;
-  variant = reno_iw3;
+  variant = RENO;
 }

@@ -1,10 +1,10 @@
 -- What the functions that read an image answer, part by part. No public contract cites these.
-use Rattle.std.specs.Prelude.{◌≡◌, ℕ, zero, suc, ◌+◌, ◌*◌, ◌==◌, ◌&&◌, if◌then◌else◌, true, false, List, [], ◌∷◌, take, drop, slice_index, Option, Some, None, Result, Ok, Err}
+use Rattle.std.specs.Prelude.{◌≡◌, ℕ, zero, suc, ◌+◌, ◌*◌, ◌==◌, ◌&&◌, if◌then◌else◌, List, [], ◌∷◌, take, drop, slice_index, Option, Some, None, Result, Ok, Err}
 use Rattle.std.specs.Option.{option_map, option_and_then}
 use Rattle.byteorder.specs.Endian.{big_number}
-use Rattle.sim_time.specs.declared.variant.Iw.TheVariants.{Iw3, Iw10}
 use Rattle.sim_time.specs.declared.variant.Variant.{Variant}
-use Rattle.scenario_image.specs.Image.{reno_iw3}
+use Rattle.sim_time.specs.declared.variant.TheConstants.{RENO}
+use Rattle.scenario_image.specs.Variants.{variant_of_byte}
 use Rattle.scenario_image.specs.Layout.{version_of, node_count, link_count, flow_count, route_count, link_size, flow_size}
 use Rattle.scenario_image.specs.declared.fault.LoadFault.{LoadFault}
 use Rattle.scenario_image.specs.declared.fault.LoadFault.TheVariants.{L1, L2, L3, L4, L5, L6, L7, L8, NoMemory}
@@ -70,17 +70,9 @@ links_at zero bytes = Some ([], bytes)
 links_at (suc more) bytes =
     option_and_then (λ link. option_map (λ others. (link ∷ others.0, others.1)) (links_at more (drop (link_size bytes) bytes))) (link_in_front bytes)
 
--- the variant that a byte stands for
-abbrev pub variant_of_byte : ℕ → Option Variant
-variant_of_byte zero = Some reno_iw3
-variant_of_byte (suc zero) = Some (record { newreno = true; iw = Iw3 })
-variant_of_byte (suc (suc zero)) = Some (record { newreno = false; iw = Iw10 })
-variant_of_byte (suc (suc (suc zero))) = Some (record { newreno = true; iw = Iw10 })
-variant_of_byte (suc (suc (suc (suc byte)))) = None
-
 -- the variant of the flow at the front, of which version 1 says nothing
 abbrev pub variant_at : Version → List ℕ → Option Variant
-variant_at One bytes = Some reno_iw3
+variant_at One bytes = Some RENO
 variant_at Two bytes = variant_of_byte (slice_index bytes FLOW)
 
 -- the flow at the front, with its variant

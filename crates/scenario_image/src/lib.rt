@@ -16,6 +16,7 @@ pub mod records;
 pub mod routes;
 pub mod saving;
 pub mod scenario;
+mod variants;
 pub mod version;
 
 pub use fault::LoadFault;

@@ -9,10 +9,8 @@ ghost use Rattle.scenario_image.specs.RouteLimits.{IsRouteInLimits, IsRouteBefor
 ghost use Rattle.scenario_image.specs.Limits.{AreCountsInLimits, IsInLimits};
 
 use crate::parts::{FlowPart, LinkPart, RoutePart, ScenarioParts};
+pub use sim_time::LATEST_END;
 use sim_time::{CodelParameters, QueueKind, Rate, Time};
-
-/// The latest end of a scenario, in nanoseconds.
-pub const LATEST_END: Time = 1_000_000_000_000_000;
 
 /// The longest propagation delay, target and interval, in nanoseconds.
 pub const LONGEST_DELAY: Time = 10_000_000_000;

@@ -2,7 +2,7 @@
 ghost use Rattle.std.specs.Prelude.{◌≡◌, ◌≤◌, ◌*◌, ◌+◌, IfOk, length, take, drop, slice_index};
 ghost use Rattle.byteorder.specs.Endian.{big_number};
 ghost use Rattle.scenario_image.specs.Layout.{version_of as version_in, node_count as node_count_of, flow_count as flow_count_of, route_count as route_count_of, link_size as size_of_link, links_size, flow_size as size_of_flow, layout_size};
-ghost use Rattle.scenario_image.specs.Reading.{Gives, each_at, node_of_byte, nodes_at, codel_at, queue_of_byte, link_with, link_in_front, links_at, variant_of_byte, variant_at as variant_in, flow_with, flow_at, flows_at, route_at, parts_behind, parts_at};
+ghost use Rattle.scenario_image.specs.Reading.{Gives, each_at, node_of_byte, nodes_at, codel_at, queue_of_byte, link_with, link_in_front, links_at, variant_at as variant_in, flow_with, flow_at, flows_at, route_at, parts_behind, parts_at};
 
 use crate::fault::LoadFault;
 use crate::layout::{
@@ -11,9 +11,10 @@ use crate::layout::{
 };
 use crate::parts::{FlowPart, LinkPart, NodeKind, RoutePart, ScenarioParts};
 use crate::records::Records;
+use crate::variants::variant_of;
 use crate::version::Version;
 use byteorder::{BigEndian, ByteOrder};
-use sim_time::{CodelParameters, Iw, QueueKind, Variant};
+use sim_time::{CodelParameters, QueueKind, RENO, Variant};
 use std::alloc::{AllocError, Global};
 
 /// The node that a byte stands for.
@@ -123,27 +124,13 @@ fn links_of(alloc: Global, count: usize, bytes: &[u8]) -> Result<(Vec<LinkPart>,
     Ok((links, rest))
 }
 
-/// The variant that a byte stands for.
-fn variant_of(byte: u8) -> Option<Variant>
-    ensures { result ≡ variant_of_byte byte }
-{
-    let (newreno, iw) = match byte {
-        0 => (false, Iw::Iw3),
-        1 => (true, Iw::Iw3),
-        2 => (false, Iw::Iw10),
-        3 => (true, Iw::Iw10),
-        _ => return None,
-    };
-    Some(Variant { newreno, iw })
-}
-
 /// The variant of the flow at the front.
 fn variant_at(version: Version, bytes: &[u8]) -> Option<Variant>
     requires { size_of_flow version ≤ length bytes.now }
     ensures { result ≡ variant_in version bytes.now }
 {
     match version {
-        Version::One => variant_of(0),
+        Version::One => Some(RENO),
         Version::Two => variant_of(bytes[FLOW]),
     }
 }

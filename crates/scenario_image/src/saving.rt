@@ -3,13 +3,14 @@ ghost use Rattle.std.specs.Prelude.{◌≡◌, ◌++◌, ◌<◌, length, map, O
 ghost use Rattle.std.specs.List.{flat_map};
 ghost use Rattle.byteorder.specs.Endian.{big_bytes};
 ghost use Rattle.scenario_image.specs.Limits.{AreCountsInLimits};
-ghost use Rattle.scenario_image.specs.Image.{header_image, node_byte, queue_byte as byte_of_queue, codel_image, link_image, variant_byte as byte_of_variant, flow_image, route_image, image};
+ghost use Rattle.scenario_image.specs.Image.{header_image, node_byte, queue_byte as byte_of_queue, codel_image, link_image, flow_image, route_image, image};
 ghost use Rattle.scenario_image.specs.declared.version.Version.TheVariants.{Two};
 
 use crate::parts::{FlowPart, LinkPart, NodeKind, RoutePart, ScenarioParts};
 use crate::scenario::Scenario;
+use crate::variants::byte_of;
 use byteorder::{BigEndian, ByteOrder};
-use sim_time::{Iw, QueueKind, Variant};
+use sim_time::QueueKind;
 use std::alloc::{AllocError, Global};
 
 /// Adds a number of one byte.
@@ -141,18 +142,6 @@ fn put_links(out: &mut Vec<u8>, links: &[LinkPart]) -> Result<(), AllocError>
     Ok(())
 }
 
-/// The byte of a flow's variant: 1 for NewReno, 2 for the initial window of ten segments, summed.
-fn variant_byte(variant: Variant) -> u8
-    ensures { result ≡ byte_of_variant variant }
-{
-    let newreno = if variant.newreno { 1 } else { 0 };
-    let iw = match variant.iw {
-        Iw::Iw3 => 0,
-        Iw::Iw10 => 2,
-    };
-    newreno + iw
-}
-
 /// Adds a flow.
 fn put_flow(out: &mut Vec<u8>, flow: FlowPart) -> Result<(), AllocError>
     ensures { OnOk result (out.new.items ≡ out.old.items ++ flow_image Two flow) }
@@ -164,7 +153,7 @@ fn put_flow(out: &mut Vec<u8>, flow: FlowPart) -> Result<(), AllocError>
     put_u64(out, flow.start)?;
     put_u32(out, flow.rwnd)?;
     put_u32(out, flow.delack)?;
-    put_u8(out, variant_byte(flow.variant))?;
+    put_u8(out, byte_of(flow.variant))?;
     Ok(())
 }
 

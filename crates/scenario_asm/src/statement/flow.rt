@@ -6,7 +6,7 @@ ghost use Rattle.scenario_asm.specs.Refusals.{word_in, as_fault};
 ghost use Rattle.scenario_asm.specs.Statements.{has_flow_length, flow_at};
 ghost use Rattle.scenario_asm.specs.Table.{known_in};
 
-use super::variant::{iw, newreno};
+use super::variant::{iw, tcp};
 use super::{Statement, StatementFault};
 use crate::fault::Fault;
 use crate::lexer::Word;
@@ -84,12 +84,12 @@ fn numbers(words: &[Word<'_>]) -> Result<FlowNumbers, StatementFault>
 fn variant(words: &[Word<'_>]) -> Result<Variant, StatementFault>
     ensures { IsReadFrom 9 (variant_verdicts words.now) (variant_said words.now) result }
 {
-    let newreno = judge!(9, newreno(words));
+    let tcp = judge!(9, tcp(words));
     let iw = judge!(10, iw(words));
-    Ok(Variant { newreno, iw })
+    Ok(Variant { iw, ..tcp })
 }
 
-/// `flow NAME SENDER RECEIVER MSS SEGMENTS START RWND DELACK`, and perhaps `reno` or `newreno` and
+/// `flow NAME SENDER RECEIVER MSS SEGMENTS START RWND DELACK`, and perhaps a word of `tcp_words` and
 /// `iw3` or `iw10`
 pub(super) fn read<'a>(
     table: &Table<'a>,

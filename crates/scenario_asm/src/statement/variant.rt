@@ -1,24 +1,12 @@
 //! The two words of a `flow` statement that say which sender it has. Both may be left out.
 ghost use Rattle.std.specs.Prelude.{◌≡◌};
-ghost use Rattle.scenario_asm.specs.Statements.{newreno_named, iw_named, newreno_verdict, newreno_said, iw_verdict, iw_said};
+ghost use Rattle.scenario_asm.specs.Statements.{iw_named, tcp_verdict, tcp_said, iw_verdict, iw_said};
 ghost use Rattle.scenario_asm.specs.Verdicts.{Judges};
 
 use crate::fault::Fault;
 use crate::lexer::Word;
-use sim_time::Iw;
-
-/// Whether a word names NewReno, if it names a sender.
-fn newreno_in(word: &Word<'_>) -> Option<bool>
-    ensures { result ≡ newreno_named word.now }
-{
-    if word.is(b"reno") {
-        Some(false)
-    } else if word.is(b"newreno") {
-        Some(true)
-    } else {
-        None
-    }
-}
+use crate::tcp_words::tcp_in;
+use sim_time::{Iw, RENO, Variant};
 
 /// The initial window that a word names, if it names one.
 fn iw_in(word: &Word<'_>) -> Option<Iw>
@@ -33,13 +21,13 @@ fn iw_in(word: &Word<'_>) -> Option<Iw>
     }
 }
 
-/// Whether the tenth word says NewReno: where it is left out, Reno is meant.
-pub(super) fn newreno(words: &[Word<'_>]) -> Result<bool, Fault>
-    ensures { Judges (newreno_verdict words.now) (newreno_said words.now) result }
+/// Which TCP the tenth word says: where it is left out, Reno is meant.
+pub(super) fn tcp(words: &[Word<'_>]) -> Result<Variant, Fault>
+    ensures { Judges (tcp_verdict words.now) (tcp_said words.now) result }
 {
     match words.get(9) {
-        Some(word) => newreno_in(word).ok_or(Fault::E4),
-        None => Ok(false),
+        Some(word) => tcp_in(word).ok_or(Fault::E4),
+        None => Ok(RENO),
     }
 }
 
