@@ -6,6 +6,7 @@ pub mod Rise
 pub mod Sent
 pub mod Runs
 pub mod Turns
+pub mod ByReason
 pub mod Rows
 pub mod Steps
 pub mod Begun

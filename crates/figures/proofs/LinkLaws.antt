@@ -8,8 +8,6 @@ use Rattle.std.proofs.lemmas.Option.{option_and_then_some, slice_get-get_or}
 use Rattle.aqm.specs.Queue.{take_reason, taken_from}
 use Rattle.aqm.proofs.Stays.{queues_open_empty}
 use Rattle.port.specs.declared.acts.Act.{Act}
-use Rattle.aqm.specs.declared.drop_reason.DropReason.TheVariants.{Lost, Full, Take}
-use Rattle.aqm.specs.declared.drop_reason.TakeDrop.TheVariants.{Codel}
 use Rattle.port.specs.Port.{PortState, taken, offered_all}
 use Rattle.scenario_image.specs.declared.parts.LinkPart.{LinkPart}
 use Rattle.scenario_image.specs.declared.parts.NodeKind.TheVariants.{Router}
@@ -27,12 +25,13 @@ use Rattle.table_run.proofs.Initial.{opened_part}
 use Rattle.table_run.proofs.RunLaws.{sound_run}
 use Rattle.table_run.proofs.Runs.{of_one_more}
 use Rattle.figures.specs.Moments.{Moment, moments, following}
-use Rattle.figures.specs.Links.{port_at, waiting_at, frees, acts_between, acts_at, dropped_in, tx_in, dropped_of, tx_of, wait_of_given, wait_in, wait_at, waits_of, EachFreedOrOffered}
+use Rattle.figures.specs.Links.{port_at, waiting_at, frees, acts_between, acts_at, tx_in, all_dropped_of, tx_of, wait_of_given, wait_in, wait_at, waits_of, EachFreedOrOffered}
 use Rattle.net_machine.specs.Run.{Reached}
 use Rattle.figures.specs.declared.figures.Figures.{Figures}
 use Rattle.figures.specs.Figures.{AreOfSomeRun}
 use Rattle.figures.specs.Laws.{OfferedArePlaced, EachSentHasItsWait}
 use Rattle.figures.proofs.Counts.{test_no}
+use Rattle.figures.proofs.ByReason.{all_drops_more}
 use Rattle.figures.proofs.Turns.{sum_more, given_more}
 use Rattle.figures.proofs.Steps.{IsStep, is_step, size_stays, part_elsewhere, links_stay}
 use Rattle.figures.proofs.Passages.{Passage, passage}
@@ -65,18 +64,16 @@ passes now old new freed acts (inr is) = record {
 
 -- what is counted of a link so far
 record IsCountedUpto (ms : List Moment) (s : State) (node index : ℕ) : Type 0 where
-  placed : (port_at s node index).offered ≡ dropped_of Lost node index ms + dropped_of Full node index ms + dropped_of (Take Codel) node index ms + tx_of node index ms + waiting_at (port_at s node index)
+  placed : (port_at s node index).offered ≡ all_dropped_of node index ms + tx_of node index ms + waiting_at (port_at s node index)
   waits : length (waits_of node index ms) ≡ tx_of node index ms
 
 counted_more : (ms : List Moment) (m : Moment) (node index : ℕ) → IsCountedUpto ms m.before node index → IsCounted (port_at m.before node index) (port_at m.after node index) (acts_at node index m) (wait_at node index m) → IsCountedUpto (ms ++ m ∷ []) m.after node index
 counted_more ms m node index upto is = record {
   placed =
-      let lost = sum_more (λ (n : Moment). dropped_in Lost (acts_at node index n)) ms m in
-      let full = sum_more (λ (n : Moment). dropped_in Full (acts_at node index n)) ms m in
-      let codel = sum_more (λ (n : Moment). dropped_in (Take Codel) (acts_at node index n)) ms m in
+      let dropped = all_drops_more node index ms m in
       let sent = sum_more (λ (n : Moment). tx_in (acts_at node index n)) ms m in
       let once = reported_once (acts_at node index m) in
-      omega (arith, lost, full, codel, sent, once, upto.placed, is.balance);
+      omega (arith, dropped, sent, once, upto.placed, is.balance);
   waits =
       let sent = sum_more (λ (n : Moment). tx_in (acts_at node index n)) ms m in
       let all = ap length (given_more (wait_at node index) ms m) in
@@ -145,7 +142,8 @@ opened p is_scenario node index inside =
     let links : (part_at (initial p) node).links ≡ map initial_link (leaving_links p.links node) = ap (λ (x : PartState). x.links) part in
     let fresh : IsFresh (link_at (part_at (initial p) node).links index) =
     all_here IsFresh (part_at (initial p) node).links index no_link inside (subst (AllByRecursion IsFresh) (sym links) (all_fresh (leaving_links p.links node))) in
-    record { placed = omega (arith, fresh.0, fresh.1); waits = refl }
+    let none : all_dropped_of node index [] ≡ 0 = refl in
+    record { placed = omega (arith, fresh.0, fresh.1, none); waits = refl }
 
 all_counted : (p : ScenarioParts) (n : ℕ) (lines : List TraceLine) (s : State) → IsScenario p → ComesTo p n lines s → (node index : ℕ) → index < length (part_at s node).links → IsCountedUpto (moments (initial p) n) s node index
 all_counted p zero lines s is_scenario comes node index inside =

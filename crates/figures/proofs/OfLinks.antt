@@ -1,11 +1,10 @@
 -- The figures of a link, one event on.
-use Rattle.std.proofs.Common.{◌≡◌, ◌≢◌, ℕ, ◌+◌, ◌-◌, ◌*◌, ◌≤◌, Bool, true, false, cond, not, ◌||◌, ◌==◌, nat_lt, max, List, [], ◌∷◌, ◌++◌, length, length-append, map, refl, sym, ap, subst, ◌∙◌, arith, eq-eqb, is_some, Option, Some, None}
-use Rattle.std.specs.Prelude.{option_to_list}
+use Rattle.std.proofs.Common.{◌≡◌, ◌≢◌, ℕ, zero, suc, ◌+◌, ◌-◌, ◌*◌, ◌≤◌, Bool, true, false, cond, not, ◌||◌, ◌==◌, nat_lt, max, List, [], ◌∷◌, ◌++◌, length, length-append, map, refl, sym, ap, subst, ◌∙◌, arith, eq-eqb, is_some, Option, Some, None}
+use Rattle.std.specs.Prelude.{option_to_list, slice_index}
 use Rattle.std.proofs.Math.Nat.{mul-add, zero-mul, one-mul, mul-zero}
 use Rattle.std.proofs.lemmas.List.{map-append, append-nil}
 use Rattle.aqm.specs.declared.drop_reason.DropReason.{DropReason}
-use Rattle.aqm.specs.declared.drop_reason.DropReason.TheVariants.{Lost, Full, Take}
-use Rattle.aqm.specs.declared.drop_reason.TakeDrop.TheVariants.{Codel}
+use Rattle.aqm.specs.DropReasons.{all_reasons}
 use Rattle.port.specs.Port.{PortState}
 use Rattle.node_core.specs.Part.{PartState, link_at}
 use Rattle.node_core.specs.TraceLine.{TraceLine}
@@ -14,8 +13,9 @@ use Rattle.figures.specs.declared.link.LinkFigures.{LinkFigures}
 use Rattle.figures.specs.Classes.{greatest}
 use Rattle.figures.specs.Moments.{Moment, Base}
 use Rattle.figures.specs.Tallied.{IsTallyOf}
-use Rattle.figures.specs.Links.{port_at, waiting_at, busy_at, frees, acts_between, wait_of_given, wait_in, wait_by, IsNextEntry, wait_at, waits_of, acts_at, dropped_in, tx_in, bytes_in, dropped_of, tx_of, bytes_of_moments, last_from, summed_over, waited_of, busy_of, waited_so_far, IsFew, IsLinkBegun, AreOfLink, IsLinkAfter}
+use Rattle.figures.specs.Links.{port_at, waiting_at, busy_at, frees, acts_between, wait_of_given, wait_in, wait_by, IsNextEntry, wait_at, waits_of, acts_at, with_drops, tx_in, bytes_in, drops_of, tx_of, bytes_of_moments, last_from, summed_over, waited_of, busy_of, waited_so_far, IsFew, IsLinkBegun, AreOfLink, IsLinkAfter}
 use Rattle.figures.proofs.Counts.{greatest_more, test_no}
+use Rattle.figures.proofs.ByReason.{drops_more}
 use Rattle.figures.proofs.Turns.{sum_more, given_more}
 
 pub last_more : (since : ℕ) (ms : List Moment) (m : Moment) → last_from since (ms ++ m ∷ []) ≡ m.line.key.time
@@ -54,12 +54,9 @@ greatest_before node index ms m =
 -- what so many events count at most more events do
 pub few_more : (n k : ℕ) (f : LinkFigures) → n ≤ k → IsFew n f → IsFew k f
 few_more n k f most is =
-    let lost = is.lost in
-    let full = is.full in
-    let codel = is.codel in
     let bytes = is.bytes in
     let waits = is.waits in
-    record { lost = omega (arith, most, lost); full = omega (arith, most, full); codel = omega (arith, most, codel); bytes = omega (arith, most, bytes); waits = omega (arith, most, waits) }
+    record { dropped = λ i. (let dropped = is.dropped i in omega (arith, most, dropped)); bytes = omega (arith, most, bytes); waits = omega (arith, most, waits) }
 
 -- the figures of a link before any event
 pub link_begun : (since before : ℕ) (s : State) (earlier : List Moment) (node index : ℕ) (f : LinkFigures) → IsLinkBegun since (port_at s node index) f → AreOfLink (record { since = since; state = s; before = before; earlier = earlier }) [] s node index f
@@ -69,9 +66,7 @@ link_begun since before s earlier node index f is = record {
   waiting = is.waiting;
   busy = is.busy;
   since = let at = is.since in omega (arith, at);
-  lost = is.lost;
-  full = is.full;
-  codel = is.codel;
+  dropped = is.dropped;
   sent = is.waits.count_is;
   bytes = is.bytes;
   waited =
@@ -84,10 +79,15 @@ link_begun since before s earlier node index f is = record {
   longest = let long = is.longest in omega (arith, long);
   next_entry_is = is.next_entry_is;
   waits = is.waits;
-  few = (let lost = is.lost in let full = is.full in let codel = is.codel in let bytes = is.bytes in let waits = is.waits.count_is in
-      record { lost = omega (arith, lost); full = omega (arith, full); codel = omega (arith, codel); bytes = omega (arith, bytes); waits = omega (arith, waits) });
+  few = (let bytes = is.bytes in let waits = is.waits.count_is in
+      record { dropped = λ i. (let none = ap (λ (counts : List ℕ). slice_index counts i) is.dropped in let zeros = none_at i all_reasons in omega (arith, none, zeros)); bytes = omega (arith, bytes); waits = omega (arith, waits) });
 }
   where
+    none_at : (i : ℕ) (xs : List DropReason) → slice_index (map (λ (reason : DropReason). 0) xs) i ≡ 0
+    none_at i [] = refl
+    none_at zero (x ∷ xs) = refl
+    none_at (suc i) (x ∷ xs) = none_at i xs
+
     nothing : (b : Bool) (n : ℕ) → n ≡ since → 0 + cond b (since - n) 0 ≡ 0
     nothing true n e = omega (arith, e)
     nothing false n e = omega arith
@@ -119,11 +119,11 @@ module _ (base : Base) (ms : List Moment) (s : State) (line : TraceLine) (t : St
     acts : acts_at node index m ≡ acts_between f.offered (port_at t node index) line
     acts = ap (λ b. cond b (acts_between (port_at s node index).offered (port_at t node index) line) []) (eq-eqb line.key.node node here) ∙ ap (λ n. acts_between n (port_at t node index) line) (sym is.offered)
 
-    dropped : (reason : DropReason) (was now : ℕ) → was ≡ dropped_of reason node index ms → now ≡ was + dropped_in reason (acts_between f.offered (port_at t node index) line) → now ≡ dropped_of reason node index (ms ++ m ∷ [])
-    dropped reason was now before after_is =
-        after_is ∙ ap (λ n. n + dropped_in reason (acts_between f.offered (port_at t node index) line)) before
-        ∙ ap (λ list. dropped_of reason node index ms + dropped_in reason list) (sym acts)
-        ∙ sym (sum_more (λ (n : Moment). dropped_in reason (acts_at node index n)) ms m)
+    dropped : g.dropped ≡ drops_of node index (ms ++ m ∷ [])
+    dropped =
+        after.dropped ∙ ap (λ counts. with_drops counts (acts_between f.offered (port_at t node index) line)) is.dropped
+        ∙ ap (λ list. with_drops (drops_of node index ms) list) (sym acts)
+        ∙ drops_more node index ms m
 
     wait : wait_at node index m ≡ wait_by f.offered (port_at t node index) line f.next_entry
     wait =
@@ -141,9 +141,7 @@ module _ (base : Base) (ms : List Moment) (s : State) (line : TraceLine) (t : St
       waiting = after.waiting;
       busy = after.busy;
       since = let at = nothing_since in omega (arith, at);
-      lost = dropped Lost f.lost g.lost is.lost after.lost;
-      full = dropped Full f.full g.full is.full after.full;
-      codel = dropped (Take Codel) f.codel g.codel is.codel after.codel;
+      dropped = dropped;
       sent = after.sent ∙ ap (λ n. n + tx_in (acts_between f.offered (port_at t node index) line)) is.sent
           ∙ ap (λ list. tx_of node index ms + tx_in list) (sym acts) ∙ sym (sum_more (λ (n : Moment). tx_in (acts_at node index n)) ms m);
       bytes = after.bytes ∙ ap (λ n. n + bytes_in (acts_between f.offered (port_at t node index) line)) is.bytes
@@ -165,12 +163,6 @@ module _ (base : Base) (ms : List Moment) (s : State) (line : TraceLine) (t : St
 
   -- an event that does nothing at the link
   module _ (no_acts : acts_at node index m ≡ []) (no_wait : wait_at node index m ≡ None) (port_same : port_at t node index ≡ port_at s node index) (f : LinkFigures) (is : AreOfLink base ms s node index f) where
-    none_dropped : (reason : DropReason) (was : ℕ) → was ≡ dropped_of reason node index ms → was ≡ dropped_of reason node index (ms ++ m ∷ [])
-    none_dropped reason was before =
-        let more = sum_more (λ (n : Moment). dropped_in reason (acts_at node index n)) ms m in
-        let none : dropped_in reason (acts_at node index m) ≡ 0 = ap (dropped_in reason) no_acts in
-        omega (arith, before, more, none)
-
     pub link_kept : AreOfLink base (ms ++ m ∷ []) t node index f
     link_kept = record {
       first = is.first;
@@ -178,9 +170,7 @@ module _ (base : Base) (ms : List Moment) (s : State) (line : TraceLine) (t : St
       waiting = is.waiting ∙ ap (λ (p : PortState). waiting_at p) (sym port_same);
       busy = is.busy ∙ ap (λ (p : PortState). is_some p.next_free) (sym port_same);
       since = let at = last_more base.since ms m in let before = is.since in omega (arith, at, before, order);
-      lost = none_dropped Lost f.lost is.lost;
-      full = none_dropped Full f.full is.full;
-      codel = none_dropped (Take Codel) f.codel is.codel;
+      dropped = is.dropped ∙ sym (ap (with_drops (drops_of node index ms)) no_acts) ∙ drops_more node index ms m;
       sent = (let more = sum_more (λ (n : Moment). tx_in (acts_at node index n)) ms m in let none : tx_in (acts_at node index m) ≡ 0 = ap tx_in no_acts in let before = is.sent in omega (arith, before, more, none));
       bytes = (let more = sum_more (λ (n : Moment). bytes_in (acts_at node index n)) ms m in let none : bytes_in (acts_at node index m) ≡ 0 = ap bytes_in no_acts in let before = is.bytes in omega (arith, before, more, none));
       waited = ap (λ n. waited_so_far f + f.waiting * (n - f.since)) (last_more base.since ms m) ∙ waited_more f is;

@@ -1,6 +1,7 @@
 -- An event that frees no link offers packets to one link of its node, or to none.
 use Rattle.std.proofs.Common.{◌≡◌, ◌≢◌, ℕ, ◌<◌, ◌≤◌, false, List, length, get_or, sym, ap, subst, ◌∙◌, Some, arith, true≢false, inl, inr, ⊎_elim}
 use Rattle.std.proofs.lemmas.Bool.{cases_eq}
+use Rattle.sim_time.specs.declared.limits.TheConstants.{MOST_EVENTS}
 use Rattle.port.specs.Port.{PortState}
 use Rattle.node_core.specs.declared.event.Event.{Event}
 use Rattle.node_core.specs.declared.event.Event.TheVariants.{Start, Rto, DelAck, Free, Arrive}
@@ -78,7 +79,7 @@ module _ (s : State) (line : TraceLine) (t : State) (next : step s ≡ Some (lin
       (subst (λ n. FreesOrOffers n (port_at t node i) line) (sym (all.each i link inside).offered) (sends i (omega (arith, inside, all.size))))
 
 -- what is counted of each link is no more than what 10^15 events count
-pub few_each : (b : Base) (ms : List Moment) (s : State) (fs : List NodeLinks) → AreOfLinks b ms s fs → length ms ≤ 1000000000000000 →
-    (node : ℕ) (other : NodeLinks) (i : ℕ) (link : LinkFigures) → node < length fs → i < length (get_or fs node other).figures.items → IsFew 1000000000000000 (get_or (get_or fs node other).figures.items i link)
+pub few_each : (b : Base) (ms : List Moment) (s : State) (fs : List NodeLinks) → AreOfLinks b ms s fs → length ms ≤ MOST_EVENTS →
+    (node : ℕ) (other : NodeLinks) (i : ℕ) (link : LinkFigures) → node < length fs → i < length (get_or fs node other).figures.items → IsFew MOST_EVENTS (get_or (get_or fs node other).figures.items i link)
 few_each b ms s fs is most node other i link within inside =
-    few_more (length ms) 1000000000000000 (get_or (get_or fs node other).figures.items i link) most ((is.each node other (omega (arith, within, is.count))).each i link inside).few
+    few_more (length ms) MOST_EVENTS (get_or (get_or fs node other).figures.items i link) most ((is.each node other (omega (arith, within, is.count))).each i link inside).few

@@ -1,14 +1,14 @@
 -- What a sender sends, by what it keeps before and after.
-use Rattle.std.proofs.Common.{◌≡◌, ℕ, ◌+◌, ◌-◌, ◌*◌, ◌/◌, ◌<◌, ◌≤◌, Bool, true, false, cond, not, ◌&&◌, ◌||◌, ltb, leb, max, Option, Some, None, [], ◌∷◌, ◌++◌, refl, sym, ap, subst, ◌∙◌, arith}
+use Rattle.std.proofs.Common.{◌≡◌, ℕ, ◌+◌, ◌-◌, ◌*◌, ◌/◌, ◌<◌, ◌≤◌, Bool, true, false, cond, not, ◌&&◌, ◌||◌, ltb, max, Option, [], ◌∷◌, ◌++◌, refl, sym, ap, subst, ◌∙◌, arith}
 use Rattle.std.proofs.lemmas.Bool.{and_parts, lt-ltb, le-ltb}
 use Rattle.std.proofs.Math.Nat.{zero-mul, one-mul, div-eq_of_eq-mul_left}
 use Rattle.reno_sender.specs.declared.fields.SenderFields.{SenderFields}
 use Rattle.reno_sender.specs.declared.fields.Timing.{Timing}
 use Rattle.reno_sender.specs.Fields.{IsMultiple, IsSound}
-use Rattle.reno_sender.specs.Timer.{sampled}
 use Rattle.reno_sender.specs.Sending.{Planned, spaced, sending, fill_count}
-use Rattle.reno_sender.specs.Table.{started, acknowledged, timed_out, enters, new_acknowledgement, nothing_sent, further_duplicate, fast_retransmit, repeated_duplicate, early_duplicate, is_partial, is_below, partly, partial_acknowledgement, measured_by, with_estimate, advanced, inflated, one_more}
+use Rattle.reno_sender.specs.Table.{started, acknowledged, timed_out, enters, new_acknowledgement, nothing_sent, further_duplicate, fast_retransmit, repeated_duplicate, early_duplicate, is_partial, is_below, partly, partial_acknowledgement, measured_by, advanced, inflated, one_more}
 use Rattle.reno_sender.proofs.RowLaws.{by_rows}
+use Rattle.reno_sender.proofs.Samples.{by_sample}
 use Rattle.figures.specs.Turns.{HasActedFrom, IsOfSegments, kept_of, resends, sent_between, sent_as, planned_by}
 use Rattle.figures.specs.declared.turn.KeptSender.{KeptSender}
 use Rattle.figures.specs.declared.turn.Cause.{Cause}
@@ -22,12 +22,10 @@ pub record IsSent (f : SenderFields) (p : Planned) : Type 0 where
   pub sent : p.sent ≡ cond (resends (kept_of f) p.fields) (p.fields.una ∷ []) [] ++ spaced (max f.nxt p.fields.una) f.mss run
 
 measured_mss : (o : Option Timing) (f : SenderFields) (ack now : ℕ) → (measured_by o f ack now).mss ≡ f.mss
-measured_mss None f ack now = refl
-measured_mss (Some t) f ack now = elim (leb t.number ack) as (λ b. (cond b (with_estimate f (sampled f.srtt f.rttvar (now - t.sent_at))) f).mss ≡ f.mss) [ true ↦ refl | false ↦ refl ]
+measured_mss o f ack now = by_sample (λ g. g.mss ≡ f.mss) o f ack now refl (λ r. refl)
 
 measured_recovery : (o : Option Timing) (f : SenderFields) (ack now : ℕ) → (measured_by o f ack now).recovery ≡ f.recovery
-measured_recovery None f ack now = refl
-measured_recovery (Some t) f ack now = elim (leb t.number ack) as (λ b. (cond b (with_estimate f (sampled f.srtt f.rttvar (now - t.sent_at))) f).recovery ≡ f.recovery) [ true ↦ refl | false ↦ refl ]
+measured_recovery o f ack now = by_sample (λ g. g.recovery ≡ f.recovery) o f ack now refl (λ r. refl)
 
 partial_recovers : (f : SenderFields) (ack : ℕ) → is_partial f ack ≡ true → f.recovery ≡ true
 partial_recovers f ack e =

@@ -16,9 +16,8 @@ use Rattle.scenario_image.specs.Scenario.{IsScenario}
 use Rattle.reno_sender.specs.declared.fields.SenderFields.{SenderFields}
 use Rattle.reno_sender.specs.declared.fields.Timing.{Timing}
 use Rattle.reno_sender.specs.Fields.{IsTimedWithin}
-use Rattle.reno_sender.specs.Timer.{sampled}
 use Rattle.reno_sender.specs.Sending.{Planned}
-use Rattle.reno_sender.specs.Table.{started, acknowledged, timed_out, measured_by, with_estimate, is_partial, new_acknowledgement, partial_acknowledgement}
+use Rattle.reno_sender.specs.Table.{started, acknowledged, timed_out, measured_by, with_sample, is_partial, new_acknowledgement, partial_acknowledgement}
 use Rattle.reno_sender.proofs.RowLaws.{by_rows}
 use Rattle.node_core.specs.Initial.{initial_role}
 use Rattle.node_core.specs.Part.{PartState, sender_in}
@@ -49,7 +48,7 @@ left_by kept trips = fold smoothed kept trips
 measured : (o : Option Timing) (f : SenderFields) (ack now : ℕ) → trip_kept (measured_by o f ack now) ≡ left_by (trip_kept f) (option_to_list (trip_of o ack now))
 measured None f ack now = refl
 measured (Some t) f ack now =
-    elim (leb t.number ack) as (λ b. trip_kept (cond b (with_estimate f (sampled f.srtt f.rttvar (now - t.sent_at))) f) ≡ left_by (trip_kept f) (option_to_list (cond b (Some (now - t.sent_at)) None))) [ true ↦ refl | false ↦ refl ]
+    elim (leb t.number ack) as (λ b. trip_kept (cond b (with_sample f (now - t.sent_at)) f) ≡ left_by (trip_kept f) (option_to_list (cond b (Some (now - t.sent_at)) None))) [ true ↦ refl | false ↦ refl ]
 
 -- a number that is not past una is below the timed one
 none_taken : (o : Option Timing) (una high ack now : ℕ) → IfSome o (IsTimedWithin una high) → ack ≤ una → trip_of o ack now ≡ None

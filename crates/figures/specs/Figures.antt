@@ -1,6 +1,7 @@
 -- The figures of a run.
 use Rattle.std.specs.Prelude.{◌≡◌, ◌+◌, ◌<◌, ◌≤◌, ℕ, List, [], ◌∷◌, length, slice_index_or, Some, IfSome}
 use Rattle.sim_time.specs.declared.key.Key.{Key}
+use Rattle.sim_time.specs.declared.limits.TheConstants.{MOST_EVENTS}
 use Rattle.scenario_image.specs.declared.parts.ScenarioParts.{ScenarioParts}
 use Rattle.scenario_image.specs.Scenario.{IsScenario}
 use Rattle.node_core.specs.declared.event.Event.{Event}
@@ -96,7 +97,7 @@ NoneBefore moment s = (k : Key) (v : Event) → due s ≡ Some (k, v) → moment
 pub record AreOfSomeRun (f : Figures) (r : Reached) : Type 0 where
   pub scenario : ScenarioParts
   pub is_scenario : IsScenario scenario
-  pub fits : r.position ≤ 1000000000000000
+  pub fits : r.position ≤ MOST_EVENTS
   pub base : Base
   pub of : AreOfRun scenario base f r
   pub in_order : NoneBefore f.last r.state

@@ -2,10 +2,7 @@
 use Rattle.std.specs.Prelude.{◌≡◌, ◌≤◌, ◌<◌, ◌+◌, ◌*◌, ◌/◌, ◌^◌, ◌==◌, ℕ, nat_lt, nat_le, false, List, length, filter, count_by, All, Contains, Option, IfSome, Some, None}
 use Rattle.std.specs.List.{slice_get, fold}
 use Rattle.packet_chain.specs.declared.packet.Packet.{Packet}
-use Rattle.aqm.specs.DropTail.{is_full}
-use Rattle.aqm.specs.Queue.{fifo_of}
-use Rattle.aqm.specs.declared.drop_reason.DropReason.TheVariants.{Lost, Full, Take}
-use Rattle.aqm.specs.declared.drop_reason.TakeDrop.TheVariants.{Codel}
+use Rattle.aqm.specs.Queue.{refuses}
 use Rattle.port.specs.Port.{PortState, with_packet}
 use Rattle.port.specs.Laws.{NothingWaitsWhereIdle}
 use Rattle.reno_sender.specs.declared.fields.SenderFields.{SenderFields}
@@ -20,7 +17,7 @@ use Rattle.table_run.specs.Flow.{received_next}
 use Rattle.table_run.specs.Laws.{ComesTo}
 use Rattle.figures.specs.Moments.{moments, turns_at}
 use Rattle.run_laws.specs.Links.{link_of}
-use Rattle.figures.specs.Links.{port_at, acts_at, waiting_at, dropped_of, tx_of, wait_of_given, waits_of}
+use Rattle.figures.specs.Links.{port_at, acts_at, waiting_at, all_dropped_of, tx_of, wait_of_given, waits_of}
 use Rattle.figures.specs.Turns.{Turn}
 use Rattle.figures.specs.Senders.{sent_of_turns, again_in_recovery_of, again_otherwise_of, trips_of}
 use Rattle.figures.specs.Classes.{class_of, rank_of, percentile, least_of, greatest_of}
@@ -56,11 +53,11 @@ SentAgainIsSent = (ts : List Turn) → again_in_recovery_of ts + again_otherwise
 abbrev pub AtEachLink : (ScenarioParts → ℕ → State → ℕ → ℕ → Type 0) → Type 0
 AtEachLink P = (p : ScenarioParts) (n : ℕ) (lines : List TraceLine) (s : State) → IsScenario p → ComesTo p n lines s → (node index : ℕ) → index < length (part_at s node).links → P p n s node index
 
--- the packets that were offered to a link are those that were lost, dropped as the queue was full, dropped by CoDel and sent, and those that wait
+-- the packets that were offered to a link are those that were dropped, each for one reason, those that were sent, and those that wait
 abbrev pub OfferedArePlaced : Type 0
 OfferedArePlaced =
     AtEachLink (λ p n s node index. let ms = moments (initial p) n in
-    (port_at s node index).offered ≡ dropped_of Lost node index ms + dropped_of Full node index ms + dropped_of (Take Codel) node index ms + tx_of node index ms + waiting_at (port_at s node index))
+    (port_at s node index).offered ≡ all_dropped_of node index ms + tx_of node index ms + waiting_at (port_at s node index))
 
 -- there are as many waits as packets that were sent
 abbrev pub EachSentHasItsWait : Type 0
@@ -69,7 +66,7 @@ EachSentHasItsWait = AtEachLink (λ p n s node index. length (waits_of node inde
 -- where a link is idle nothing waits at it, and a packet that its queue takes in is given at once: it has waited for 0
 abbrev pub SentAsOffered : Type 0
 SentAsOffered =
-    (now : ℕ) (port : PortState) (packet : Packet) → NothingWaitsWhereIdle port → port.next_free ≡ None → is_full (fifo_of port.queue) ≡ false → wait_of_given now (with_packet now port packet) ≡ Some 0
+    (now : ℕ) (port : PortState) (packet : Packet) → NothingWaitsWhereIdle port → port.next_free ≡ None → refuses port.queue ≡ false → wait_of_given now (with_packet now port packet) ≡ Some 0
 
 -- no receiver has more than all bytes of its flow
 abbrev pub DeliveredIsOfTheFlow : Type 0

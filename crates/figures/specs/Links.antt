@@ -1,6 +1,6 @@
 -- What is counted of a link, over the events of a run.
-use Rattle.std.specs.Prelude.{◌≡◌, ◌≢◌, ◌+◌, ◌-◌, ◌*◌, ◌^◌, ◌==◌, ◌||◌, ◌≤◌, ◌<◌, ℕ, Bool, true, false, not, max, nat_lt, if◌then◌else◌, List, [], ◌∷◌, ◌++◌, length, map, count_by, is_some, slice_index_or, Option, Some, None, IfSome, option_to_list}
-use Rattle.std.specs.List.{sum_by, filter_map}
+use Rattle.std.specs.Prelude.{◌≡◌, ◌≢◌, ◌+◌, ◌-◌, ◌*◌, ◌^◌, ◌==◌, ◌||◌, ◌≤◌, ◌<◌, ℕ, Bool, true, false, not, max, nat_lt, if◌then◌else◌, List, [], ◌∷◌, ◌++◌, length, map, count_by, is_some, slice_index, slice_index_or, slice_set, Option, Some, None, IfSome, option_to_list}
+use Rattle.std.specs.List.{fold, sum_by, filter_map}
 use Rattle.std.specs.Option.{option_map}
 use Rattle.sim_time.specs.Moment.{IsMoment}
 use Rattle.packet_chain.specs.Stamped.{Stamped}
@@ -8,8 +8,7 @@ use Rattle.aqm.specs.Queue.{waiting_in, taken_from}
 use Rattle.port.specs.declared.acts.Act.{Act}
 use Rattle.port.specs.declared.acts.Act.TheVariants.{Tx, Dropped}
 use Rattle.aqm.specs.declared.drop_reason.DropReason.{DropReason}
-use Rattle.aqm.specs.declared.drop_reason.DropReason.TheVariants.{Lost, Full, Take}
-use Rattle.aqm.specs.declared.drop_reason.TakeDrop.TheVariants.{Codel}
+use Rattle.aqm.specs.DropReasons.{all_reasons, reason_index, is_reason}
 use Rattle.port.specs.Port.{PortState}
 use Rattle.node_core.specs.declared.event.Event.{Event}
 use Rattle.node_core.specs.declared.event.Event.TheVariants.{Start, Rto, DelAck, Free, Arrive}
@@ -47,12 +46,10 @@ acts_between offered after line = if frees after.link line.event || not (after.o
 abbrev pub acts_at : ℕ → ℕ → Moment → List Act
 acts_at node index m = if m.line.key.node == node then acts_between (port_at m.before node index).offered (port_at m.after node index) m.line else []
 
--- a packet is dropped for this reason; of one that a queue drops at a take the queue says why
+-- a packet is dropped for this reason; of one that a queue drops the queue says why
 abbrev pub is_for : DropReason → Act → Bool
-is_for Lost (Dropped link Lost packet) = true
-is_for Full (Dropped link Full packet) = true
-is_for (Take Codel) (Dropped link (Take Codel) packet) = true
-is_for reason act = false
+is_for reason (Tx link packet) = false
+is_for reason (Dropped link why packet) = is_reason why reason
 
 abbrev pub is_tx : Act → Bool
 is_tx (Tx link packet) = true
@@ -72,17 +69,30 @@ bytes_by (Dropped link reason packet) = 0
 abbrev pub bytes_in : List Act → ℕ
 bytes_in acts = sum_by bytes_by acts
 
+-- counts by reason, with one more for each packet that is dropped
+abbrev pub count_drop : List ℕ → Act → List ℕ
+count_drop counts (Tx link packet) = counts
+count_drop counts (Dropped link reason packet) = slice_set counts (reason_index reason) (slice_index counts (reason_index reason) + 1)
+
+abbrev pub with_drops : List ℕ → List Act → List ℕ
+with_drops counts acts = fold count_drop counts acts
+
 -- the only act is that a packet of so many bytes begins to be sent
 pub record IsSentAlone (acts : List Act) (bytes : ℕ) : Type 0 where
-  pub lost : dropped_in Lost acts ≡ 0
-  pub full : dropped_in Full acts ≡ 0
-  pub codel : dropped_in (Take Codel) acts ≡ 0
+  pub dropped : (counts : List ℕ) → with_drops counts acts ≡ counts
   pub sent : tx_in acts ≡ 1
   pub bytes_are : bytes_in acts ≡ bytes
   pub most : bytes ≤ 9040
 
 abbrev pub dropped_of : DropReason → ℕ → ℕ → List Moment → ℕ
 dropped_of reason node index ms = sum_by (λ m. dropped_in reason (acts_at node index m)) ms
+
+-- for each reason, in the order of tables; and for all of them
+abbrev pub drops_of : ℕ → ℕ → List Moment → List ℕ
+drops_of node index ms = map (λ reason. dropped_of reason node index ms) all_reasons
+
+abbrev pub all_dropped_of : ℕ → ℕ → List Moment → ℕ
+all_dropped_of node index ms = sum_by (λ reason. dropped_of reason node index ms) all_reasons
 
 abbrev pub tx_of : ℕ → ℕ → List Moment → ℕ
 tx_of node index ms = sum_by (λ m. tx_in (acts_at node index m)) ms
@@ -170,9 +180,7 @@ longest_of node index ms s = max (greatest (map (λ m. waiting_at (port_at m.bef
 
 -- what so many events count of a link at most
 pub record IsFew (n : ℕ) (f : LinkFigures) : Type 0 where
-  pub lost : f.lost ≤ n * 2 ^ 64
-  pub full : f.full ≤ n * 2 ^ 64
-  pub codel : f.codel ≤ n * 2 ^ 64
+  pub dropped : (i : ℕ) → slice_index f.dropped i ≤ n * 2 ^ 64
   pub bytes : f.bytes ≤ n * 9040
   pub waits : f.waits.count ≤ n
 
@@ -187,9 +195,7 @@ pub record IsLinkBegun (from : ℕ) (port : PortState) (f : LinkFigures) : Type 
   pub waiting : f.waiting ≡ waiting_at port
   pub busy : f.busy ≡ is_some port.next_free
   pub since : f.since ≡ from
-  pub lost : f.lost ≡ 0
-  pub full : f.full ≡ 0
-  pub codel : f.codel ≡ 0
+  pub dropped : f.dropped ≡ map (λ reason. 0) all_reasons
   pub bytes : f.bytes ≡ 0
   pub waited : waited_so_far f ≡ 0
   pub busy_for : f.busy_for ≡ 0
@@ -204,9 +210,7 @@ pub record AreOfLink (b : Base) (ms : List Moment) (s : State) (node index : ℕ
   pub waiting : f.waiting ≡ waiting_at (port_at s node index)
   pub busy : f.busy ≡ is_some (port_at s node index).next_free
   pub since : f.since ≤ last_from b.since ms
-  pub lost : f.lost ≡ dropped_of Lost node index ms
-  pub full : f.full ≡ dropped_of Full node index ms
-  pub codel : f.codel ≡ dropped_of (Take Codel) node index ms
+  pub dropped : f.dropped ≡ drops_of node index ms
   pub sent : f.waits.count ≡ tx_of node index ms
   pub bytes : f.bytes ≡ bytes_of_moments node index ms
   pub waited : waited_so_far f + f.waiting * (last_from b.since ms - f.since) ≡ waited_of node index b.since ms
@@ -227,18 +231,14 @@ pub record IsPassed (f : LinkFigures) (port : PortState) (now : ℕ) (g : LinkFi
   pub busy_for : g.busy_for ≡ f.busy_for + (if f.busy then now - f.since else 0)
   pub longest : g.longest ≡ max f.longest (waiting_at port)
   pub next_entry_is : IsNextEntry port g.next_entry
-  pub lost : g.lost ≡ f.lost
-  pub full : g.full ≡ f.full
-  pub codel : g.codel ≡ f.codel
+  pub dropped : g.dropped ≡ f.dropped
   pub bytes : g.bytes ≡ f.bytes
   pub waits : g.waits ≡ f.waits
 
 -- an event at its node with these acts at the link is counted, and no time
 pub record IsCountedOf (f : LinkFigures) (acts : List Act) (g : LinkFigures) : Type 0 where
   pub first : g.first ≡ f.first
-  pub lost : g.lost ≡ f.lost + dropped_in Lost acts
-  pub full : g.full ≡ f.full + dropped_in Full acts
-  pub codel : g.codel ≡ f.codel + dropped_in (Take Codel) acts
+  pub dropped : g.dropped ≡ with_drops f.dropped acts
   pub bytes : g.bytes ≡ f.bytes + bytes_in acts
   pub few : (n : ℕ) → IsFew n f → IsFew (n + 1) g
   pub offered : g.offered ≡ f.offered
@@ -258,9 +258,7 @@ pub record IsLinkCounted (f : LinkFigures) (port : PortState) (now : ℕ) (acts 
   pub waiting : g.waiting ≡ waiting_at port
   pub busy : g.busy ≡ is_some port.next_free
   pub since : g.since ≡ now
-  pub lost : g.lost ≡ f.lost + dropped_in Lost acts
-  pub full : g.full ≡ f.full + dropped_in Full acts
-  pub codel : g.codel ≡ f.codel + dropped_in (Take Codel) acts
+  pub dropped : g.dropped ≡ with_drops f.dropped acts
   pub sent : g.waits.count ≡ f.waits.count + tx_in acts
   pub bytes : g.bytes ≡ f.bytes + bytes_in acts
   pub waited : waited_so_far g ≡ waited_so_far f + f.waiting * (now - f.since)

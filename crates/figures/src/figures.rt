@@ -1,6 +1,7 @@
 //! The figures of a run, event by event.
 ghost use Rattle.std.specs.Prelude.{◌≡◌, ◌≢◌, ◌+◌, ◌<◌, ◌≤◌, ◌^◌, ◌++◌, ◌∷◌, [], ℕ, List, Some, None, Ok, Err, IfOk, IfErr, OnOk, OnErr, if◌then◌else◌, false, length, slice_index_or};
 ghost use Rattle.std.specs.Option.{option_map};
+ghost use Rattle.sim_time.specs.declared.limits.TheConstants.{MOST_EVENTS};
 ghost use Rattle.node_core.specs.Part.{sender_in};
 ghost use Rattle.net_machine.specs.Nodes.{node_at};
 ghost use Rattle.figures.specs.Moments.{cause_of as cause_is, arrived};
@@ -241,7 +242,7 @@ impl Figures {
     /// The net has run one more event, of which the line tells.
     #[inline(always)]
     pub(crate) fn after(&mut self, net: &Net, line: &Line)
-        requires few { self.old.events < 1000000000000000 }
+        requires few { self.old.events < MOST_EVENTS }
         requires moment { IsMoment line.now.key.time }
         requires order { self.old.last ≤ line.now.key.time }
         requires follows { Follows self.old (shown line.now) net.now.state }

@@ -1,9 +1,11 @@
 //! What is counted of a link.
 ghost use Rattle.std.specs.Prelude.{◌≡◌, ◌≢◌, ◌+◌, ◌-◌, ◌*◌, ◌<◌, ◌≤◌, ◌^◌, [], List, false, length, max, Some, None, if◌then◌else◌};
+ghost use Rattle.sim_time.specs.declared.limits.TheConstants.{MOST_EVENTS};
 
-use crate::reported::{frees, is_at, reported_by, sent_alone, wait_by};
+use crate::reported::{count_drops, frees, is_at, reported_by, sent_alone, wait_by};
 use crate::tally::Tally;
 use crate::waits::{next_entry, note_entry, waiting_at};
+use aqm::REASONS;
 use node_core::{Act, Line};
 use port::Port;
 use sim_time::Time;
@@ -39,12 +41,8 @@ pub struct LinkFigures {
     pub waited_before: u128,
     /// How many packets were offered to it before it was counted.
     pub first: u128,
-    /// How many packets were dropped, as the list of lost packets names them.
-    pub lost: u128,
-    /// How many packets were dropped as the queue was full.
-    pub full: u128,
-    /// How many packets CoDel dropped.
-    pub codel: u128,
+    /// How many packets were dropped, by the place of the reason among all.
+    pub dropped: [u128; REASONS],
     ghost waited_most: { waited_before + waited ≤ since * 2 ^ 64 },
     ghost busy_most: { busy_for ≤ since },
 }
@@ -131,30 +129,26 @@ impl LinkFigures {
             waits: Tally::new(alloc),
             waited_before: 0,
             first: port.offered(),
-            lost: 0,
-            full: 0,
-            codel: 0,
+            dropped: [0; REASONS],
         }
     }
 
     // One more event was run at its node, with these acts at it; answers how many packets began to be sent.
     fn count(&mut self, acts: &[Act]) -> u64
-        requires few { IsFew 1000000000000000 self.old }
+        requires few { IsFew MOST_EVENTS self.old }
         requires one { tx_in acts.now ≤ 1 }
         ensures sent { result ≡ tx_in acts.now }
         ensures counted { IsCountedOf self.old acts.now self.new }
     {
         let reported = reported_by(acts);
-        self.lost += u128::from(reported.lost);
-        self.full += u128::from(reported.full);
-        self.codel += u128::from(reported.codel);
+        count_drops(&mut self.dropped, acts);
         self.bytes += reported.bytes as u64;
         reported.sent
     }
 
     // One more event was run at its node, of which the line tells.
     fn count_at(&mut self, port: &Port, line: &Line) -> u64
-        requires few { IsFew 1000000000000000 self.old }
+        requires few { IsFew MOST_EVENTS self.old }
         requires one { tx_in (acts_between self.old.offered port.now (shown line.now)) ≤ 1 }
         ensures sent { result ≡ tx_in (acts_between self.old.offered port.now (shown line.now)) }
         ensures counted { IsCountedOf self.old (acts_between self.old.offered port.now (shown line.now)) self.new }
@@ -204,7 +198,7 @@ impl LinkFigures {
     // at it.
     #[inline(always)]
     fn count_sent(&mut self, port: &Port, now: Time, bytes: u64, wait: Time)
-        requires few { IsFew 1000000000000000 self.old }
+        requires few { IsFew MOST_EVENTS self.old }
         requires moment { IsMoment now }
         requires order { self.old.since ≤ now }
         requires offered { port.now.offered ≡ self.old.offered }
@@ -221,7 +215,7 @@ impl LinkFigures {
     // The same, where the packet is sent as it was offered.
     #[inline(always)]
     fn count_at_once(&mut self, port: &Port, now: Time, bytes: u64)
-        requires few { IsFew 1000000000000000 self.old }
+        requires few { IsFew MOST_EVENTS self.old }
         requires moment { IsMoment now }
         requires order { self.old.since ≤ now }
         requires bytes { bytes ≤ 9040 }
@@ -237,7 +231,7 @@ impl LinkFigures {
     #[cold]
     #[inline(never)]
     pub fn after(&mut self, port: &Port, line: &Line)
-        requires few { IsFew 1000000000000000 self.old }
+        requires few { IsFew MOST_EVENTS self.old }
         requires moment { IsMoment line.now.key.time }
         requires order { self.old.since ≤ line.now.key.time }
         requires one { tx_in (acts_between self.old.offered port.now (shown line.now)) ≤ 1 }
@@ -254,7 +248,7 @@ impl LinkFigures {
     /// begins to be sent.
     #[inline(never)]
     pub fn after_free(&mut self, port: &Port, line: &Line)
-        requires few { IsFew 1000000000000000 self.old }
+        requires few { IsFew MOST_EVENTS self.old }
         requires moment { IsMoment line.now.key.time }
         requires order { self.old.since ≤ line.now.key.time }
         requires offered { port.now.offered ≡ self.old.offered }
@@ -281,7 +275,7 @@ impl LinkFigures {
     /// The same where the event frees no link and has offered packets to this one.
     #[inline(never)]
     pub fn after_offers(&mut self, port: &Port, line: &Line)
-        requires few { IsFew 1000000000000000 self.old }
+        requires few { IsFew MOST_EVENTS self.old }
         requires moment { IsMoment line.now.key.time }
         requires order { self.old.since ≤ line.now.key.time }
         requires other { is_free line.now.event ≡ false }

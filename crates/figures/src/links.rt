@@ -1,6 +1,7 @@
 //! What is counted of the links that leave a node.
 ghost use Rattle.std.specs.Prelude.{◌≡◌, ◌≢◌, ◌<◌, ◌≤◌, ◌-◌, ◌==◌, ℕ, true, false, length, slice_index_or, IfOk};
 ghost use Rattle.sim_time.specs.Moment.{IsMoment};
+ghost use Rattle.sim_time.specs.declared.limits.TheConstants.{MOST_EVENTS};
 ghost use Rattle.node_core.specs.Part.{link_at};
 ghost use Rattle.node_core.specs.TraceLine.{shown};
 ghost use Rattle.net_machine.specs.Nodes.{node_at};
@@ -49,7 +50,7 @@ pub(crate) fn is_free(event: &Event) -> bool
 #[inline(always)]
 fn freed_after(figures: &mut [LinkFigures], links: &[Link], line: &Line)
     requires size { length figures.old ≡ length links.now }
-    requires few { (i : ℕ) (other : LinkFigures) → i < length figures.old → IsFew 1000000000000000 (slice_index_or figures.old i other) }
+    requires few { (i : ℕ) (other : LinkFigures) → i < length figures.old → IsFew MOST_EVENTS (slice_index_or figures.old i other) }
     requires moment { IsMoment line.now.key.time }
     requires order { (i : ℕ) (other : LinkFigures) → i < length figures.old → (slice_index_or figures.old i other).since ≤ line.now.key.time }
     requires sends { AllFreedOrOffered figures.old links.now (shown line.now) }
@@ -140,7 +141,7 @@ impl NodeLinks {
     #[inline(always)]
     fn after_offers(&mut self, links: &[Link], line: &Line)
         requires size { length self.old.figures.items ≡ length links.now }
-        requires few { (i : ℕ) (other : LinkFigures) → i < length self.old.figures.items → IsFew 1000000000000000 (slice_index_or self.old.figures.items i other) }
+        requires few { (i : ℕ) (other : LinkFigures) → i < length self.old.figures.items → IsFew MOST_EVENTS (slice_index_or self.old.figures.items i other) }
         requires moment { IsMoment line.now.key.time }
         requires order { (i : ℕ) (other : LinkFigures) → i < length self.old.figures.items → (slice_index_or self.old.figures.items i other).since ≤ line.now.key.time }
         requires sends { AllFreedOrOffered self.old.figures.items links.now (shown line.now) }
@@ -160,7 +161,7 @@ impl NodeLinks {
     #[inline(always)]
     pub(crate) fn after(&mut self, links: &[Link], line: &Line)
         requires size { length self.old.figures.items ≡ length links.now }
-        requires few { (i : ℕ) (other : LinkFigures) → i < length self.old.figures.items → IsFew 1000000000000000 (slice_index_or self.old.figures.items i other) }
+        requires few { (i : ℕ) (other : LinkFigures) → i < length self.old.figures.items → IsFew MOST_EVENTS (slice_index_or self.old.figures.items i other) }
         requires moment { IsMoment line.now.key.time }
         requires order { (i : ℕ) (other : LinkFigures) → i < length self.old.figures.items → (slice_index_or self.old.figures.items i other).since ≤ line.now.key.time }
         requires sends { AllFreedOrOffered self.old.figures.items links.now (shown line.now) }
@@ -181,7 +182,7 @@ impl NodeLinks {
 pub fn count_links(all: &mut Vec<NodeLinks>, nodes: &[Node], line: &Line)
     requires size { length all.old.items ≡ length nodes.now }
     requires sizes { (node : ℕ) (other : NodeLinks) → node < length all.old.items → length (slice_index_or all.old.items node other).figures.items ≡ length (node_at nodes.now node).part.links }
-    requires few { (node : ℕ) (other : NodeLinks) (i : ℕ) (link : LinkFigures) → node < length all.old.items → i < length (slice_index_or all.old.items node other).figures.items → IsFew 1000000000000000 (slice_index_or (slice_index_or all.old.items node other).figures.items i link) }
+    requires few { (node : ℕ) (other : NodeLinks) (i : ℕ) (link : LinkFigures) → node < length all.old.items → i < length (slice_index_or all.old.items node other).figures.items → IsFew MOST_EVENTS (slice_index_or (slice_index_or all.old.items node other).figures.items i link) }
     requires moment { IsMoment line.now.key.time }
     requires order { (node : ℕ) (other : NodeLinks) (i : ℕ) (link : LinkFigures) → node < length all.old.items → i < length (slice_index_or all.old.items node other).figures.items → (slice_index_or (slice_index_or all.old.items node other).figures.items i link).since ≤ line.now.key.time }
     requires one { free_is line.now.event ≡ false → (other : NodeLinks) → line.now.key.node < length all.old.items → OffersToOne (slice_index_or all.old.items line.now.key.node other).figures.items (node_at nodes.now line.now.key.node).part.links }

@@ -1,23 +1,16 @@
 //! What an event's acts tell of a link.
-ghost use Rattle.std.specs.Prelude.{◌≡◌, ◌*◌, ◌≤◌, ℕ, [], if◌then◌else◌, IfSome, length, option_to_list};
-ghost use Rattle.aqm.specs.declared.drop_reason.DropReason.TheVariants.{Lost, Full, Take};
-ghost use Rattle.aqm.specs.declared.drop_reason.TakeDrop.TheVariants.{Codel};
+ghost use Rattle.std.specs.Prelude.{◌≡◌, ◌+◌, ◌*◌, ◌^◌, ◌≤◌, ◌<◌, ℕ, [], slice_index, if◌then◌else◌, IfSome, length, option_to_list};
 ghost use Rattle.node_core.specs.TraceLine.{shown};
-ghost use Rattle.figures.specs.Links.{frees as frees_is, acts_between, dropped_in, tx_in, bytes_in, wait_by as wait_is, IsSentAlone};
+ghost use Rattle.figures.specs.Links.{frees as frees_is, acts_between, with_drops, tx_in, bytes_in, wait_by as wait_is, IsSentAlone};
 
-use node_core::{Act, DropReason, Event, Line, TakeDrop};
+use aqm::REASONS;
+use node_core::{Act, Event, Line};
 use port::Port;
 use sim_time::Time;
 
-/// What the acts at a link tell of it.
+/// What the acts at a link tell of what it sends.
 #[derive(Clone, Copy, Debug, PartialEq, Eq)]
 pub struct Reported {
-    /// How many packets were dropped, as the list of lost packets names them.
-    pub lost: u64,
-    /// How many packets were dropped as the queue was full.
-    pub full: u64,
-    /// How many packets CoDel dropped, where a queue gave it as its reason at a take.
-    pub codel: u64,
     /// How many packets began to be sent.
     pub sent: u64,
     /// The bytes of the packets that began to be sent.
@@ -26,32 +19,34 @@ pub struct Reported {
 
 /// What some acts tell of the link that they are at.
 pub fn reported_by(acts: &[Act]) -> Reported
-    ensures lost { result.lost ≡ dropped_in Lost acts.now }
-    ensures full { result.full ≡ dropped_in Full acts.now }
-    ensures codel { result.codel ≡ dropped_in (Take Codel) acts.now }
     ensures sent { result.sent ≡ tx_in acts.now }
     ensures bytes { result.bytes ≡ bytes_in acts.now }
     ensures most { result.bytes ≤ result.sent * 9040 }
 {
-    let mut reported = Reported {
-        lost: 0,
-        full: 0,
-        codel: 0,
-        sent: 0,
-        bytes: 0,
-    };
+    let mut reported = Reported { sent: 0, bytes: 0 };
     for act in acts {
         match act {
             Act::Tx(_, packet) => {
                 reported.sent += 1;
                 reported.bytes += u128::from(packet.bytes.get());
             }
-            Act::Dropped(_, DropReason::Lost, _) => reported.lost += 1,
-            Act::Dropped(_, DropReason::Full, _) => reported.full += 1,
-            Act::Dropped(_, DropReason::Take(TakeDrop::Codel), _) => reported.codel += 1,
+            Act::Dropped(_, _, _) => {}
         }
     }
     reported
+}
+
+/// Counts each packet that acts tell to be dropped, by its reason.
+pub fn count_drops(counts: &mut [u128; REASONS], acts: &[Act])
+    requires few { (i : ℕ) → slice_index counts.old i ≤ 2 ^ 127 }
+    ensures value { counts.new ≡ with_drops counts.old acts.now }
+    ensures most { (i : ℕ) → slice_index counts.new i ≤ slice_index counts.old i + 2 ^ 64 }
+{
+    for act in acts {
+        if let Act::Dropped(_, reason, _) = act {
+            counts[reason.index()] += 1;
+        }
+    }
 }
 
 /// Whether an event is that the link of a number has sent a packet whole.

@@ -7,10 +7,7 @@ ghost use Rattle.figures.specs.Links.{waiting_at as waiting_is, IsNextEntry};
 
 use aqm::Queue;
 use port::Port;
-use sim_time::Time;
-
-/// The last moment at which a simulation can end, in nanoseconds.
-const LAST_MOMENT: Time = 1_000_000_000_000_000;
+use sim_time::{LATEST_END, Time};
 
 /// How many packets wait at a link, whose queue has room for 65,535 at most.
 #[inline(always)]
@@ -38,7 +35,7 @@ fn entry_behind_drops(port: &Port) -> Time
     ensures { IsNextEntry port.now result }
 {
     match port.next_free() {
-        Some(free) if free <= LAST_MOMENT => entry_by_wait(port.queue(), free),
+        Some(free) if free <= LATEST_END => entry_by_wait(port.queue(), free),
         _ => 0,
     }
 }

@@ -4,12 +4,13 @@ use Rattle.std.specs.List.{count_by, enumerate_from, AllByRecursion}
 use Rattle.std.proofs.lemmas.List.{length-map, get_or-map}
 use Rattle.std.proofs.lemmas.List.FromFn.{get_or-enumerate_from, length-enumerate_from}
 use Rattle.std.proofs.lemmas.Option.{slice_get-get_or}
+use Rattle.sim_time.specs.declared.limits.TheConstants.{LATEST_END}
 use Rattle.reno_sender.specs.declared.fields.SenderFields.{SenderFields}
 use Rattle.scenario_image.specs.declared.parts.FlowPart.{FlowPart}
 use Rattle.scenario_image.specs.declared.parts.LinkPart.{LinkPart}
 use Rattle.scenario_image.specs.declared.parts.ScenarioParts.{ScenarioParts}
 use Rattle.scenario_image.specs.Scenario.{IsScenario}
-use Rattle.sim_time.specs.declared.variant.Iw.TheVariants.{Iw3}
+use Rattle.sim_time.specs.declared.variant.TheConstants.{RENO}
 use Rattle.node_core.specs.declared.role.Role.TheVariants.{Sends}
 use Rattle.node_core.specs.Initial.{leaving_links, initial_link}
 use Rattle.node_core.specs.Part.{PartState, LinkState}
@@ -108,7 +109,7 @@ module _ (p : ScenarioParts) (b : Base) (f : Figures) (r : Reached) (is_scenario
       subst (λ n. n ≤ p.end) (sym of.last)
       (last_by b.since p.end of.counted of.base.in_time (lines_by of.count b.state r.state of.counted p.end (run_end b.before (initial p) b.state of.base.lines of.base.comes) of.goes_on))
 
-  pub end_most : p.end ≤ 1000000000000000
+  pub end_most : p.end ≤ LATEST_END
   end_most = let most = is_scenario.in_limits.end_range.1 in omega (arith, most)
 
   pub flow_counted : (i : ℕ) (d : FlowPart) → i < length p.flows → IsCounted b events f (get_or p.flows i d)
@@ -134,7 +135,7 @@ module _ (p : ScenarioParts) (b : Base) (f : Figures) (r : Reached) (is_scenario
 
 -- what stands where there is no flow
 abbrev pub no_flow_part : FlowPart
-no_flow_part = record { sender = 0; receiver = 0; mss = 0; segments = 0; start = 0; rwnd = 0; delack = 0; variant = record { newreno = false; iw = Iw3 } }
+no_flow_part = record { sender = 0; receiver = 0; mss = 0; segments = 0; start = 0; rwnd = 0; delack = 0; variant = RENO }
 
 -- what is said of them, one by one
 module _ (p : ScenarioParts) (b : Base) (ms : List Moment) (s : State) where

@@ -2,14 +2,14 @@
 use Rattle.std.specs.Prelude.{ℕ, List, [], ◌∷◌, ◌++◌, codes, decimal, Option}
 use Rattle.std.specs.List.{flat_map, enumerate_from}
 use Rattle.std.specs.Option.{option_map}
-use Rattle.figures_text.specs.declared.figure.Figure.TheVariants.{Delivered, SentSegments, AgainInRecovery, AgainOtherwise, Timeouts, Cwnd, InFlight, Lost, Full, Codel, SentPackets, SentBytes, Busy, GreatestQueue, Waited, MedianDelay}
+use Rattle.figures_text.specs.declared.figure.Figure.TheVariants.{Delivered, SentSegments, AgainInRecovery, AgainOtherwise, Timeouts, Cwnd, InFlight, SentPackets, SentBytes, Busy, GreatestQueue, Waited, MedianDelay}
 use Rattle.figures_text.specs.declared.row.Row.{Row}
 use Rattle.figures_text.specs.declared.step.FlowStep.{FlowStep}
 use Rattle.figures_text.specs.declared.step.SenderWindow.{SenderWindow}
 use Rattle.figures_text.specs.declared.subject.Subject.{Subject}
 use Rattle.figures_text.specs.declared.subject.Subject.TheVariants.{Flow, Link}
 use Rattle.figures_text.specs.declared.summary.LinkSummary.{LinkSummary}
-use Rattle.figures_text.specs.Table.{TextNames, heading, always_counted, or_none, row_line}
+use Rattle.figures_text.specs.Table.{TextNames, heading, always_counted, or_none, drop_rows, row_line}
 
 -- the first line
 abbrev pub series_heading : Option TextNames → List ℕ
@@ -34,16 +34,17 @@ flow_step_rows step =
     ∷ or_none InFlight (option_map (λ (window : SenderWindow). window.in_flight) step.window)
     ∷ []
 
--- what is said of a link
-abbrev pub link_step_rows : LinkSummary → List Row
-link_step_rows link =
+-- what is said of a link before the packets that were dropped, and behind them
+abbrev pub sent_step_rows : LinkSummary → List Row
+sent_step_rows link =
     always_counted Busy link.busy
     ∷ always_counted SentPackets link.sent
     ∷ always_counted SentBytes link.bytes
-    ∷ always_counted Lost link.lost
-    ∷ always_counted Full link.full
-    ∷ always_counted Codel link.codel
-    ∷ always_counted Waited link.waited
+    ∷ []
+
+abbrev pub queue_step_rows : LinkSummary → List Row
+queue_step_rows link =
+    always_counted Waited link.waited
     ∷ always_counted GreatestQueue link.longest
     ∷ or_none MedianDelay link.median
     ∷ []
@@ -52,7 +53,9 @@ abbrev pub flow_step_lines : ℕ → Option TextNames → ℕ × FlowStep → Li
 flow_step_lines begin column numbered = timed_rows begin column (Flow numbered.0) (flow_step_rows numbered.1)
 
 abbrev pub link_step_lines : ℕ → Option TextNames → ℕ × LinkSummary → List ℕ
-link_step_lines begin column numbered = timed_rows begin column (Link numbered.0) (link_step_rows numbered.1)
+link_step_lines begin column numbered =
+    timed_rows begin column (Link numbered.0) (sent_step_rows numbered.1)
+    ++ (timed_rows begin column (Link numbered.0) (drop_rows numbered.1.dropped) ++ timed_rows begin column (Link numbered.0) (queue_step_rows numbered.1))
 
 -- of each flow, and of each link, by number from 0 on
 abbrev pub step_rows : ℕ → Option TextNames → List FlowStep → List LinkSummary → List ℕ

@@ -2,6 +2,7 @@
 use Rattle.std.specs.Prelude.{◌≡◌, ◌≢◌, ◌⊎◌, ◌<◌, ◌≤◌, ◌+◌, ℕ, zero, suc, min, nat_lt, Bool, true, if◌then◌else◌, is_some, List, [], ◌++◌, length, map, slice_index_or, Option, Some, None}
 use Rattle.std.specs.List.{AllByRecursion, concat, list_any}
 use Rattle.std.specs.Option.{option_map}
+use Rattle.sim_time.specs.declared.limits.TheConstants.{MOST_EVENTS}
 use Rattle.reno_sender.specs.declared.fields.SenderFields.{SenderFields}
 use Rattle.reno_sender.specs.Fields.{flight_size}
 use Rattle.scenario_image.specs.declared.parts.FlowPart.{FlowPart}
@@ -68,7 +69,7 @@ sends_any s = list_any sends_from s.parts
 -- a scenario's run has come to a moment: the events before it were run, and no other; all events are at most 10^15
 pub record HasComeTo (p : ScenarioParts) (moment : ℕ) (s : State) : Type 0 where
   pub n : ℕ
-  pub few : n ≤ 1000000000000000
+  pub few : n ≤ MOST_EVENTS
   pub lines : List TraceLine
   pub comes : ComesTo p n lines s
   pub early : AllByRecursion (λ (line : TraceLine). line.key.time < moment) lines

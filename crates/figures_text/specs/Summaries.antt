@@ -1,8 +1,7 @@
 -- What the table says of a run: over its events, and its last state.
 use Rattle.std.specs.Prelude.{◌≡◌, ℕ, ◌+◌, ◌-◌, ◌*◌, ◌<◌, ◌≤◌, min, List, [], ◌∷◌, ◌++◌, length, map, Option, Some, None}
 use Rattle.std.specs.List.{enumerate_from, AllByRecursion}
-use Rattle.aqm.specs.declared.drop_reason.DropReason.TheVariants.{Lost, Full, Take}
-use Rattle.aqm.specs.declared.drop_reason.TakeDrop.TheVariants.{Codel}
+use Rattle.sim_time.specs.declared.limits.TheConstants.{MOST_EVENTS}
 use Rattle.scenario_image.specs.declared.parts.FlowPart.{FlowPart}
 use Rattle.scenario_image.specs.declared.parts.LinkPart.{LinkPart}
 use Rattle.scenario_image.specs.declared.parts.ScenarioParts.{ScenarioParts}
@@ -15,7 +14,7 @@ use Rattle.figures.specs.Turns.{Turn}
 use Rattle.figures.specs.Senders.{sent_of_turns, again_in_recovery_of, again_otherwise_of, timeouts_of, trips_of, completed_of}
 use Rattle.figures.specs.Moments.{Moment, Base, moments, turns_at}
 use Rattle.figures.specs.Figures.{IsBase, NoneBefore}
-use Rattle.figures.specs.Links.{port_at, waiting_at, busy_at, dropped_of, tx_of, bytes_of_moments, waited_of, busy_of, longest_of, waits_of, last_from}
+use Rattle.figures.specs.Links.{port_at, waiting_at, busy_at, drops_of, tx_of, bytes_of_moments, waited_of, busy_of, longest_of, waits_of, last_from}
 use Rattle.figures_text.specs.declared.summary.FlowSummary.{FlowSummary}
 use Rattle.figures_text.specs.declared.summary.LinkSummary.{LinkSummary}
 use Rattle.figures_text.specs.declared.summary.RunSummary.{RunSummary}
@@ -46,9 +45,7 @@ flow_summary b ms s flow = summary_of_turns flow.start (received_next s flow - r
 abbrev pub summary_of_exit : ℕ → ℕ → ℕ → Base → List Moment → State → LinkSummary
 summary_of_exit node index end b ms s = record {
   offered = (port_at s node index).offered - (port_at b.state node index).offered;
-  lost = dropped_of Lost node index ms;
-  full = dropped_of Full node index ms;
-  codel = dropped_of (Take Codel) node index ms;
+  dropped = drops_of node index ms;
   sent = tx_of node index ms;
   bytes = bytes_of_moments node index ms;
   busy = busy_of node index b.since ms + busy_at (port_at s node index) * (end - last_from b.since ms);
@@ -94,7 +91,7 @@ pub record IsTableFrom (column : Option TextNames) (p : ScenarioParts) (from : �
   pub base : Base
   pub counted : IsCountedFrom p from base
   pub n : ℕ
-  pub few : base.before + n ≤ 1000000000000000
+  pub few : base.before + n ≤ MOST_EVENTS
   pub lines : List TraceLine
   pub last : State
   pub is_run : run base.state n ≡ Some (lines, last)

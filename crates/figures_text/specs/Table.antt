@@ -1,8 +1,10 @@
 -- The table of a run's figures: what,number,figure,unit,value, and a last column with names where it is wished.
-use Rattle.std.specs.Prelude.{ℕ, List, [], ◌∷◌, ◌++◌, codes, decimal, slice_index_or, Option, None, Some}
+use Rattle.std.specs.Prelude.{ℕ, List, [], ◌∷◌, ◌++◌, codes, decimal, map, slice_index, slice_index_or, Option, None, Some}
 use Rattle.std.specs.List.{flat_map, enumerate_from}
+use Rattle.aqm.specs.declared.drop_reason.DropReason.{DropReason}
+use Rattle.aqm.specs.DropReasons.{all_reasons, reason_index, count_name}
 use Rattle.figures_text.specs.declared.figure.Figure.{Figure}
-use Rattle.figures_text.specs.declared.figure.Figure.TheVariants.{Start, Delivered, Completed, SentSegments, AgainInRecovery, AgainOtherwise, Timeouts, Cwnd, InFlight, RoundTrips, LeastTrip, MedianTrip, HighTrip, HighestTrip, GreatestTrip, Offered, Lost, Full, Codel, SentPackets, SentBytes, Busy, GreatestQueue, Waited, MedianDelay, HighDelay, HighestDelay, GreatestDelay, Events, End}
+use Rattle.figures_text.specs.declared.figure.Figure.TheVariants.{Start, Delivered, Completed, SentSegments, AgainInRecovery, AgainOtherwise, Timeouts, Cwnd, InFlight, RoundTrips, LeastTrip, MedianTrip, HighTrip, HighestTrip, GreatestTrip, Offered, Dropped, SentPackets, SentBytes, Busy, GreatestQueue, Waited, MedianDelay, HighDelay, HighestDelay, GreatestDelay, Events, End}
 use Rattle.figures_text.specs.declared.row.Row.{Row}
 use Rattle.figures_text.specs.declared.subject.Subject.{Subject}
 use Rattle.figures_text.specs.declared.subject.Subject.TheVariants.{Flow, Link, Run}
@@ -49,38 +51,71 @@ abbrev pub value_text : Option ℕ → List ℕ
 value_text None = codes "-"
 value_text (Some n) = decimal n
 
--- its name and its unit, between commas
+-- its name
+abbrev pub figure_name : Figure → List ℕ
+figure_name Start = codes "start"
+figure_name Delivered = codes "delivered"
+figure_name Completed = codes "completed"
+figure_name SentSegments = codes "sent"
+figure_name AgainInRecovery = codes "sent again by fast retransmit"
+figure_name AgainOtherwise = codes "sent again by timeout"
+figure_name Timeouts = codes "timeouts"
+figure_name Cwnd = codes "cwnd"
+figure_name InFlight = codes "in flight"
+figure_name RoundTrips = codes "round trips"
+figure_name LeastTrip = codes "least round trip"
+figure_name MedianTrip = codes "median round trip"
+figure_name HighTrip = codes "95th percentile of round trips"
+figure_name HighestTrip = codes "99th percentile of round trips"
+figure_name GreatestTrip = codes "greatest round trip"
+figure_name Offered = codes "offered"
+figure_name (Dropped reason) = count_name reason
+figure_name SentPackets = codes "sent packets"
+figure_name SentBytes = codes "sent bytes"
+figure_name Busy = codes "busy"
+figure_name GreatestQueue = codes "greatest queue"
+figure_name Waited = codes "waited"
+figure_name MedianDelay = codes "median delay in the queue"
+figure_name HighDelay = codes "95th percentile of delay in the queue"
+figure_name HighestDelay = codes "99th percentile of delay in the queue"
+figure_name GreatestDelay = codes "greatest delay in the queue"
+figure_name Events = codes "events"
+figure_name End = codes "end"
+
+-- its unit
+abbrev pub figure_unit : Figure → List ℕ
+figure_unit Start = codes "ns"
+figure_unit Delivered = codes "bytes"
+figure_unit Completed = codes "ns"
+figure_unit SentSegments = codes "segments"
+figure_unit AgainInRecovery = codes "segments"
+figure_unit AgainOtherwise = codes "segments"
+figure_unit Timeouts = codes "times"
+figure_unit Cwnd = codes "bytes"
+figure_unit InFlight = codes "bytes"
+figure_unit RoundTrips = codes "times"
+figure_unit LeastTrip = codes "ns"
+figure_unit MedianTrip = codes "ns"
+figure_unit HighTrip = codes "ns"
+figure_unit HighestTrip = codes "ns"
+figure_unit GreatestTrip = codes "ns"
+figure_unit Offered = codes "packets"
+figure_unit (Dropped reason) = codes "packets"
+figure_unit SentPackets = codes "packets"
+figure_unit SentBytes = codes "bytes"
+figure_unit Busy = codes "ns"
+figure_unit GreatestQueue = codes "packets"
+figure_unit Waited = codes "packet-ns"
+figure_unit MedianDelay = codes "ns"
+figure_unit HighDelay = codes "ns"
+figure_unit HighestDelay = codes "ns"
+figure_unit GreatestDelay = codes "ns"
+figure_unit Events = codes "events"
+figure_unit End = codes "ns"
+
+-- both between commas
 abbrev pub figure_text : Figure → List ℕ
-figure_text Start = codes ",start,ns,"
-figure_text Delivered = codes ",delivered,bytes,"
-figure_text Completed = codes ",completed,ns,"
-figure_text SentSegments = codes ",sent,segments,"
-figure_text AgainInRecovery = codes ",sent again by fast retransmit,segments,"
-figure_text AgainOtherwise = codes ",sent again by timeout,segments,"
-figure_text Timeouts = codes ",timeouts,times,"
-figure_text Cwnd = codes ",cwnd,bytes,"
-figure_text InFlight = codes ",in flight,bytes,"
-figure_text RoundTrips = codes ",round trips,times,"
-figure_text LeastTrip = codes ",least round trip,ns,"
-figure_text MedianTrip = codes ",median round trip,ns,"
-figure_text HighTrip = codes ",95th percentile of round trips,ns,"
-figure_text HighestTrip = codes ",99th percentile of round trips,ns,"
-figure_text GreatestTrip = codes ",greatest round trip,ns,"
-figure_text Offered = codes ",offered,packets,"
-figure_text Lost = codes ",dropped as lost,packets,"
-figure_text Full = codes ",dropped as full,packets,"
-figure_text Codel = codes ",dropped by CoDel,packets,"
-figure_text SentPackets = codes ",sent packets,packets,"
-figure_text SentBytes = codes ",sent bytes,bytes,"
-figure_text Busy = codes ",busy,ns,"
-figure_text GreatestQueue = codes ",greatest queue,packets,"
-figure_text Waited = codes ",waited,packet-ns,"
-figure_text MedianDelay = codes ",median delay in the queue,ns,"
-figure_text HighDelay = codes ",95th percentile of delay in the queue,ns,"
-figure_text HighestDelay = codes ",99th percentile of delay in the queue,ns,"
-figure_text GreatestDelay = codes ",greatest delay in the queue,ns,"
-figure_text Events = codes ",events,events,"
-figure_text End = codes ",end,ns,"
+figure_text figure = codes "," ++ figure_name figure ++ codes "," ++ figure_unit figure ++ codes ","
 
 -- what stands at the end of a line: the value, and the name
 abbrev pub last_text : Option TextNames → Subject → Option ℕ → List ℕ
@@ -120,14 +155,14 @@ flow_rows flow =
     ∷ or_none GreatestTrip flow.greatest
     ∷ []
 
--- what is said of a link
+-- how many packets were dropped, for each reason
+abbrev pub drop_rows : List ℕ → List Row
+drop_rows counts = map (λ (reason : DropReason). always_counted (Dropped reason) (slice_index counts (reason_index reason))) all_reasons
+
+-- what is said of a link behind that
 abbrev pub link_rows : LinkSummary → List Row
 link_rows link =
-    always_counted Offered link.offered
-    ∷ always_counted Lost link.lost
-    ∷ always_counted Full link.full
-    ∷ always_counted Codel link.codel
-    ∷ always_counted SentPackets link.sent
+    always_counted SentPackets link.sent
     ∷ always_counted SentBytes link.bytes
     ∷ always_counted Busy link.busy
     ∷ always_counted GreatestQueue link.longest
@@ -146,9 +181,11 @@ run_rows run = always_counted Events run.events ∷ or_none End run.end ∷ []
 abbrev pub flow_lines : Option TextNames → ℕ × FlowSummary → List ℕ
 flow_lines column numbered = rows_text column (Flow numbered.0) (flow_rows numbered.1)
 
--- the lines of a link, with its number
+-- the lines of a link, with its number: what was offered to it, what was dropped of that, and the rest
 abbrev pub link_lines : Option TextNames → ℕ × LinkSummary → List ℕ
-link_lines column numbered = rows_text column (Link numbered.0) (link_rows numbered.1)
+link_lines column numbered =
+    row_line column (Link numbered.0) (always_counted Offered numbered.1.offered)
+    ++ (rows_text column (Link numbered.0) (drop_rows numbered.1.dropped) ++ rows_text column (Link numbered.0) (link_rows numbered.1))
 
 -- each link, by number from 0 on, and the run
 abbrev pub ending_of : Option TextNames → List LinkSummary → RunSummary → List ℕ

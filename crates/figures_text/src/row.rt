@@ -3,7 +3,7 @@ ghost use Rattle.std.specs.Prelude.{◌≡◌, ◌++◌, OnOk};
 ghost use Rattle.figures_text.specs.Table.{value_text, last_text, row_line, rows_text};
 
 use crate::column::NameColumn;
-use crate::figure::{Figure, figure_text};
+use crate::figure::{Figure, append_figure};
 use crate::subject::{Subject, append_subject};
 use itoa::Buffer;
 use std::alloc::AllocError;
@@ -42,7 +42,7 @@ pub(crate) fn append_row(
     ensures { OnOk result (text.new.items ≡ text.old.items ++ row_line column.now subject row.now) }
 {
     append_subject(subject, text)?;
-    text.extend_from_slice(figure_text(row.figure))?;
+    append_figure(row.figure, text)?;
     append_last(column, subject, row.value, text)
 }
 

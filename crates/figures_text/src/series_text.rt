@@ -1,7 +1,8 @@
 //! The rows of a run by time, as comma-separated values.
 ghost use Rattle.std.specs.Prelude.{◌≡◌, ◌++◌, codes, decimal, OnOk};
 ghost use Rattle.std.specs.List.{flat_map, enumerate_from};
-ghost use Rattle.figures_text.specs.SeriesText.{series_heading, timed_line, timed_rows, flow_step_rows, link_step_rows, flow_step_lines, link_step_lines, step_rows};
+ghost use Rattle.figures_text.specs.SeriesText.{series_heading, timed_line, timed_rows, flow_step_rows, sent_step_rows, queue_step_rows, flow_step_lines, link_step_lines, step_rows};
+ghost use Rattle.figures_text.specs.Table.{drop_rows};
 
 use crate::column::NameColumn;
 use crate::figure::Figure;
@@ -9,7 +10,8 @@ use crate::row::{Row, append_row};
 use crate::step::FlowStep;
 use crate::subject::Subject;
 use crate::summary::LinkSummary;
-use crate::table::{append_heading, counted, or_none};
+use crate::table::{append_heading, counted, drop_row, or_none};
+use aqm::{DropReason, REASONS};
 use itoa::Buffer;
 use std::alloc::AllocError;
 
@@ -17,7 +19,7 @@ use std::alloc::AllocError;
 pub const FLOW_ROWS: u64 = 7;
 
 /// How many rows a step has of each link.
-pub const LINK_ROWS: u64 = 9;
+pub const LINK_ROWS: u64 = 6 + REASONS as u64;
 
 /// Appends the first line. After an `Err` a part of it may stand there.
 pub fn append_series_heading(column: &NameColumn, text: &mut Vec<u8>) -> Result<(), AllocError>
@@ -89,17 +91,39 @@ fn flow_step_rows(step: &FlowStep) -> [Row; 7]
     ]
 }
 
-/// What the rows of a step say of a link.
-fn link_step_rows(link: &LinkSummary) -> [Row; 9]
-    ensures { result ≡ link_step_rows link.now }
+/// Appends a line for each reason for which packets are dropped. After an `Err` a part of them may stand there.
+fn append_timed_drops(
+    begin: u64,
+    column: &NameColumn,
+    subject: Subject,
+    counts: &[u128; REASONS],
+    text: &mut Vec<u8>,
+) -> Result<(), AllocError>
+    ensures { OnOk result (text.new.items ≡ text.old.items ++ timed_rows begin column.now subject (drop_rows counts.now)) }
+{
+    let reasons = DropReason::all();
+    for reason in reasons {
+        append_timed(begin, column, subject, &drop_row(*reason, counts), text)?;
+    }
+    Ok(())
+}
+
+/// What the rows of a step say of a link before the packets that were dropped.
+fn sent_step_rows(link: &LinkSummary) -> [Row; 3]
+    ensures { result ≡ sent_step_rows link.now }
 {
     [
         counted(Figure::Busy, link.busy),
         counted(Figure::SentPackets, link.sent),
         counted(Figure::SentBytes, link.bytes),
-        counted(Figure::Lost, link.lost),
-        counted(Figure::Full, link.full),
-        counted(Figure::Codel, link.codel),
+    ]
+}
+
+/// What they say of it behind these.
+fn queue_step_rows(link: &LinkSummary) -> [Row; 3]
+    ensures { result ≡ queue_step_rows link.now }
+{
+    [
         counted(Figure::Waited, link.waited),
         counted(Figure::GreatestQueue, u128::from(link.longest)),
         or_none(Figure::MedianDelay, link.median),
@@ -135,13 +159,10 @@ fn append_link(
 ) -> Result<(), AllocError>
     ensures { OnOk result (text.new.items ≡ text.old.items ++ link_step_lines begin column.now (number, link.now)) }
 {
-    append_timed_rows(
-        begin,
-        column,
-        Subject::Link(number),
-        &link_step_rows(link),
-        text,
-    )
+    let subject = Subject::Link(number);
+    append_timed_rows(begin, column, subject, &sent_step_rows(link), text)?;
+    append_timed_drops(begin, column, subject, &link.dropped, text)?;
+    append_timed_rows(begin, column, subject, &queue_step_rows(link), text)
 }
 
 /// Appends the rows of the flows, by number. After an `Err` a part of them may stand there.

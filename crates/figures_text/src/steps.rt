@@ -4,6 +4,7 @@ ghost use Rattle.std.specs.List.{list_any};
 ghost use Rattle.std.specs.Option.{option_map};
 ghost use Rattle.scenario_image.specs.Scenario.{IsScenario};
 ghost use Rattle.sim_time.specs.Moment.{IsMoment};
+ghost use Rattle.sim_time.specs.declared.limits.TheConstants.{MOST_EVENTS};
 ghost use Rattle.node_core.specs.Part.{sender_in};
 ghost use Rattle.table_run.specs.State.{State};
 ghost use Rattle.net_machine.specs.Nodes.{node_at, parts_of};
@@ -80,7 +81,7 @@ fn flow_steps(
 ) -> Result<Vec<FlowStep>, AllocError>
     requires scenario { IsScenario scenario.now }
     requires run { AreOfPart scenario.now figures.now net.now }
-    requires few { figures.now.events ≤ 1000000000000000 }
+    requires few { figures.now.events ≤ MOST_EVENTS }
     ensures { IfOk result (λ all. (b : Base) (of : AreOfRun scenario.now b figures.now net.now) → all.items ≡ flows_are scenario.now until b (moments b.state of.count) net.now.state) }
 {
     let flows = scenario.parts().flows.as_slice();

@@ -2,6 +2,7 @@
 ghost use Rattle.std.specs.Prelude.{◌≡◌, ◌<◌, ◌≤◌, ◌^◌, ◌+◌, ◌*◌, ◌-◌, ℕ, List, IfOk, length, slice_index_or};
 ghost use Rattle.scenario_image.specs.Scenario.{IsScenario};
 ghost use Rattle.sim_time.specs.Moment.{IsMoment};
+ghost use Rattle.sim_time.specs.declared.limits.TheConstants.{MOST_EVENTS};
 ghost use Rattle.table_run.specs.Flow.{next_at as next_of_role};
 ghost use Rattle.table_run.specs.State.{State, part_at};
 ghost use Rattle.net_machine.specs.Nodes.{node_at, parts_of};
@@ -87,7 +88,7 @@ fn flow_summary(
     flow: &FlowPart,
 ) -> Result<FlowSummary, AllocError>
     requires sender { flow.now.sender < length figures.now.senders.items }
-    requires few { figures.now.events ≤ 1000000000000000 }
+    requires few { figures.now.events ≤ MOST_EVENTS }
     ensures { (b : Base) (ms : List Moment) (s : State) → parts_of nodes.now ≡ s.parts → slice_index_or figures.now.received.items flow.now.receiver 0 ≡ next_of_role (part_at b.state flow.now.receiver).role → ((other : SenderFigures) → AreOfTurns (turns_at flow.now.sender b.earlier) (turns_at flow.now.sender ms) (slice_index_or figures.now.senders.items flow.now.sender other)) → IfOk result (λ said. said ≡ flow_is b ms s flow.now) }
 {
     let next = next_at(nodes, usize::from(flow.receiver));
@@ -105,7 +106,7 @@ pub(crate) fn flow_summaries(
 ) -> Result<Vec<FlowSummary>, AllocError>
     requires scenario { IsScenario scenario.now }
     requires run { AreOfPart scenario.now figures.now net.now }
-    requires few { figures.now.events ≤ 1000000000000000 }
+    requires few { figures.now.events ≤ MOST_EVENTS }
     ensures { IfOk result (λ all. (b : Base) (of : AreOfRun scenario.now b figures.now net.now) → all.items ≡ flows_are scenario.now b (moments b.state of.count) net.now.state) }
 {
     let flows = scenario.parts().flows.as_slice();
@@ -132,7 +133,7 @@ struct Delays {
 
 /// The delays in the queue of a link of which this was counted.
 fn delays_of(counted: &LinkFigures) -> Result<Delays, AllocError>
-    requires few { counted.now.waits.count ≤ 1000000000000000 }
+    requires few { counted.now.waits.count ≤ MOST_EVENTS }
     ensures median { (b : Base) (ms : List Moment) (s : State) (node index : ℕ) → AreOfLink b ms s node index counted.now → IfOk result (λ delays. delays.median ≡ percentile 50 (waits_of node index ms)) }
     ensures high { (b : Base) (ms : List Moment) (s : State) (node index : ℕ) → AreOfLink b ms s node index counted.now → IfOk result (λ delays. delays.high ≡ percentile 95 (waits_of node index ms)) }
     ensures highest { (b : Base) (ms : List Moment) (s : State) (node index : ℕ) → AreOfLink b ms s node index counted.now → IfOk result (λ delays. delays.highest ≡ percentile 99 (waits_of node index ms)) }
@@ -176,7 +177,7 @@ fn waited_to_end(counted: &LinkFigures, last: Time, end: Time) -> u128
 
 /// What is said of a link of which this was counted, of a run whose last event was at a moment.
 fn of_exit(counted: &LinkFigures, last: Time, end: Time) -> Result<LinkSummary, AllocError>
-    requires few { counted.now.waits.count ≤ 1000000000000000 }
+    requires few { counted.now.waits.count ≤ MOST_EVENTS }
     requires moment { IsMoment last }
     requires order { counted.now.since ≤ last }
     requires end { IsMoment end }
@@ -185,9 +186,7 @@ fn of_exit(counted: &LinkFigures, last: Time, end: Time) -> Result<LinkSummary, 
     let delays = delays_of(counted)?;
     Ok(LinkSummary {
         offered: counted.offered.saturating_sub(counted.first),
-        lost: counted.lost,
-        full: counted.full,
-        codel: counted.codel,
+        dropped: counted.dropped,
         sent: u128::from(counted.waits.count),
         bytes: u128::from(counted.bytes),
         busy: busy_to_end(counted, last, end),
@@ -225,7 +224,7 @@ fn link_summary(
     requires number { number < length links.now }
     requires node { from_of links.now number < length figures.now.links.items }
     requires index { (other : NodeLinks) → exit_is links.now number < length (slice_index_or figures.now.links.items (from_of links.now number) other).figures.items }
-    requires few { (other : NodeLinks) (link : LinkFigures) → (slice_index_or (slice_index_or figures.now.links.items (from_of links.now number) other).figures.items (exit_is links.now number) link).waits.count ≤ 1000000000000000 }
+    requires few { (other : NodeLinks) (link : LinkFigures) → (slice_index_or (slice_index_or figures.now.links.items (from_of links.now number) other).figures.items (exit_is links.now number) link).waits.count ≤ MOST_EVENTS }
     requires moment { IsMoment figures.now.last }
     requires order { (other : NodeLinks) (link : LinkFigures) → (slice_index_or (slice_index_or figures.now.links.items (from_of links.now number) other).figures.items (exit_is links.now number) link).since ≤ figures.now.last }
     requires end { IsMoment end }
@@ -246,7 +245,7 @@ pub(crate) fn link_summaries(
 ) -> Result<Vec<LinkSummary>, AllocError>
     requires scenario { IsScenario scenario.now }
     requires run { AreOfPart scenario.now figures.now net.now }
-    requires few { figures.now.events ≤ 1000000000000000 }
+    requires few { figures.now.events ≤ MOST_EVENTS }
     requires end { IsMoment end }
     ensures { IfOk result (λ all. (b : Base) (of : AreOfRun scenario.now b figures.now net.now) → all.items ≡ links_are (record scenario.now { end = end }) b (moments b.state of.count) net.now.state) }
 {

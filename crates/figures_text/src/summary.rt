@@ -1,4 +1,5 @@
 //! What the table says of a run. All times are in nanoseconds.
+use aqm::REASONS;
 
 /// The figures of a flow.
 #[derive(Clone, Copy, Debug, PartialEq, Eq)]
@@ -36,12 +37,8 @@ pub struct FlowSummary {
 pub struct LinkSummary {
     /// The packets that were offered to it.
     pub offered: u128,
-    /// Those that it lost.
-    pub lost: u128,
-    /// Those that found its queue full.
-    pub full: u128,
-    /// Those that CoDel dropped (RFC 8289).
-    pub codel: u128,
+    /// Those that were dropped, by the place of the reason among all.
+    pub dropped: [u128; REASONS],
     /// Those that it began to send.
     pub sent: u128,
     /// The bytes of those.

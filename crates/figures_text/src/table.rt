@@ -1,13 +1,16 @@
 //! The table as a whole.
-ghost use Rattle.std.specs.Prelude.{◌≡◌, ◌++◌, OnOk, OnErr};
+ghost use Rattle.std.specs.Prelude.{◌≡◌, ◌++◌, slice_index, OnOk, OnErr};
+ghost use Rattle.aqm.specs.DropReasons.{reason_index};
+ghost use Rattle.figures_text.specs.declared.figure.Figure.TheVariants.{Dropped};
 ghost use Rattle.std.specs.List.{flat_map, enumerate_from};
-ghost use Rattle.figures_text.specs.Table.{always_counted, or_none, flow_rows, link_rows, run_rows, flow_lines, link_lines, rows_text, heading, heading_end, ending_of, table_of};
+ghost use Rattle.figures_text.specs.Table.{always_counted, or_none, flow_rows, drop_rows, link_rows, run_rows, flow_lines, link_lines, rows_text, heading, heading_end, ending_of, table_of};
 
 use crate::column::NameColumn;
 use crate::figure::Figure;
-use crate::row::{Row, append_rows};
+use crate::row::{Row, append_row, append_rows};
 use crate::subject::Subject;
 use crate::summary::{FlowSummary, LinkSummary, RunSummary};
+use aqm::{DropReason, REASONS};
 use std::alloc::AllocError;
 
 /// Appends the table of a run's figures: a heading, then a line `what,number,figure,unit,value` for
@@ -97,7 +100,34 @@ fn append_link(
 ) -> Result<(), AllocError>
     ensures { OnOk result (text.new.items ≡ text.old.items ++ link_lines column.now (number, link.now)) }
 {
-    append_rows(column, Subject::Link(number), &link_rows(link), text)
+    let subject = Subject::Link(number);
+    let offered = counted(Figure::Offered, link.offered);
+    append_row(column, subject, &offered, text)?;
+    append_drops(column, subject, &link.dropped, text)?;
+    append_rows(column, subject, &link_rows(link), text)
+}
+
+/// Appends a line for each reason for which packets are dropped. After an `Err` a part of them may stand there.
+fn append_drops(
+    column: &NameColumn,
+    subject: Subject,
+    counts: &[u128; REASONS],
+    text: &mut Vec<u8>,
+) -> Result<(), AllocError>
+    ensures { OnOk result (text.new.items ≡ text.old.items ++ rows_text column.now subject (drop_rows counts.now)) }
+{
+    let reasons = DropReason::all();
+    for reason in reasons {
+        append_row(column, subject, &drop_row(*reason, counts), text)?;
+    }
+    Ok(())
+}
+
+/// How many packets were dropped for a reason.
+pub(crate) fn drop_row(reason: DropReason, counts: &[u128; REASONS]) -> Row
+    ensures { result ≡ always_counted (Dropped reason) (slice_index counts.now (reason_index reason)) }
+{
+    counted(Figure::Dropped(reason), counts[reason.index()])
 }
 
 /// Appends the lines of the links, by number. After an `Err` a part of them may stand there.
@@ -159,15 +189,11 @@ fn flow_rows(flow: &FlowSummary) -> [Row; 13]
     ]
 }
 
-/// What the table says of a link.
-fn link_rows(link: &LinkSummary) -> [Row; 13]
+/// What the table says of a link behind what was offered to it and dropped.
+fn link_rows(link: &LinkSummary) -> [Row; 9]
     ensures { result ≡ link_rows link.now }
 {
     [
-        counted(Figure::Offered, link.offered),
-        counted(Figure::Lost, link.lost),
-        counted(Figure::Full, link.full),
-        counted(Figure::Codel, link.codel),
         counted(Figure::SentPackets, link.sent),
         counted(Figure::SentBytes, link.bytes),
         counted(Figure::Busy, link.busy),

@@ -1,5 +1,6 @@
 use Rattle.std.proofs.Common.{◌≡◌, ◌<◌, ◌≤◌, ◌++◌, ◌∷◌, [], List, length, get_or, take, sym, ap, subst, ◌∙◌, arith, rules}
 use Rattle.std.proofs.lemmas.List.{take_more, take_all}
+use Rattle.sim_time.specs.declared.limits.TheConstants.{MOST_EVENTS}
 use Rattle.scenario_image.specs.declared.parts.LinkPart.{LinkPart}
 use Rattle.scenario_image.specs.declared.parts.ScenarioParts.{ScenarioParts}
 use Rattle.net_machine.specs.Wiring.{from_of, exit_of}
@@ -42,8 +43,8 @@ link_summary-requires-clause-few c other link =
     let under : i < length p.links = omega (arith, c.loop-number-test.true, size) in
     let waits = ((link_counted p c.requires.run.base f c.args.net.now c.requires.scenario c.requires.run.of i under).link other link).few.waits in
     let events = c.requires.run.of.figures.events in
-    let few : (get_or (get_or f.links.items (from_of p.links i) other).figures.items (exit_of p.links i) link).waits.count ≤ 1000000000000000 = omega (arith, waits, events, c.requires.few) in
-    subst (λ (l : List LinkPart). (get_or (get_or f.links.items (from_of l i) other).figures.items (exit_of l i) link).waits.count ≤ 1000000000000000) (sym same) few
+    let few : (get_or (get_or f.links.items (from_of p.links i) other).figures.items (exit_of p.links i) link).waits.count ≤ MOST_EVENTS = omega (arith, waits, events, c.requires.few) in
+    subst (λ (l : List LinkPart). (get_or (get_or f.links.items (from_of l i) other).figures.items (exit_of l i) link).waits.count ≤ MOST_EVENTS) (sym same) few
 
 pub link_summary-requires-clause-moment : goal.link_summary-requires-clause-moment
 link_summary-requires-clause-moment c =

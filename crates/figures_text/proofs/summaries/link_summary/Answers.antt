@@ -1,5 +1,6 @@
 use Rattle.std.proofs.Common.{◌≡◌, ◌<◌, ◌≤◌, ℕ, List, length, get_or, sym, ap, subst, ◌∙◌}
 use Rattle.std.proofs.lemmas.List.{get_or_read}
+use Rattle.sim_time.specs.declared.limits.TheConstants.{MOST_EVENTS}
 use Rattle.scenario_image.specs.declared.parts.LinkPart.{LinkPart}
 use Rattle.net_machine.specs.Wiring.{from_of, exit_of, no_link_part}
 use Rattle.figures.specs.Links.{AreOfLink}
@@ -23,7 +24,7 @@ of_exit-requires-clause-few c =
     let at = left links c.args.number c.from.result c.index-links-number.result c.requires.number c.index-links-number.is c.from.ensures in
     let is = found c.args.figures.now.links.items c.from.result (from_of links c.args.number) c.exit_of.result (exit_of links c.args.number) c.index-node.result.now c.index-counted.result.now at c.exit_of.ensures c.index-node.ensures
     c.index-counted.ensures in
-    subst (λ (f : LinkFigures). f.waits.count ≤ 1000000000000000) (sym is) (c.requires.few c.index-node.result.now c.index-counted.result.now)
+    subst (λ (f : LinkFigures). f.waits.count ≤ MOST_EVENTS) (sym is) (c.requires.few c.index-node.result.now c.index-counted.result.now)
 
 pub of_exit-requires-clause-order : goal.of_exit-requires-clause-order
 of_exit-requires-clause-order c =

@@ -1,4 +1,5 @@
-use Rattle.std.proofs.Common.{ap, arith, rules}
+use Rattle.std.proofs.Common.{ℕ, ◌+◌, ◌*◌, ◌^◌, ◌≤◌, List, ap, subst, sym, arith, rules}
+use Rattle.std.specs.Prelude.{slice_index}
 use Rattle.figures.specs.declared.tally.Tally.{Tally}
 use Rattle.figures.proofs.link.LinkFigures.after.Goals as goal
 
@@ -12,9 +13,7 @@ returns c =
       waiting = search rules;
       busy = search rules;
       since = search rules;
-      lost = search rules;
-      full = search rules;
-      codel = search rules;
+      dropped = search rules;
       sent = search rules;
       bytes = search rules;
       waited = search rules;
@@ -27,9 +26,7 @@ returns c =
           let waits = ap (λ (t : Tally). t.count) passed.waits in
           let before = ap (λ (t : Tally). t.count) counted.waits in
           record {
-            lost = omega (arith, one.lost, passed.lost);
-            full = omega (arith, one.full, passed.full);
-            codel = omega (arith, one.codel, passed.codel);
+            dropped = subst (λ (counts : List ℕ). (i : ℕ) → slice_index counts i ≤ (n + 1) * 2 ^ 64) (sym passed.dropped) one.dropped;
             bytes = omega (arith, one.bytes, passed.bytes);
             waits = omega (arith, waits, before, c.note_some.ensures.most, is.waits);
           };
