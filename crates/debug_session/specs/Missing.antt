@@ -1,9 +1,9 @@
 -- What `why` tells: what a flow waits for, and what became of the packets that are missing.
 use Rattle.std.specs.Prelude.{ℕ, List, [], ◌++◌, codes, decimal, Option, None, Some}
 use Rattle.std.specs.List.{flat_map}
-use Rattle.aqm.specs.declared.drop_reason.TakeDrop.TheVariants.{Codel}
+use Rattle.aqm.specs.DropReasons.{reason_word}
 use Rattle.aqm.specs.declared.drop_reason.DropReason.{DropReason}
-use Rattle.aqm.specs.declared.drop_reason.DropReason.TheVariants.{Lost, Full, Take}
+use Rattle.aqm.specs.declared.drop_reason.DropReason.TheVariants.{Lost, Offer, Take}
 use Rattle.table_run.specs.State.{State}
 use Rattle.net_machine.specs.Run.{Reached}
 use Rattle.flow_waits.specs.declared.names.ScenarioNames.{ScenarioNames}
@@ -30,10 +30,14 @@ abbrev pub kind_of_drops : DropsOf → List ℕ
 kind_of_drops (Segment flow byte) = codes ", data "
 kind_of_drops (AcksAbove flow byte) = codes ", ack "
 
+-- that a queue dropped a packet, and why
+abbrev pub dropped_text : DropReason → List ℕ
+dropped_text reason = codes " dropped (" ++ reason_word reason ++ codes ") at link "
+
 abbrev pub reason_text : DropReason → List ℕ
 reason_text Lost = codes " lost by name at link "
-reason_text Full = codes " dropped (full) at link "
-reason_text (Take Codel) = codes " dropped (codel) at link "
+reason_text (Offer why) = dropped_text (Offer why)
+reason_text (Take why) = dropped_text (Take why)
 
 -- a packet that was dropped, why, where, and the line that tells of it
 abbrev pub drop_text : ScenarioNames → DropsOf → PastDrop → List ℕ

@@ -1,11 +1,11 @@
 //! What a flow waits for, and which of the packets that are missing were dropped.
 ghost use Rattle.std.specs.Prelude.{◌≡◌, ◌++◌, decimal, OnOk};
 ghost use Rattle.std.specs.List.{flat_map};
-ghost use Rattle.debug_session.specs.Missing.{head_words, byte_missing, missing_head, kind_of_drops, reason_text, drop_text, missing_line, missing_told, why_text};
+ghost use Rattle.debug_session.specs.Missing.{head_words, byte_missing, missing_head, kind_of_drops, dropped_text, reason_text, drop_text, missing_line, missing_told, why_text};
 ghost use Rattle.debugger.specs.Drops.{past_drops};
 
 use crate::names_reported::append_number;
-use aqm::{DropReason, TakeDrop};
+use aqm::DropReason;
 use debugger::{Debugger, DropsOf, MoveFault, PastDrop};
 use flow_waits::ScenarioNames;
 use std::alloc::AllocError;
@@ -47,14 +47,22 @@ fn kind_of_drops(of: DropsOf) -> &'static [u8]
     }
 }
 
-// Why a packet was dropped.
-fn reason_text(reason: DropReason) -> &'static [u8]
-    ensures { result.now ≡ reason_text reason }
+// Appends that a queue dropped a packet, and why.
+fn append_dropped(out: &mut Vec<u8>, reason: DropReason) -> Result<(), AllocError>
+    ensures { OnOk result (out.new.items ≡ out.old.items ++ dropped_text reason) }
+{
+    out.extend_from_slice(b" dropped (")?;
+    out.extend_from_slice(reason.word())?;
+    out.extend_from_slice(b") at link ")
+}
+
+// Appends why a packet was dropped.
+fn append_reason(out: &mut Vec<u8>, reason: DropReason) -> Result<(), AllocError>
+    ensures { OnOk result (out.new.items ≡ out.old.items ++ reason_text reason) }
 {
     match reason {
-        DropReason::Lost => b" lost by name at link ",
-        DropReason::Full => b" dropped (full) at link ",
-        DropReason::Take(TakeDrop::Codel) => b" dropped (codel) at link ",
+        DropReason::Lost => out.extend_from_slice(b" lost by name at link "),
+        DropReason::Offer(_) | DropReason::Take(_) => append_dropped(out, reason),
     }
 }
 
@@ -69,7 +77,7 @@ fn append_drop(
 {
     out.extend_from_slice(kind_of_drops(of))?;
     append_number(out, dropped.number)?;
-    out.extend_from_slice(reason_text(dropped.reason))?;
+    append_reason(out, dropped.reason)?;
     names.links.append_name(dropped.link, out)?;
     out.extend_from_slice(b" in line ")?;
     append_number(out, dropped.line)

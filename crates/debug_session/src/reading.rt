@@ -14,6 +14,7 @@ use crate::name::{CommandName, name_of};
 use crate::naming::{Naming, PartSort};
 use crate::refusal::Refusal;
 use crate::topic::topic_of;
+use debugger::breaks::MOST_BREAKS;
 use trace_text::DumpPart;
 
 /// How many lines are shown where no number is given.
@@ -23,7 +24,7 @@ const USUAL_LINES: u64 = 10;
 const MOST_LINES: u64 = 1_000;
 
 /// The greatest number that a breakpoint or a display can have.
-const MOST_BREAKS: u64 = 64;
+const GREATEST_NUMBER: u64 = MOST_BREAKS as u64;
 
 /// The number below a bound that is the only word of a line, or the usual one where there is none.
 fn number_or(usual: u64, line: &[u8], bound: u64) -> Result<u64, Refusal>
@@ -61,7 +62,7 @@ fn break_number(word: &[u8]) -> Result<u64, Refusal>
     ensures { result ≡ break_number word.now }
 {
     if is_numeral(word) {
-        number_below(word, MOST_BREAKS + 1).ok_or(Refusal::B5)
+        number_below(word, GREATEST_NUMBER + 1).ok_or(Refusal::B5)
     } else {
         Err(Refusal::B3)
     }

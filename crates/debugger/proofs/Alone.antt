@@ -1,12 +1,13 @@
 -- A window that is run has a line, where it may span some time.
 use Rattle.std.proofs.Common.{◌≡◌, ◌<◌, ◌≤◌, ◌+◌, ◌-◌, ◌^◌, min, ℕ, length, Option, Some, IfSome, subst, arith}
+use Rattle.sim_time.specs.declared.limits.TheConstants.{LATEST_END}
 use Rattle.net_machine.specs.Run.{Reached, IsRun}
 use Rattle.window_core.specs.Batches.{BatchValue}
 use Rattle.window_law.proofs.EveryRun.{same_end}
 use Rattle.window_engine.specs.Engines.{GoesOn, IsNext, next_time}
 
 -- a run ends below 2^64 ns
-ends_soon : (net : Reached) → IsRun net → net.state.end ≤ 1000000000000000
+ends_soon : (net : Reached) → IsRun net → net.state.end ≤ LATEST_END
 ends_soon net is =
     let end = same_end is.scenario net.position is.lines net.state is.is in
     let most = is.is_scenario.in_limits.end_range.1 in

@@ -3,6 +3,7 @@ use Rattle.std.proofs.Common.{◌≡◌, ℕ, zero, suc, ◌+◌, ◌-◌, ◌<�
 use Rattle.std.specs.Option.{option_map}
 use Rattle.std.proofs.Math.Seq.{get_or-append_seam}
 use Rattle.std.proofs.lemmas.List.{length-set}
+use Rattle.sim_time.specs.declared.limits.TheConstants.{MOST_EVENTS}
 use Rattle.tournament.proofs.Maps.{same_some}
 use Rattle.node_core.specs.TraceLine.{TraceLine, blank}
 use Rattle.table_run.specs.State.{State, due, step_at, step, run, effect_of}
@@ -63,12 +64,12 @@ way_on start old new batch most way gone running behind from =
     }
 
 -- a run that has too many events from one of its states on is too long
-pub too_long_from : (start : State) (at : Reached) → Passes start at → at.position ≤ 1000000000000000 → HasTooMany at → IsTooLong start
+pub too_long_from : (start : State) (at : Reached) → Passes start at → at.position ≤ MOST_EVENTS → HasTooMany at → IsTooLong start
 too_long_from start at here few full = record {
   last = full.last;
   passes = record {
     lines = here.lines ++ full.lines;
-    comes = ap (run start) {x = 1000000000000000} {y = at.position + (1000000000000000 - at.position)} (omega (arith, few)) ∙ run_add start at.state full.last at.position (1000000000000000 - at.position) here.lines full.lines here.comes full.is_run;
+    comes = ap (run start) {x = MOST_EVENTS} {y = at.position + (MOST_EVENTS - at.position)} (omega (arith, few)) ∙ run_add start at.state full.last at.position (MOST_EVENTS - at.position) here.lines full.lines here.comes full.is_run;
   };
   one_due = full.one_due;
 }

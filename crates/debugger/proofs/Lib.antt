@@ -16,6 +16,7 @@ pub mod LastEvents
 mod Backward
 mod Judged
 mod NodeShown
+mod Elsewhere
 mod States
 mod Sent
 mod UnderWay

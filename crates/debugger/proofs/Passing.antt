@@ -7,8 +7,7 @@ use Rattle.sim_time.specs.declared.key.Key.{Key}
 use Rattle.packet_chain.specs.declared.packet.Packet.{Packet}
 use Rattle.packet_chain.specs.declared.packet.Kind.{Kind}
 use Rattle.packet_chain.specs.declared.packet.Kind.TheVariants.{Data, Ack}
-use Rattle.aqm.specs.DropTail.{is_full}
-use Rattle.aqm.specs.Queue.{fifo_of, waiting_in}
+use Rattle.aqm.specs.Queue.{refuses, waiting_in}
 use Rattle.aqm.proofs.Stays.{enters_last}
 use Rattle.port.specs.declared.acts.Act.{Act}
 use Rattle.port.specs.declared.acts.Act.TheVariants.{Tx, Dropped}
@@ -76,7 +75,7 @@ module _ (flow now : ℕ) where
       let counted : PortState = record port { offered = port.offered + 1 } in
       let refused : (link : ℕ) (reason : _) (rest : PortState) → GoesOn (only rest (Dropped link reason x ∷ [])) = λ link reason rest none. absurd (true≢false none) in
       either (is_lost port.lose counted.offered) _ _ (refused _ _ _) (λ _.
-      either (is_full (fifo_of port.queue)) _ _ (refused _ _ _) (λ room.
+      either (refuses port.queue) _ _ (refused _ _ _) (λ room.
       let holds : Holds flow (with_packet now counted x).queue =
       ap (list_any (is_of flow)) (enters_last port.queue (x, now) now room) ∙ any_right (is_of flow) (waiting_in port.queue) ((x, now) ∷ []) (or_first (x.flow == flow) false its) in
       either (is_none port.next_free) _ _ (λ none. after_take none (take_keeps flow now (with_packet now counted x) holds)) (λ _ none. stays holds)))

@@ -5,6 +5,7 @@ use borrow.Author.Tests.{ltb-false}
 use Rattle.std.specs.Option.{option_map, option_and_then}
 use Rattle.std.proofs.lemmas.Bool.{cases_lt}
 use Rattle.sim_time.specs.declared.key.Key.{Key}
+use Rattle.sim_time.specs.declared.limits.TheConstants.{MOST_EVENTS}
 use Rattle.tournament.specs.Keyed.{least}
 use Rattle.tournament.proofs.Maps.{not_some, same_some, none_least}
 use Rattle.node_core.specs.declared.event.Event.{Event}
@@ -62,7 +63,7 @@ end_last start q at ends here = ⊎_elim past (λ (upto : at.position ≤ q). up
 pub end_here : (start : State) (at : Reached) → Passes start at → step at.state ≡ None → EndsAt start at.position
 end_here start at here none = record { last = at.state; passes = here; none_due = none_due at.state none }
 
-pub too_long : (start : State) (at : Reached) → Passes start at → due at.state ≢ None → at.position ≡ 1000000000000000 → IsTooLong start
+pub too_long : (start : State) (at : Reached) → Passes start at → due at.state ≢ None → at.position ≡ MOST_EVENTS → IsTooLong start
 too_long start at here more full = record { last = at.state; passes = subst (λ n. Passes start (record { state = at.state; position = n })) full here; one_due = more }
 
 -- steps: so many were made

@@ -1,6 +1,7 @@
 -- What a watched run says of a move.
 use Rattle.std.proofs.Common.{◌≡◌, ◌+◌, ◌≤◌, ℕ, Bool, true, false, not, min, List, ◌++◌, length, Option, Some, refl, sym, ap, subst, ◌∙◌, arith, true≢false, Result, Ok, Err, IfOk, IfErr, ◌⊎◌, inl, inr, ⊎_elim}
 use Rattle.std.specs.Option.{option_map}
+use Rattle.sim_time.specs.declared.limits.TheConstants.{MOST_EVENTS}
 use Rattle.node_core.specs.TraceLine.{TraceLine}
 use Rattle.table_run.specs.State.{State, run, step_at}
 use Rattle.table_run.proofs.Runs.{run_add}
@@ -21,7 +22,7 @@ use Rattle.debugger.proofs.Walks.{step_done, step_ended, end_here, end_last, run
 
 -- a run that is held at a position has made so many steps, or is at its end
 pub step_goes : (start : State) (old new : Reached) (k upto : ℕ) (end : RunEnd) → Passes start new → goes_on (Ok end) ≡ true → IsRunEnd (⊥ ⊎ (new.position ≡ upto)) old new (Ok end)
-    → upto ≡ min (old.position + k) 18446744073709551615 → new.position ≤ upto → new.position ≤ 1000000000000000 → StepGoesTo start old.position k new.position
+    → upto ≡ min (old.position + k) 18446744073709551615 → new.position ≤ upto → new.position ≤ MOST_EVENTS → StepGoesTo start old.position k new.position
 step_goes start old new k upto Stopped here on end until within few = absurd (true≢false (sym on))
 step_goes start old new k upto Held here on (inl none) until within few = absurd none
 step_goes start old new k upto Held here on (inr at) until within few = step_done start new old.position k here (omega (arith, at, until, few))

@@ -1,6 +1,7 @@
 -- Where each move of the debugger goes, over the run from an initial state.
 use Rattle.std.specs.Prelude.{◌≡◌, ◌≢◌, ◌<◌, ◌≤◌, ◌+◌, ◌⊎◌, ℕ, List, None, Some}
 use Rattle.sim_time.specs.declared.key.Key.{Key}
+use Rattle.sim_time.specs.declared.limits.TheConstants.{MOST_EVENTS}
 use Rattle.node_core.specs.declared.event.Event.{Event}
 use Rattle.node_core.specs.TraceLine.{TraceLine}
 use Rattle.table_run.specs.State.{State, due, step, run}
@@ -92,5 +93,5 @@ ReverseGoesTo start breaks m = IsGreatest (λ p. (p ≡ 0) ⊎ ((p < m) × Stops
 -- the run has more than 10^15 events
 pub record IsTooLong (start : State) : Type 0 where
   pub last : State
-  pub passes : Passes start (record { state = last; position = 1000000000000000 })
+  pub passes : Passes start (record { state = last; position = MOST_EVENTS })
   pub one_due : due last ≢ None

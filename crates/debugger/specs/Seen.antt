@@ -1,18 +1,20 @@
 -- What a condition on a link, or on a change, says of a line: it compares the state before with that after.
-use Rattle.std.specs.Prelude.{◌≡◌, ◌≢◌, ◌⊎◌, ◌==◌, ◌-◌, ℕ, Bool, ◌||◌, if◌then◌else◌, List, [], ◌∷◌, length, map as each, slice_get, Option, None, Some, IfSome, is_some, option_map, option_and_then}
+use Rattle.std.specs.Prelude.{◌≡◌, ◌≢◌, ◌⊎◌, ◌==◌, ◌-◌, ℕ, Bool, false, ◌||◌, if◌then◌else◌, List, [], ◌∷◌, length, map as each, slice_get, Option, None, Some, IfSome, is_some, option_map, option_and_then}
 use Rattle.std.specs.Option.{option_or}
 use Rattle.packet_chain.specs.Stamped.{Stamped}
 use Rattle.aqm.specs.Queue.{waiting_in}
 use Rattle.aqm.specs.declared.queue.Queue.{Queue}
-use Rattle.aqm.specs.declared.queue.Queue.TheVariants.{DropTail, Codel}
+use Rattle.aqm.specs.declared.readout.Readout.TheVariants.{Count}
+use Rattle.aqm.specs.Readouts.{read_of}
 use Rattle.reno_sender.specs.declared.fields.SenderFields.{SenderFields}
 use Rattle.reno_sender.specs.Fields.{flight_size}
 use Rattle.reno_receiver.specs.Received.{ReceiverState, next_of}
 use Rattle.node_core.specs.declared.event.Event.TheVariants.{Free}
-use Rattle.node_core.specs.Part.{LinkState, PartState, receiver_in}
+use Rattle.node_core.specs.declared.role.Role.{Role}
+use Rattle.node_core.specs.Part.{LinkState, PartState, sender_in, receiver_in}
 use Rattle.node_core.specs.TraceLine.{TraceLine}
 use Rattle.table_run.specs.State.{State}
-use Rattle.flow_waits.specs.Stalled.{sender_of}
+use Rattle.flow_waits.specs.Stalled.{sender_for, sender_of}
 use Rattle.debugger.specs.declared.values.LinkBound.{LinkBound}
 use Rattle.debugger.specs.declared.values.SenderValue.{SenderValue}
 use Rattle.debugger.specs.declared.values.SenderValue.TheVariants.{Cwnd, Flight, Ssthresh, Una, Nxt, Rto, Dups}
@@ -48,10 +50,9 @@ head_wait now link = option_map (λ (cell : Stamped). now - cell.1) (slice_get (
 abbrev pub wait_in : ℕ → ℕ → State → Option ℕ
 wait_in now number s = option_and_then (head_wait now) (link_in number s.parts)
 
--- CoDel's count; drop-tail has none
+-- the count by which a queue drops; drop-tail has none
 abbrev pub count_of : Queue → Option ℕ
-count_of (DropTail queue) = None
-count_of (Codel queue) = Some queue.count
+count_of q = read_of q Count
 
 abbrev pub count_in : ℕ → State → Option ℕ
 count_in number s = option_and_then (λ (link : LinkState). count_of link.port.queue) (link_in number s.parts)
@@ -119,6 +120,27 @@ value_as_asked s asked = option_and_then (λ (v : ValueOf). value_in v.value v.f
 
 abbrev pub seen_in : State → Values → Seen
 seen_in s v = record { queue = offered_as_asked s v.queue; wait = offered_as_asked s v.wait; count = offered_as_asked s v.count; change = value_as_asked s v.change }
+
+-- a link of a number leaves a node
+abbrev pub has_link : ℕ → PartState → Bool
+has_link number part = is_some (link_among number part.links)
+
+-- a value of a flow is one that the sender or the receiver of a node keeps
+abbrev pub keeps_value : FlowValue → ℕ → Role → Bool
+keeps_value (Sender value) flow role = is_some (sender_for flow (sender_in role))
+keeps_value Next flow role = is_some (next_for flow (receiver_in role))
+
+-- something of what is seen is at a node
+abbrev pub has_link_asked : PartState → Option LinkBound → Bool
+has_link_asked part None = false
+has_link_asked part (Some bound) = has_link bound.link part
+
+abbrev pub keeps_value_asked : PartState → Option ValueOf → Bool
+keeps_value_asked part None = false
+keeps_value_asked part (Some asked) = keeps_value asked.value asked.flow part.role
+
+abbrev pub sees_at : Values → PartState → Bool
+sees_at v part = (has_link_asked part v.queue || has_link_asked part v.wait) || (has_link_asked part v.count || keeps_value_asked part v.change)
 
 -- what each breakpoint sees of a state
 abbrev pub AreSeen : List Break → State → List Seen → Type 0

@@ -1,5 +1,6 @@
 //! States on the way of a run, saved so that going back need not begin at the initial state.
 ghost use Rattle.std.specs.Prelude.{◌≡◌, ◌≤◌, ◌++◌, [], ◌∷◌, if◌then◌else◌, Bool, All, Contains, IsTrue, IfOk};
+ghost use Rattle.sim_time.specs.declared.limits.TheConstants.{MOST_EVENTS};
 ghost use Rattle.debugger.specs.Moves.{Passes, IsDueBefore, SomeUpto};
 
 use net_machine::{Due, Net};
@@ -146,7 +147,7 @@ impl Checkpoints {
     pub fn keep(&mut self, net: &Net)
         requires { Passes self.old net.now }
         ensures same { self.new ≡ self.old }
-        ensures limit { net.now.position ≤ 1000000000000000 }
+        ensures limit { net.now.position ≤ MOST_EVENTS }
     {
         let position = net.position();
         if position < self.next {

@@ -1,5 +1,6 @@
 //! A copy of a net, on its way by windows.
 ghost use Rattle.std.specs.Prelude.{◌≡◌, ◌≢◌, ◌<◌, ◌≤◌, false, length, IfOk, IfErr, IfSome, OnOk, OnErr};
+ghost use Rattle.sim_time.specs.declared.limits.TheConstants.{MOST_EVENTS};
 ghost use Rattle.window_core.specs.Full.{HasTooMany};
 ghost use Rattle.debugger.specs.Moves.{Passes, HasPosition, IsTooLong};
 ghost use Rattle.debugger.specs.Courses.{IsOnWindows, WentOn};
@@ -49,7 +50,7 @@ impl WindowedNet {
         ensures net { IfOk result (λ c. c.engine.net ≡ present.now) }
         ensures running { IfOk result (λ c. c.engine.failed ≡ false) }
         ensures behind { IfOk result (λ c. c.behind ≡ present.now) }
-        ensures few { present.now.position ≤ 1000000000000000 }
+        ensures few { present.now.position ≤ MOST_EVENTS }
         ensures slice { IfOk result (λ c. 1 ≤ c.slice) }
     {
         let _reached = present.position();
@@ -81,7 +82,7 @@ impl WindowedNet {
         requires workers { (0 < workers) × (workers ≤ 64) }
         ensures gone { IfOk result (λ batch. WentOn self.old.engine.net batch self.new.engine.net) }
         ensures some { IfOk result (λ batch. IfSome batch (λ _. self.old.engine.net.position < self.new.engine.net.position)) }
-        ensures few { OnOk result (self.new.engine.net.position ≤ 1000000000000000) }
+        ensures few { OnOk result (self.new.engine.net.position ≤ MOST_EVENTS) }
         ensures running { OnOk result (self.new.engine.failed ≡ false) }
         ensures full { IfErr result (λ fault. fault ≡ MoveFault.CountFull → HasTooMany self.old.engine.net) }
         ensures behind { self.new.behind ≡ self.old.behind }

@@ -279,12 +279,12 @@ impl Watch for OneEvent<'_> {
         Some(())
     }
 
-    fn see(&mut self, _note: (), _before: &Snapshot<Net>, after: &Net, line: &Line) -> bool {
+    fn see(&mut self, _note: (), before: &Snapshot<Net>, after: &Net, line: &Line) -> bool {
         let _count = after.position();
         let seen = self.seen.as_slice();
         self.reported = event_reported(after, line, self.breaks, seen);
         let breaks = self.breaks.as_slice();
-        see_again(&mut self.seen, breaks, after);
+        see_again(&mut self.seen, breaks, before, after, line);
         false
     }
 }

@@ -4,20 +4,21 @@ ghost use Rattle.node_core.specs.TraceLine.{shown};
 ghost use Rattle.node_core.specs.Part.{sender_in, receiver_in};
 ghost use Rattle.net_machine.specs.Nodes.{parts_of};
 ghost use Rattle.net_machine.specs.Run.{Reached, IsRun, Stepped};
-ghost use Rattle.table_run.specs.State.{State};
+ghost use Rattle.table_run.specs.State.{part_at};
 ghost use Rattle.flow_waits.specs.Stalled.{sender_for, sender_of};
 ghost use Rattle.debugger.specs.Values.{MeetsKept};
-ghost use Rattle.debugger.specs.Seen.{link_among, link_in, offered_in, queue_in, head_wait, wait_in, count_of, count_in, ChangesLink, HoldsOfLink, next_for, next_in, sender_value, value_in, Becomes, MeetsLinks, MeetsStates, asks_states, offered_as_asked, value_as_asked, seen_in, AreSeen};
+ghost use Rattle.debugger.specs.Seen.{link_among, link_in, offered_in, queue_in, head_wait, wait_in, count_of, count_in, ChangesLink, HoldsOfLink, next_for, next_in, sender_value, value_in, Becomes, MeetsLinks, MeetsStates, asks_states, offered_as_asked, value_as_asked, seen_in, has_link, keeps_value, has_link_asked, keeps_value_asked, sees_at, AreSeen};
 
 use crate::breaks::{Break, Breaks};
 use crate::values::{FlowValue, LinkBound, SenderValue, ValueOf, Values};
-use aqm::Queue;
+use aqm::{Queue, Readout};
 use net_machine::Net;
 use node_core::link::Link;
 use node_core::{Event, Line, Node};
 use reno_sender::SenderFields;
 use sim_time::Time;
 use std::alloc::{AllocError, Global};
+use std::snapshot::Snapshot;
 
 /// What a breakpoint sees of a state, for the conditions that compare the state after an event with it.
 #[derive(Clone, Copy, Debug, PartialEq, Eq)]
@@ -42,6 +43,22 @@ fn link_among(number: u16, links: &[Link]) -> Option<&Link>
         }
     }
     None
+}
+
+/// Whether a link of a number leaves a node.
+fn has_link(number: u16, node: &Node) -> bool
+    ensures { result ≡ has_link number node.now.part }
+{
+    link_among(number, node.ports()).is_some()
+}
+
+/// Whether it leaves the node of a number in a net.
+fn has_link_at(number: u16, net: &Net, node: u16) -> bool
+    ensures { result ≡ has_link number (part_at net.now.state node) }
+{
+    let nodes = net.nodes();
+    let place = usize::from(node);
+    place < nodes.len() && has_link(number, &nodes[place])
 }
 
 /// The link of a number in a net.
@@ -96,14 +113,11 @@ pub(crate) fn wait_in(now: Time, number: u16, net: &Net) -> Option<Time>
     }
 }
 
-/// CoDel's count; drop-tail has none.
+/// The count by which a queue drops; drop-tail has none.
 fn count_of(queue: &Queue) -> Option<u64>
     ensures { result ≡ count_of queue.now }
 {
-    match queue {
-        Queue::DropTail(_) => None,
-        Queue::Codel(codel) => Some(u64::from(codel.count())),
-    }
+    queue.read(Readout::Count)
 }
 
 /// The count of a link of a net.
@@ -133,20 +147,32 @@ fn is_other_count(was: Option<u128>, is: Option<u128>) -> bool
     was != is
 }
 
+/// Whether other than so many packets were offered to a link by a line, after which a net stands. The line's own node
+/// alone can have offered some.
+fn is_offered_more(number: u16, was: Option<u128>, net: &Net, line: &Line) -> bool
+    ensures { (before : Reached) → IsRun before → Stepped before (Some (shown line.now)) net.now → was ≡ offered_in number before.state → IsTrue result ↔ (offered_in number before.state ≢ offered_in number net.now.state) }
+{
+    if has_link_at(number, net, line.key.node) {
+        is_other_count(was, offered_in(number, net))
+    } else {
+        false
+    }
+}
+
 /// Whether a line, after which a net stands, changes a link, to which so many packets were offered before it.
 fn changes_link(number: u16, was: Option<u128>, net: &Net, line: &Line) -> bool
-    ensures { (before : State) → was ≡ offered_in number before → IsTrue result ↔ ChangesLink number before (shown line.now) net.now.state }
+    ensures { (before : Reached) → IsRun before → Stepped before (Some (shown line.now)) net.now → was ≡ offered_in number before.state → IsTrue result ↔ ChangesLink number before.state (shown line.now) net.now.state }
 {
     if is_free_of(number, &line.event) {
         true
     } else {
-        is_other_count(was, offered_in(number, net))
+        is_offered_more(number, was, net, line)
     }
 }
 
 /// Whether a line changes the link of a bound, and the bound holds of the queue of the link.
 fn queue_within(asked: LinkBound, was: Option<u128>, net: &Net, line: &Line) -> bool
-    ensures { (before : State) → was ≡ offered_in asked.link before → IsTrue result ↔ HoldsOfLink queue_in before (shown line.now) net.now.state asked }
+    ensures { (before : Reached) → IsRun before → Stepped before (Some (shown line.now)) net.now → was ≡ offered_in asked.link before.state → IsTrue result ↔ HoldsOfLink queue_in before.state (shown line.now) net.now.state asked }
 {
     if changes_link(asked.link, was, net, line) {
         asked.bound.holds_of(queue_in(asked.link, net))
@@ -157,7 +183,7 @@ fn queue_within(asked: LinkBound, was: Option<u128>, net: &Net, line: &Line) -> 
 
 /// Whether the queue of a link that a line changes is as asked.
 fn has_queue(asked: Option<LinkBound>, was: Option<u128>, net: &Net, line: &Line) -> bool
-    ensures { (before : State) → was ≡ offered_as_asked before asked → IsTrue result ↔ IfSome asked (HoldsOfLink queue_in before (shown line.now) net.now.state) }
+    ensures { (before : Reached) → IsRun before → Stepped before (Some (shown line.now)) net.now → was ≡ offered_as_asked before.state asked → IsTrue result ↔ IfSome asked (HoldsOfLink queue_in before.state (shown line.now) net.now.state) }
 {
     match asked {
         Some(asked) => queue_within(asked, was, net, line),
@@ -167,7 +193,7 @@ fn has_queue(asked: Option<LinkBound>, was: Option<u128>, net: &Net, line: &Line
 
 /// Whether a line changes the link of a bound, and the bound holds of the wait at the link.
 fn wait_within(asked: LinkBound, was: Option<u128>, net: &Net, line: &Line) -> bool
-    ensures { (before : State) → was ≡ offered_in asked.link before → IsTrue result ↔ HoldsOfLink (wait_in line.now.key.time) before (shown line.now) net.now.state asked }
+    ensures { (before : Reached) → IsRun before → Stepped before (Some (shown line.now)) net.now → was ≡ offered_in asked.link before.state → IsTrue result ↔ HoldsOfLink (wait_in line.now.key.time) before.state (shown line.now) net.now.state asked }
 {
     if changes_link(asked.link, was, net, line) {
         asked
@@ -180,7 +206,7 @@ fn wait_within(asked: LinkBound, was: Option<u128>, net: &Net, line: &Line) -> b
 
 /// Whether the wait at a link that a line changes is as asked.
 fn has_wait(asked: Option<LinkBound>, was: Option<u128>, net: &Net, line: &Line) -> bool
-    ensures { (before : State) → was ≡ offered_as_asked before asked → IsTrue result ↔ IfSome asked (HoldsOfLink (wait_in line.now.key.time) before (shown line.now) net.now.state) }
+    ensures { (before : Reached) → IsRun before → Stepped before (Some (shown line.now)) net.now → was ≡ offered_as_asked before.state asked → IsTrue result ↔ IfSome asked (HoldsOfLink (wait_in line.now.key.time) before.state (shown line.now) net.now.state) }
 {
     match asked {
         Some(asked) => wait_within(asked, was, net, line),
@@ -190,7 +216,7 @@ fn has_wait(asked: Option<LinkBound>, was: Option<u128>, net: &Net, line: &Line)
 
 /// Whether a line changes the link of a bound, and the bound holds of the count of the link.
 fn count_within(asked: LinkBound, was: Option<u128>, net: &Net, line: &Line) -> bool
-    ensures { (before : State) → was ≡ offered_in asked.link before → IsTrue result ↔ HoldsOfLink count_in before (shown line.now) net.now.state asked }
+    ensures { (before : Reached) → IsRun before → Stepped before (Some (shown line.now)) net.now → was ≡ offered_in asked.link before.state → IsTrue result ↔ HoldsOfLink count_in before.state (shown line.now) net.now.state asked }
 {
     if changes_link(asked.link, was, net, line) {
         asked.bound.holds_of(count_in(asked.link, net))
@@ -201,7 +227,7 @@ fn count_within(asked: LinkBound, was: Option<u128>, net: &Net, line: &Line) -> 
 
 /// Whether the count of a link that a line changes is as asked.
 fn has_count(asked: Option<LinkBound>, was: Option<u128>, net: &Net, line: &Line) -> bool
-    ensures { (before : State) → was ≡ offered_as_asked before asked → IsTrue result ↔ IfSome asked (HoldsOfLink count_in before (shown line.now) net.now.state) }
+    ensures { (before : Reached) → IsRun before → Stepped before (Some (shown line.now)) net.now → was ≡ offered_as_asked before.state asked → IsTrue result ↔ IfSome asked (HoldsOfLink count_in before.state (shown line.now) net.now.state) }
 {
     match asked {
         Some(asked) => count_within(asked, was, net, line),
@@ -307,13 +333,64 @@ fn is_other(was: Option<u64>, is: Option<u64>) -> bool
     was != is
 }
 
+/// Whether a value of a flow is one that the sender or the receiver of a node keeps.
+fn keeps_value(value: FlowValue, flow: u16, node: &Node) -> bool
+    ensures { result ≡ keeps_value value flow node.now.part.role }
+{
+    match value {
+        FlowValue::Sender(_) => fields_for(flow, node).is_some(),
+        FlowValue::Next => next_for(flow, node).is_some(),
+    }
+}
+
+/// The same of the node of a number in a net.
+fn keeps_value_at(value: FlowValue, flow: u16, net: &Net, node: u16) -> bool
+    ensures { result ≡ keeps_value value flow (part_at net.now.state node).role }
+{
+    let nodes = net.nodes();
+    let place = usize::from(node);
+    place < nodes.len() && keeps_value(value, flow, &nodes[place])
+}
+
+/// Whether a value is another after a line, after which a net stands, than it was. The line's own node alone can have
+/// changed it.
+fn becomes(asked: ValueOf, was: Option<u64>, net: &Net, line: &Line) -> bool
+    ensures { (before : Reached) → IsRun before → Stepped before (Some (shown line.now)) net.now → was ≡ value_in asked.value asked.flow before.state → IsTrue result ↔ Becomes before.state net.now.state asked }
+{
+    if keeps_value_at(asked.value, asked.flow, net, line.key.node) {
+        is_other(was, value_in(asked.value, asked.flow, net))
+    } else {
+        false
+    }
+}
+
 /// Whether the value that is asked for is another than it was.
-fn has_changed(asked: Option<ValueOf>, was: Option<u64>, net: &Net) -> bool
-    ensures { (before : State) → was ≡ value_as_asked before asked → IsTrue result ↔ IfSome asked (Becomes before net.now.state) }
+fn has_changed(asked: Option<ValueOf>, was: Option<u64>, net: &Net, line: &Line) -> bool
+    ensures { (before : Reached) → IsRun before → Stepped before (Some (shown line.now)) net.now → was ≡ value_as_asked before.state asked → IsTrue result ↔ IfSome asked (Becomes before.state net.now.state) }
 {
     match asked {
-        Some(asked) => is_other(was, value_in(asked.value, asked.flow, net)),
+        Some(asked) => becomes(asked, was, net, line),
         None => true,
+    }
+}
+
+/// Whether the link that is asked for leaves the node of a number in a net.
+fn has_link_asked(asked: Option<LinkBound>, net: &Net, node: u16) -> bool
+    ensures { result ≡ has_link_asked (part_at net.now.state node) asked }
+{
+    match asked {
+        Some(asked) => has_link_at(asked.link, net, node),
+        None => false,
+    }
+}
+
+/// Whether the value whose change is asked for is one that this node keeps.
+fn keeps_value_asked(asked: Option<ValueOf>, net: &Net, node: u16) -> bool
+    ensures { result ≡ keeps_value_asked (part_at net.now.state node) asked }
+{
+    match asked {
+        Some(asked) => keeps_value_at(asked.value, asked.flow, net, node),
+        None => false,
     }
 }
 
@@ -348,7 +425,7 @@ impl Values {
 
     /// Whether a line, after which a net stands, is as asked of the links that it changes.
     fn meets_links(&self, was: &Seen, net: &Net, line: &Line) -> bool
-        ensures { (before : State) → was.now ≡ seen_in before self.now → IsTrue result ↔ MeetsLinks self.now before (shown line.now) net.now.state }
+        ensures { (before : Reached) → IsRun before → Stepped before (Some (shown line.now)) net.now → was.now ≡ seen_in before.state self.now → IsTrue result ↔ MeetsLinks self.now before.state (shown line.now) net.now.state }
     {
         has_queue(self.queue, was.queue, net, line)
             && has_wait(self.wait, was.wait, net, line)
@@ -357,10 +434,10 @@ impl Values {
 
     /// Whether a line, after which a net stands, is as asked, with what was seen of the state before it.
     fn meets_states(&self, was: &Seen, net: &Net, line: &Line) -> bool
-        ensures { (before : State) → was.now ≡ seen_in before self.now → IsTrue result ↔ MeetsStates self.now before (shown line.now) net.now.state }
+        ensures { (before : Reached) → IsRun before → Stepped before (Some (shown line.now)) net.now → was.now ≡ seen_in before.state self.now → IsTrue result ↔ MeetsStates self.now before.state (shown line.now) net.now.state }
     {
         if self.meets_links(was, net, line) {
-            has_changed(self.change, was.change, net)
+            has_changed(self.change, was.change, net, line)
         } else {
             false
         }
@@ -375,6 +452,14 @@ impl Values {
         } else {
             false
         }
+    }
+
+    /// Whether something of what is seen is at the node of a number in a net.
+    fn sees_at(&self, net: &Net, node: u16) -> bool
+        ensures { result ≡ sees_at self.now (part_at net.now.state node) }
+    {
+        (has_link_asked(self.queue, net, node) || has_link_asked(self.wait, net, node))
+            || (has_link_asked(self.count, net, node) || keeps_value_asked(self.change, net, node))
     }
 
     /// What is seen of a net.
@@ -402,13 +487,23 @@ pub(crate) fn see_all(alloc: Global, breaks: &[Break], net: &Net) -> Result<Vec<
     Ok(all)
 }
 
-/// The same, in the place of what each saw of another state.
-pub(crate) fn see_again(seen: &mut Vec<Seen>, breaks: &[Break], net: &Net)
-    requires { length seen.old.items ≡ length breaks.now }
+/// The same after a line, in the place of what each saw of the state before it.
+pub(crate) fn see_again(
+    seen: &mut Vec<Seen>,
+    breaks: &[Break],
+    before: &Snapshot<Net>,
+    net: &Net,
+    line: &Line,
+)
+    requires is_run { IsRun before.now.value }
+    requires stepped { Stepped before.now.value (Some (shown line.now)) net.now }
+    requires seen { AreSeen breaks.now before.now.value.state seen.old.items }
     ensures { AreSeen breaks.now net.now.state seen.new.items }
 {
     for index in 0..breaks.len() {
         let b = &breaks[index];
-        seen[index] = b.values.seen_in(net);
+        if b.values.sees_at(net, line.key.node) {
+            seen[index] = b.values.seen_in(net);
+        }
     }
 }

@@ -77,14 +77,14 @@ impl Watch for Stops<'_> {
         Some(())
     }
 
-    fn see(&mut self, _note: (), _before: &Snapshot<Net>, after: &Net, line: &Line) -> bool {
+    fn see(&mut self, _note: (), before: &Snapshot<Net>, after: &Net, line: &Line) -> bool {
         let position = after.position();
         count_on(&mut self.counts, line);
         let counts = self.counts.as_slice();
         let seen = self.seen.as_slice();
         let found = is_stop(self.breaks, counts, seen, after, line);
         let breaks = self.breaks.as_slice();
-        see_again(&mut self.seen, breaks, after);
+        see_again(&mut self.seen, breaks, before, after, line);
         match found {
             Ok(true) => {
                 self.found = Some(position);

@@ -10,12 +10,10 @@ use crate::breaks::has_drop;
 use net_machine::Net;
 use node_core::{After, Event, Line};
 use port::Act;
+use scenario_image::limits::MOST_FLOWS;
 use sim_time::Key;
 use std::alloc::Global;
 use trace_text::pending_events;
-
-/// The most flows of a net; all their numbers are below it.
-pub(crate) const MOST_FLOWS: usize = 128;
 
 /// No packet of any flow is known to be under way. Where memory is refused, none ever is.
 fn none_counted(alloc: Global) -> Vec<u64>

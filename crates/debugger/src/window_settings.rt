@@ -1,5 +1,6 @@
 //! Moves by windows, which workers run, or the calling thread alone.
 ghost use Rattle.std.specs.Prelude.{◌≡◌, ◌<◌, ◌≤◌, false, length, IfOk, IfErr};
+ghost use Rattle.sim_time.specs.declared.limits.TheConstants.{MOST_EVENTS};
 ghost use Rattle.debugger.specs.Moves.{Passes, UntilGoesTo, IsTooLong};
 ghost use Rattle.debugger.specs.Aims.{GoesTo, IsSought};
 
@@ -102,7 +103,7 @@ impl WindowSettings {
         requires net { course.old.engine.net ≡ present.now }
         requires running { course.old.engine.failed ≡ false }
         requires behind { course.old.behind ≡ present.now }
-        requires few { present.now.position ≤ 1000000000000000 }
+        requires few { present.now.position ≤ MOST_EVENTS }
         requires slice { 1 ≤ course.old.slice }
         ensures found { IfOk result (IsSought checkpoints.old aim.now present.now.position course.new) }
         ensures full { IfErr result (λ fault. fault ≡ MoveFault.CountFull → IsTooLong checkpoints.old) }

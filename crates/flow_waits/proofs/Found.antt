@@ -7,6 +7,7 @@ use Rattle.std.specs.Prelude.{◌↔◌, if◌then◌else◌, IsNone}
 use Rattle.std.specs.List.{list_any}
 use Rattle.std.specs.FinMap as map
 use Rattle.sim_time.specs.declared.key.Key.{Key}
+use Rattle.sim_time.specs.declared.limits.TheConstants.{LATEST_END}
 use Rattle.packet_chain.specs.declared.packet.Packet.{Packet}
 use Rattle.packet_chain.specs.declared.packet.Kind.TheVariants.{Data}
 use Rattle.scenario_image.specs.declared.parts.ScenarioParts.{ScenarioParts}
@@ -91,7 +92,7 @@ by_event true old new own rest = ap (λ x. not x && new) (own refl)
 by_event false true new own rest = refl
 by_event false false new own rest = rest refl refl
 
-module _ (p : ScenarioParts) (is_scenario : IsScenario p) (lines : List TraceLine) (now : ℕ) (s : State) (S : IsSoundAt p lines now s) (k : Key) (v : Event) (due : IsDue s k v) (moment : k.time ≤ 1000000000000000) (flow : ℕ) where
+module _ (p : ScenarioParts) (is_scenario : IsScenario p) (lines : List TraceLine) (now : ℕ) (s : State) (S : IsSoundAt p lines now s) (k : Key) (v : Event) (due : IsDue s k v) (moment : k.time ≤ LATEST_END) (flow : ℕ) where
   abbrev effect : Effect
   effect = effect_of s (k, v)
 
@@ -234,7 +235,7 @@ stalls_are_found p n lines s u line flow is_scenario comes stepped_to =
     let sound = sound_run p n lines s is_scenario comes in
     of_step s line u stepped_to (λ k v is new_is line_is.
     let first = is_due s k v is in
-    let moment : k.time ≤ 1000000000000000 = (let a = first.in_time in let b = sound.sound.end_is in let c = is_scenario.in_limits.end_range.1 in omega (arith, a, b, c)) in
+    let moment : k.time ≤ LATEST_END = (let a = first.in_time in let b = sound.sound.end_is in let c = is_scenario.in_limits.end_range.1 in omega (arith, a, b, c)) in
     subst (λ (x : TraceLine × State). becomes_stalled flow s x.1 ≡ (may_stall flow x.0.event x.0.acts && is_stalled flow x.1)) (λ i. (sym line_is i, sym new_is i))
     (found_here p is_scenario lines sound.moment s sound.sound k v first moment flow))
 
@@ -245,7 +246,7 @@ arrival_on before after line q x is stepped_to there other =
     let sound = sound_run is.scenario before.position is.lines s is.is_scenario is.is in
     of_step s line after.state stepped_to.0 (λ k v due_is new_is line_is.
     let first = is_due s k v due_is in
-    let moment : k.time ≤ 1000000000000000 = (let a = first.in_time in let b = sound.sound.end_is in let c = is.is_scenario.in_limits.end_range.1 in omega (arith, a, b, c)) in
+    let moment : k.time ≤ LATEST_END = (let a = first.in_time in let b = sound.sound.end_is in let c = is.is_scenario.in_limits.end_range.1 in omega (arith, a, b, c)) in
     let key : line.key ≡ k = ap (λ (l : TraceLine). l.key) line_is in
     ap (λ (u : State). map.get u.pending q) new_is
     ∙ under_way_on is.scenario is.is_scenario is.lines sound.moment s sound.sound k v first moment 0 q x there (λ same. other (same ∙ sym key)))

@@ -1,5 +1,5 @@
 -- A sender that has all bytes acknowledged has so after each row.
-use Rattle.std.proofs.Common.{◌≡◌, ℕ, ◌-◌, ◌≤◌, ◌==◌, Bool, true, false, cond, leb, refl, sym, ap, ◌∙◌, Option, Some, None, arith, List, [], ◌∷◌, set, get_or, zero, suc}
+use Rattle.std.proofs.Common.{◌≡◌, ℕ, ◌-◌, ◌≤◌, ◌==◌, Bool, true, false, cond, refl, sym, ap, ◌∙◌, Option, Some, None, arith, List, [], ◌∷◌, set, get_or, zero, suc}
 use Rattle.std.specs.Prelude.{nat_lt, is_some}
 use Rattle.std.specs.Option.{option_or}
 use borrow.Author.Tests.{ltb-false}
@@ -12,10 +12,10 @@ use Rattle.packet_chain.specs.declared.packet.Kind.TheVariants.{Data, Ack}
 use Rattle.reno_sender.specs.declared.fields.SenderFields.{SenderFields}
 use Rattle.reno_sender.specs.declared.fields.Timing.{Timing}
 use Rattle.reno_sender.specs.Fields.{total}
-use Rattle.reno_sender.specs.Timer.{sampled}
 use Rattle.reno_sender.specs.Sending.{Planned}
-use Rattle.reno_sender.specs.Table.{started, acknowledged, timed_out, measured_by, with_estimate}
+use Rattle.reno_sender.specs.Table.{started, acknowledged, timed_out, measured_by}
 use Rattle.reno_sender.proofs.RowLaws.{by_rows}
+use Rattle.reno_sender.proofs.Samples.{by_sample}
 use Rattle.reno_receiver.specs.Received.{ReceiverState}
 use Rattle.node_core.specs.declared.event.Event.{Event}
 use Rattle.node_core.specs.declared.event.Event.TheVariants.{Start, Rto, DelAck, Free, Arrive}
@@ -36,8 +36,7 @@ abbrev SameTotal : SenderFields → Planned → Type 0
 SameTotal f planned = total planned.fields ≡ total f
 
 measured : (o : Option Timing) (f : SenderFields) (ack now : ℕ) → total (measured_by o f ack now) ≡ total f
-measured None f ack now = refl
-measured (Some t) f ack now = elim (leb t.number ack) as (λ b. total (cond b (with_estimate f (sampled f.srtt f.rttvar (now - t.sent_at))) f) ≡ total f) [ true ↦ refl | false ↦ refl ]
+measured o f ack now = by_sample (λ g. total g ≡ total f) o f ack now refl (λ r. refl)
 
 start_total : (f : SenderFields) (now : ℕ) → SameTotal f (started f now)
 unfolding started

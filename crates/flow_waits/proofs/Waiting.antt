@@ -11,11 +11,10 @@ use Rattle.packet_chain.specs.declared.packet.Kind.{Kind}
 use Rattle.packet_chain.specs.declared.packet.Kind.TheVariants.{Data, Ack}
 use Rattle.packet_chain.specs.Stamped.{Stamped}
 use Rattle.aqm.specs.declared.queue.Queue.{Queue}
-use Rattle.aqm.specs.DropTail.{is_full}
 use Rattle.aqm.specs.Laws.{listed}
-use Rattle.aqm.specs.Queue.{fifo_of, waiting_in, offered_to, take_reason, taken_from}
+use Rattle.aqm.specs.Queue.{waiting_in, refuses, offered_to, take_reason, taken_from}
 use Rattle.aqm.proofs.Front.{takes_the_front}
-use Rattle.aqm.proofs.Stays.{enters_last}
+use Rattle.aqm.proofs.Stays.{enters_last, refused_stays}
 use Rattle.port.specs.declared.acts.Act.{Act}
 use Rattle.port.specs.Losses.{is_lost}
 use Rattle.port.specs.Port.{PortState, PortStep, Departure, begun, dropped_for, taken, only, with_packet, entered, offered_one, offered_all}
@@ -52,9 +51,9 @@ module _ (flow now : ℕ) where
   pub one_busy : (u : ℕ) (port : PortState) (x : Packet) → port.next_free ≡ Some u → Holds flow port.queue → StaysBusy u (offered_one now port x)
   one_busy u port x busy holds =
       let counted : PortState = record port { offered = port.offered + 1 } in
-      let refused : (acts : List Act) → StaysBusy u (only counted acts) = λ acts. record { holds = holds; busy = busy } in
-      cond_both (is_lost port.lose counted.offered) _ _ (StaysBusy u) (λ _. refused _) (λ _.
-      cond_both (is_full (fifo_of port.queue)) _ _ (StaysBusy u) (λ _. refused _) (λ room.
+      let lost : (acts : List Act) → StaysBusy u (only counted acts) = λ acts. record { holds = holds; busy = busy } in
+      cond_both (is_lost port.lose counted.offered) _ _ (StaysBusy u) (λ _. lost _) (λ _.
+      cond_both (refuses port.queue) _ _ (StaysBusy u) (λ refused. record { holds = ap (list_any (is_of flow)) (refused_stays port.queue (x, now) now refused) ∙ holds; busy = busy }) (λ room.
       let last = enters_last port.queue (x, now) now room in
       subst (λ o. StaysBusy u (cond (is_none o) (taken now (with_packet now counted x)) (only (with_packet now counted x) []))) (sym busy)
       (record {

@@ -14,10 +14,11 @@ use crate::names::PartNames;
 use node_core::Node;
 use node_core::link::Link;
 use packet_chain::{Iter, Kind, Packet};
+use scenario_image::limits::MOST_LINKS;
 use std::alloc::AllocError;
 
 /// The most links of a net; all their numbers are below it.
-const MOST_LINKS: u16 = 1024;
+const MOST_NUMBERS: u16 = MOST_LINKS as u16;
 
 /// Appends the packets of a flow that wait, link by link in rising number, each behind a comma. After an `Err`, as
 /// with all functions here, a part of them may stand there.
@@ -30,7 +31,7 @@ pub(crate) fn append_waiting(
     ensures { OnOk result (out.new.items ≡ out.old.items
         ++ flat_map (places_waiting_at names.now flow) (links_in_order (parts_of nodes.now))) }
 {
-    append_first(names, flow, MOST_LINKS, nodes, out)
+    append_first(names, flow, MOST_NUMBERS, nodes, out)
 }
 
 /// Those at the links of numbers below this one.

@@ -6,6 +6,6 @@ use Rattle.debugger.specs.Seen.{queue_in, HoldsOfLink, offered_as_asked}
 use Rattle.debugger.proofs.seen.has_queue.Goals as goal
 
 pub returns-in-Some : goal.returns-in-Some
-returns-in-Some c = λ before was.
-    let here = c.queue_within.ensures before (was ∙ ap (offered_as_asked before) c.in-Some.is) in
-    subst (λ (o : Option LinkBound). IsTrue c.queue_within.result ↔ IfSome o (HoldsOfLink queue_in before (shown c.args.line.now) c.args.net.now.state)) (sym c.in-Some.is) here
+returns-in-Some c = λ before is stepped was.
+    let here = c.queue_within.ensures before is stepped (was ∙ ap (offered_as_asked before.state) c.in-Some.is) in
+    subst (λ (o : Option LinkBound). IsTrue c.queue_within.result ↔ IfSome o (HoldsOfLink queue_in before.state (shown c.args.line.now) c.args.net.now.state)) (sym c.in-Some.is) here

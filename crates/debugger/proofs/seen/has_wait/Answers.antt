@@ -6,6 +6,6 @@ use Rattle.debugger.specs.Seen.{wait_in, HoldsOfLink, offered_as_asked}
 use Rattle.debugger.proofs.seen.has_wait.Goals as goal
 
 pub returns-in-Some : goal.returns-in-Some
-returns-in-Some c = λ before was.
-    let here = c.wait_within.ensures before (was ∙ ap (offered_as_asked before) c.in-Some.is) in
-    subst (λ (o : Option LinkBound). IsTrue c.wait_within.result ↔ IfSome o (HoldsOfLink (wait_in c.args.line.now.key.time) before (shown c.args.line.now) c.args.net.now.state)) (sym c.in-Some.is) here
+returns-in-Some c = λ before is stepped was.
+    let here = c.wait_within.ensures before is stepped (was ∙ ap (offered_as_asked before.state) c.in-Some.is) in
+    subst (λ (o : Option LinkBound). IsTrue c.wait_within.result ↔ IfSome o (HoldsOfLink (wait_in c.args.line.now.key.time) before.state (shown c.args.line.now) c.args.net.now.state)) (sym c.in-Some.is) here

@@ -1,10 +1,7 @@
--- What each of the breakpoints so far sees.
-use Rattle.std.proofs.Common.{◌≡◌, take, length}
-use Rattle.debugger.specs.Seen.{AreSeen}
+-- Each of the breakpoints so far sees the state after the line, and each of the others that before it.
+use Rattle.std.proofs.Common.{◌≡◌}
+use Rattle.debugger.proofs.States.{halves}
 use Rattle.debugger.proofs.seen.see_again.Given as goal
 
 abbrev pub invariant-loop-index : goal.invariant-loop-index
-invariant-loop-index l = record {
-  so_far : AreSeen (take l.index l.breaks) l.net.state (take l.index l.seen.items);
-  as_many : length l.seen.items ≡ length l.breaks;
-}
+invariant-loop-index l = l.seen.items ≡ halves l.before.value.state l.net.state l.breaks l.index

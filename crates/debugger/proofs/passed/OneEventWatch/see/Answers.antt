@@ -10,16 +10,22 @@ use Rattle.debugger.proofs.Watched.{passes_on}
 use Rattle.debugger.proofs.passed.OneEventWatch.see.Goals as goal
 
 pub event_reported-self-requires : goal.event_reported-self-requires
-event_reported-self-requires c = as_many c.args.self.now.breaks.now c.args._before.now.value.state c.as_slice-seen.result.now (c.as_slice-seen.ensures.value ∙ c.requires.fits.1)
+event_reported-self-requires c = as_many c.args.self.now.breaks.now c.args.before.now.value.state c.as_slice-seen.result.now (c.as_slice-seen.ensures.value ∙ c.requires.fits.1)
 
-pub see_again-requires : goal.see_again-requires
-see_again-requires c = as_many c.args.self.now.breaks.now c.args._before.now.value.state c.args.self.now.seen.items c.requires.fits.1 ∙ ap length (sym c.as_slice-breaks.ensures.value)
+pub see_again-requires-clause-is_run : goal.see_again-requires-clause-is_run
+see_again-requires-clause-is_run c = c.requires.fits.0
+
+pub see_again-requires-clause-stepped : goal.see_again-requires-clause-stepped
+see_again-requires-clause-stepped c = c.requires.stepped
+
+pub see_again-requires-clause-seen : goal.see_again-requires-clause-seen
+see_again-requires-clause-seen c = subst (λ (breaks : List Break). AreSeen breaks c.args.before.now.value.state c.args.self.now.seen.items) (sym c.as_slice-breaks.ensures.value) c.requires.fits.1
 
 pub returns-clause-has : goal.returns-clause-has
 returns-clause-has c began from runs was = (
   was.0,
   λ start at none.
-      let old = c.args._before.now.value in
+      let old = c.args.before.now.value in
       let new = c.args.after.now in
       let line = shown c.args.line.now in
       let reported = c.event_reported-self.result in

@@ -10,17 +10,23 @@ use Rattle.debugger.proofs.Watched.{passes_on, sought_next, missed_next}
 use Rattle.debugger.proofs.to_stop.StopsWatch.see.Goals as goal
 
 pub is_stop-found-requires : goal.is_stop-found-requires
-is_stop-found-requires c = as_many c.args.self.now.breaks.now c.args._before.now.value.state c.as_slice-seen.result.now (c.as_slice-seen.ensures.value ∙ c.requires.fits.2)
+is_stop-found-requires c = as_many c.args.self.now.breaks.now c.args.before.now.value.state c.as_slice-seen.result.now (c.as_slice-seen.ensures.value ∙ c.requires.fits.2)
 
-pub see_again-requires : goal.see_again-requires
-see_again-requires c = as_many c.args.self.now.breaks.now c.args._before.now.value.state c.args.self.now.seen.items c.requires.fits.2 ∙ ap length (sym c.as_slice-breaks.ensures.value)
+pub see_again-requires-clause-is_run : goal.see_again-requires-clause-is_run
+see_again-requires-clause-is_run c = c.requires.fits.0
+
+pub see_again-requires-clause-stepped : goal.see_again-requires-clause-stepped
+see_again-requires-clause-stepped c = c.requires.stepped
+
+pub see_again-requires-clause-seen : goal.see_again-requires-clause-seen
+see_again-requires-clause-seen c = subst (λ (breaks : List Break). AreSeen breaks c.args.before.now.value.state c.args.self.now.seen.items) (sym c.as_slice-breaks.ensures.value) c.requires.fits.2
 
 pub returns-in-Ok-true-clause-has : goal.returns-in-Ok-true-clause-has
 returns-in-Ok-true-clause-has c began from runs was = (
   was.0,
   was.1,
   λ start at none.
-      let old = c.args._before.now.value in
+      let old = c.args.before.now.value in
       let new = c.args.after.now in
       let self = c.args.self.now in
       let line = shown c.args.line.now in
@@ -36,7 +42,7 @@ returns-in-Ok-false-clause-has c began from runs was = (
   was.0,
   was.1,
   λ start at none.
-      let old = c.args._before.now.value in
+      let old = c.args.before.now.value in
       let new = c.args.after.now in
       let self = c.args.self.now in
       let line = shown c.args.line.now in
@@ -49,20 +55,20 @@ returns-in-Ok-false-clause-has c began from runs was = (
 pub returns-in-Ok-true-clause-fits : goal.returns-in-Ok-true-clause-fits
 returns-in-Ok-true-clause-fits c = (
   c.position-position.ensures.is_run,
-  counted_next c.args._before.now.value c.args.after.now (shown c.args.line.now) c.args.self.now.counts.items c.count_on.new.counts.items c.requires.fits.0 c.requires.stepped c.requires.fits.1 c.count_on.ensures,
+  counted_next c.args.before.now.value c.args.after.now (shown c.args.line.now) c.args.self.now.counts.items c.count_on.new.counts.items c.requires.fits.0 c.requires.stepped c.requires.fits.1 c.count_on.ensures,
   subst (λ (breaks : List Break). AreSeen breaks c.args.after.now.state c.see_again.new.seen.items) c.as_slice-breaks.ensures.value c.see_again.ensures,
 )
 
 pub returns-in-Ok-false-clause-fits : goal.returns-in-Ok-false-clause-fits
 returns-in-Ok-false-clause-fits c = (
   c.position-position.ensures.is_run,
-  counted_next c.args._before.now.value c.args.after.now (shown c.args.line.now) c.args.self.now.counts.items c.count_on.new.counts.items c.requires.fits.0 c.requires.stepped c.requires.fits.1 c.count_on.ensures,
+  counted_next c.args.before.now.value c.args.after.now (shown c.args.line.now) c.args.self.now.counts.items c.count_on.new.counts.items c.requires.fits.0 c.requires.stepped c.requires.fits.1 c.count_on.ensures,
   subst (λ (breaks : List Break). AreSeen breaks c.args.after.now.state c.see_again.new.seen.items) c.as_slice-breaks.ensures.value c.see_again.ensures,
 )
 
 pub returns-in-Err-clause-fits : goal.returns-in-Err-clause-fits
 returns-in-Err-clause-fits c = (
   c.position-position.ensures.is_run,
-  counted_next c.args._before.now.value c.args.after.now (shown c.args.line.now) c.args.self.now.counts.items c.count_on.new.counts.items c.requires.fits.0 c.requires.stepped c.requires.fits.1 c.count_on.ensures,
+  counted_next c.args.before.now.value c.args.after.now (shown c.args.line.now) c.args.self.now.counts.items c.count_on.new.counts.items c.requires.fits.0 c.requires.stepped c.requires.fits.1 c.count_on.ensures,
   subst (λ (breaks : List Break). AreSeen breaks c.args.after.now.state c.see_again.new.seen.items) c.as_slice-breaks.ensures.value c.see_again.ensures,
 )
