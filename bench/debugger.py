@@ -271,7 +271,8 @@ def in_one_flow():
 
 
 def in_islands():
-    return values(path_of('value islands', islands(12, 2, 2_000)), ('kind start node 1', 'rto>999s', 'queue 0>60000', 'change ssthresh 40'))
+    return values(path_of('value islands', islands(12, 2, 2_000)),
+                  ('kind start node 1', 'rto>999s', 'queue 0>60000', 'queue 207>60000', 'wait 207>999s', 'change ssthresh 40'))
 
 
 def value_table(found):
@@ -326,8 +327,8 @@ def page(args, before):
         yield '## A breakpoint on a value\n'
         yield 'Millions of instructions of `run` to the end of a flow of 26,000 segments, and of `reverse` from there. No breakpoint matches.\n'
         yield from value_table(found)
-        yield ('The same in `islands` of bench/scenarios.py, with 104 nodes and 48 flows of 2,000 segments. '
-               '`break change` looks for its flow among all nodes at each event.\n')
+        yield ('The same in `islands` of bench/scenarios.py, with 104 nodes, 208 links, and 48 flows of 2,000 segments. '
+               'Link 0 is one of the first nodes, and link 207 is the last.\n')
         yield from value_table(list(in_islands()))
     yield '## With groups and workers\n'
     crews = grouped(args.rounds, before)
