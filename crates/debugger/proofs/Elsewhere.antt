@@ -1,8 +1,9 @@
 -- An event changes the node at which it is, and no other: what breakpoints see of a flow or a link that this node doesn't have stays as it was.
-use Rattle.std.proofs.Common.{◌≡◌, ℕ, zero, suc, ◌-◌, ◌<◌, ◌==◌, ◌||◌, Bool, true, false, cond, List, [], ◌∷◌, length, get_or, set, map as each, refl, sym, ap, subst, ◌∙◌, Option, Some, None, true≢false, arith}
+use Rattle.std.proofs.Common.{◌≡◌, ◌≢◌, ℕ, zero, suc, ◌-◌, ◌<◌, ◌≤◌, ◌==◌, ◌||◌, Bool, true, false, cond, List, [], ◌∷◌, length, length-set, get_or, set, map as each, refl, sym, ap, subst, ◌∙◌, arith, Option, Some, None, true≢false}
 use Rattle.std.specs.Prelude.{is_some}
 use Rattle.std.specs.Option.{option_map, option_or}
-use Rattle.std.proofs.lemmas.List.{get_or-set_same}
+use Rattle.std.proofs.lemmas.Bool.{eqb-false}
+use Rattle.std.proofs.lemmas.List.{get_or-map, get_or_past, get_or-set_other, length-map}
 use Rattle.sim_time.specs.declared.key.Key.{Key}
 use Rattle.packet_chain.specs.declared.packet.Packet.{Packet}
 use Rattle.packet_chain.specs.declared.packet.Kind.{Kind}
@@ -21,9 +22,11 @@ use Rattle.node_core.specs.Part.{LinkState, PartState, link_at, sender_in, recei
 use Rattle.node_core.specs.RouteTable.{exit_for}
 use Rattle.node_core.specs.Row.{Effect, data_packet, ack_of, sender_row, receiver_row, row, start_row, rto_row, delack_row, arrival_row, at_sender, at_receiver, passed_on}
 use Rattle.node_core.specs.TraceLine.{TraceLine}
+use Rattle.node_core.specs.Node.{NodeState}
 use Rattle.table_run.specs.State.{State, part_at, no_part, effect_of, stepped}
 use Rattle.table_run.proofs.Ready.{node_within}
 use Rattle.table_run.proofs.Runs.{of_step}
+use Rattle.net_machine.specs.Nodes.{parts_of}
 use Rattle.net_machine.specs.Run.{Reached, IsRun, Stepped}
 use Rattle.flow_waits.specs.Stalled.{sender_if, sender_for, sender_of}
 use Rattle.debugger.specs.declared.values.LinkBound.{LinkBound}
@@ -31,8 +34,12 @@ use Rattle.debugger.specs.declared.values.FlowValue.{FlowValue}
 use Rattle.debugger.specs.declared.values.FlowValue.TheVariants.{Sender, Next}
 use Rattle.debugger.specs.declared.values.ValueOf.{ValueOf}
 use Rattle.debugger.specs.declared.values.Values.{Values}
+use Rattle.debugger.specs.declared.seen.SeenLink.{SeenLink}
+use Rattle.debugger.specs.declared.seen.SeenValue.{SeenValue}
 use Rattle.debugger.specs.declared.seen.Seen.{Seen}
-use Rattle.debugger.specs.Seen.{link_among, link_in, offered_in, next_if, next_for, next_in, sender_value, value_in, offered_as_asked, value_as_asked, seen_in, has_link, keeps_value, has_link_asked, keeps_value_asked, sees_at}
+use Rattle.debugger.specs.declared.seen.Asked.{Asked}
+use Rattle.debugger.specs.declared.seen.Asked.TheVariants.{Link, Value}
+use Rattle.debugger.specs.Seen.{link_among, link_in, offered_in, next_if, next_for, next_in, sender_value, value_for, value_in, has_link, keeps_value, has_asked, first_with, node_of, seen_link, seen_value, seen_in, sees_at, HasSameNodes}
 
 -- THE FLOW OF A NODE
 
@@ -184,28 +191,88 @@ module _ (number : ℕ) (part : PartState) (k : Key) where
   links_stay (Free link) = by_step (k.number - 3) (taken k.time (link_at part.links (k.number - 3)).port) (taken_link k.time (link_at part.links (k.number - 3)).port)
   links_stay (Arrive x) = comes_on x part.role
 
--- A NODE IN THE PLACE OF ANOTHER
+-- THE FIRST NODE THAT HAS SOMETHING
 
-neither_first : {X : Type 0} (a b r : Option X) → is_some a ≡ false → is_some b ≡ false → option_or a r ≡ option_or b r
-neither_first None None r p q = refl
-neither_first (Some x) b r p q = absurd (true≢false p)
-neither_first None (Some y) r p q = absurd (true≢false q)
+-- another node in the place of one: both have it or neither has
+stays : (holds : PartState → Bool) (parts : List PartState) (i : ℕ) (new : PartState) → holds new ≡ holds (get_or parts i no_part) → first_with holds (set parts i new) ≡ first_with holds parts
+stays holds [] i new both = refl
+stays holds (part ∷ parts) zero new both = ap (λ b. cond b 0 (suc (first_with holds parts))) both
+stays holds (part ∷ parts) (suc i) new both = ap (λ n. cond (holds part) 0 (suc n)) (stays holds parts i new both)
 
--- neither of the two is what is looked for
-link_elsewhere : (number : ℕ) (parts : List PartState) (i : ℕ) (new : PartState) → i < length parts → has_link number new ≡ false → has_link number (get_or parts i no_part) ≡ false → link_in number (set parts i new) ≡ link_in number parts
-link_elsewhere number [] i new within p q = refl
-link_elsewhere number (part ∷ parts) zero new within p q = neither_first (link_among number new.links) (link_among number part.links) (link_in number parts) p q
-link_elsewhere number (part ∷ parts) (suc i) new within p q = ap (option_or (link_among number part.links)) (link_elsewhere number parts i new (omega (arith, within)) p q)
+-- what the first node has that has something
+module _ {X : Type 0} (found : PartState → Option X) where
+  abbrev has : PartState → Bool
+  has part = is_some (found part)
 
-sender_elsewhere : (flow : ℕ) (parts : List PartState) (i : ℕ) (new : PartState) → i < length parts → is_some (sender_for flow (sender_in new.role)) ≡ false → is_some (sender_for flow (sender_in (get_or parts i no_part).role)) ≡ false → sender_of flow (set parts i new) ≡ sender_of flow parts
-sender_elsewhere flow [] i new within p q = refl
-sender_elsewhere flow (part ∷ parts) zero new within p q = neither_first (sender_for flow (sender_in new.role)) (sender_for flow (sender_in part.role)) (sender_of flow parts) p q
-sender_elsewhere flow (part ∷ parts) (suc i) new within p q = ap (option_or (sender_for flow (sender_in part.role))) (sender_elsewhere flow parts i new (omega (arith, within)) p q)
+  abbrev first : List PartState → Option X
+  first [] = None
+  first (part ∷ parts) = option_or (found part) (first parts)
 
-next_elsewhere : (flow : ℕ) (parts : List PartState) (i : ℕ) (new : PartState) → i < length parts → is_some (next_for flow (receiver_in new.role)) ≡ false → is_some (next_for flow (receiver_in (get_or parts i no_part).role)) ≡ false → next_in flow (set parts i new) ≡ next_in flow parts
-next_elsewhere flow [] i new within p q = refl
-next_elsewhere flow (part ∷ parts) zero new within p q = neither_first (next_for flow (receiver_in new.role)) (next_for flow (receiver_in part.role)) (next_in flow parts) p q
-next_elsewhere flow (part ∷ parts) (suc i) new within p q = ap (option_or (next_for flow (receiver_in part.role))) (next_elsewhere flow parts i new (omega (arith, within)) p q)
+  there_by : (part : PartState) (parts : List PartState) (o : Option X) → found part ≡ o → first parts ≡ found (get_or parts (first_with has parts) no_part)
+      → option_or o (first parts) ≡ found (get_or (part ∷ parts) (cond (is_some o) 0 (suc (first_with has parts))) no_part)
+  there_by part parts (Some x) is rest = sym is
+  there_by part parts None is rest = rest
+
+  first_there : found no_part ≡ None → (parts : List PartState) → first parts ≡ found (get_or parts (first_with has parts) no_part)
+  first_there none [] = sym none
+  first_there none (part ∷ parts) = there_by part parts (found part) refl (first_there none parts)
+
+  -- another node in the place of one that isn't the first
+  first_elsewhere : found no_part ≡ None → (parts : List PartState) (i : ℕ) (new : PartState) → has new ≡ has (get_or parts i no_part) → first_with has parts ≢ i → first (set parts i new) ≡ first parts
+  first_elsewhere none parts i new same other =
+      first_there none (set parts i new)
+      ∙ ap (λ n. found (get_or (set parts i new) n no_part)) (stays has parts i new same)
+      ∙ ap found (get_or-set_other parts i (first_with has parts) new no_part other)
+      ∙ sym (first_there none parts)
+
+-- links, senders and receivers are found so
+module _ (number : ℕ) where
+  abbrev own_link : PartState → Option LinkState
+  own_link part = link_among number part.links
+
+  abbrev own_sender : PartState → Option SenderFields
+  own_sender part = sender_for number (sender_in part.role)
+
+  abbrev own_next : PartState → Option ℕ
+  own_next part = next_for number (receiver_in part.role)
+
+  link_first : (parts : List PartState) → link_in number parts ≡ first own_link parts
+  link_first [] = refl
+  link_first (part ∷ parts) = ap (option_or (own_link part)) (link_first parts)
+
+  sender_first : (parts : List PartState) → sender_of number parts ≡ first own_sender parts
+  sender_first [] = refl
+  sender_first (part ∷ parts) = ap (option_or (own_sender part)) (sender_first parts)
+
+  next_first : (parts : List PartState) → next_in number parts ≡ first own_next parts
+  next_first [] = refl
+  next_first (part ∷ parts) = ap (option_or (own_next part)) (next_first parts)
+
+-- a link, and a value, is that of the first node that has it
+pub link_there : (number : ℕ) (s : State) → link_in number s.parts ≡ link_among number (part_at s (node_of (Link number) s)).links
+link_there number s = link_first number s.parts ∙ first_there (own_link number) refl s.parts
+
+value_of : (value : FlowValue) (flow : ℕ) (s : State) → value_in value flow s ≡ value_for value flow (part_at s (first_with (λ part. keeps_value value flow part.role) s.parts))
+value_of (Sender value) flow s = ap (option_map (sender_value value)) (sender_first flow s.parts ∙ first_there (own_sender flow) refl s.parts)
+value_of Next flow s = next_first flow s.parts ∙ first_there (own_next flow) refl s.parts
+
+pub value_there : (asked : ValueOf) (s : State) → value_in asked.value asked.flow s ≡ value_for asked.value asked.flow (part_at s (node_of (Value asked) s))
+value_there asked s = value_of asked.value asked.flow s
+
+-- no value lies past the last node
+pub no_value : (value : FlowValue) (flow : ℕ) → value_for value flow no_part ≡ None
+no_value (Sender value) flow = refl
+no_value Next flow = refl
+
+-- the part at a node of a net, and past its last
+module _ (s : State) (nodes : List NodeState) (parts : parts_of nodes ≡ s.parts) (node : ℕ) where
+  pub part_here : (n : NodeState) → node < length nodes → n ≡ get_or nodes node n → part_at s node ≡ n.part
+  part_here n within is = ap (λ l. get_or l node no_part) (sym parts) ∙ get_or-map (λ (m : NodeState). m.part) nodes node n no_part within ∙ ap (λ (m : NodeState). m.part) (sym is)
+
+  pub part_past : length nodes ≤ node → part_at s node ≡ no_part
+  part_past past =
+      let size = length-map nodes (λ (m : NodeState). m.part) in
+      ap (λ l. get_or l node no_part) (sym parts) ∙ get_or_past (parts_of nodes) node no_part (omega (arith, size, past))
 
 -- A LINE OF A RUN
 
@@ -217,26 +284,36 @@ module _ (s : State) (k : Key) (v : Event) (there : k.node < length s.parts) whe
   abbrev new : State
   new = stepped s k effect
 
-  here : part_at new k.node ≡ effect.part
-  here = get_or-set_same s.parts k.node effect.part no_part there
+  keeps_on : (value : FlowValue) (flow : ℕ) → keeps_value value flow effect.part.role ≡ keeps_value value flow (part_at s k.node).role
+  keeps_on (Sender value) flow = (end_stays flow (part_at s k.node) k v).sends
+  keeps_on Next flow = (end_stays flow (part_at s k.node) k v).receives
 
-  offered_stays : (number : ℕ) → has_link number (part_at new k.node) ≡ false → offered_in number s ≡ offered_in number new
-  offered_stays number none =
-      let after : has_link number effect.part ≡ false = ap (has_link number) (sym here) ∙ none in
-      let before : has_link number (part_at s k.node) ≡ false = sym (links_stay number (part_at s k.node) k v) ∙ after in
-      ap (option_map (λ (link : LinkState). link.port.offered)) (sym (link_elsewhere number s.parts k.node effect.part there after before))
+  has_on : (what : Asked) → has_asked what effect.part ≡ has_asked what (part_at s k.node)
+  has_on (Link number) = links_stay number (part_at s k.node) k v
+  has_on (Value asked) = keeps_on asked.value asked.flow
 
-  value_stays : (value : FlowValue) (flow : ℕ) → keeps_value value flow (part_at new k.node).role ≡ false → value_in value flow s ≡ value_in value flow new
-  value_stays (Sender value) flow none =
-      let after : is_some (sender_for flow (sender_in effect.part.role)) ≡ false = ap (λ (p : PartState). is_some (sender_for flow (sender_in p.role))) (sym here) ∙ none in
-      let before = sym (end_stays flow (part_at s k.node) k v).sends ∙ after in
-      ap (option_map (sender_value value)) (sym (sender_elsewhere flow s.parts k.node effect.part there after before))
-  value_stays Next flow none =
-      let after : is_some (next_for flow (receiver_in effect.part.role)) ≡ false = ap (λ (p : PartState). is_some (next_for flow (receiver_in p.role))) (sym here) ∙ none in
-      let before = sym (end_stays flow (part_at s k.node) k v).receives ∙ after in
-      sym (next_elsewhere flow s.parts k.node effect.part there after before)
+  node_stays : (what : Asked) → node_of what s ≡ node_of what new
+  node_stays what = sym (stays (has_asked what) s.parts k.node effect.part (has_on what))
 
--- the node of the line has what is looked for after the line, or nothing of it is another
+  offered_stays : (number : ℕ) → node_of (Link number) s ≢ k.node → offered_in number s ≡ offered_in number new
+  offered_stays number other =
+      ap (option_map (λ (link : LinkState). link.port.offered))
+      (link_first number s.parts
+      ∙ sym (first_elsewhere (own_link number) refl s.parts k.node effect.part (links_stay number (part_at s k.node) k v) other)
+      ∙ sym (link_first number new.parts))
+
+  value_stays : (value : FlowValue) (flow : ℕ) → first_with (λ part. keeps_value value flow part.role) s.parts ≢ k.node → value_in value flow s ≡ value_in value flow new
+  value_stays (Sender value) flow other =
+      ap (option_map (sender_value value))
+      (sender_first flow s.parts
+      ∙ sym (first_elsewhere (own_sender flow) refl s.parts k.node effect.part (end_stays flow (part_at s k.node) k v).sends other)
+      ∙ sym (sender_first flow new.parts))
+  value_stays Next flow other =
+      next_first flow s.parts
+      ∙ sym (first_elsewhere (own_next flow) refl s.parts k.node effect.part (end_stays flow (part_at s k.node) k v).receives other)
+      ∙ sym (next_first flow new.parts)
+
+-- what holds of each event of a node that is there
 pub of_line : (G : State → State → ℕ → Type 0) (before after : Reached) (line : TraceLine) → IsRun before → Stepped before (Some line) after
     → ((s : State) (k : Key) (v : Event) → k.node < length s.parts → G s (stepped s k (effect_of s (k, v))) k.node) → G before.state after.state line.key.node
 of_line G before after line is stepped_to from =
@@ -245,13 +322,17 @@ of_line G before after line is stepped_to from =
     let there = node_within is.scenario before.position is.lines s is.is_scenario is.is k v due_is in
     subst (λ (t : State). G s t line.key.node) (sym new_is) (subst (λ n. G s (stepped s k (effect_of s (k, v))) n) (sym (ap (λ (l : TraceLine). l.key.node) line_is)) (from s k v there)))
 
-pub offered_elsewhere : (before after : Reached) (line : TraceLine) (number : ℕ) → IsRun before → Stepped before (Some line) after → has_link number (part_at after.state line.key.node) ≡ false → offered_in number before.state ≡ offered_in number after.state
-offered_elsewhere before after line number is stepped_to =
-    of_line (λ s t n. has_link number (part_at t n) ≡ false → offered_in number s ≡ offered_in number t) before after line is stepped_to (λ s k v there. offered_stays s k v there number)
+pub node_same : (before after : Reached) (line : TraceLine) (what : Asked) → IsRun before → Stepped before (Some line) after → node_of what before.state ≡ node_of what after.state
+node_same before after line what is stepped_to =
+    of_line (λ s t n. node_of what s ≡ node_of what t) before after line is stepped_to (λ s k v there. node_stays s k v there what)
 
-pub value_elsewhere : (before after : Reached) (line : TraceLine) (value : FlowValue) (flow : ℕ) → IsRun before → Stepped before (Some line) after → keeps_value value flow (part_at after.state line.key.node).role ≡ false → value_in value flow before.state ≡ value_in value flow after.state
-value_elsewhere before after line value flow is stepped_to =
-    of_line (λ s t n. keeps_value value flow (part_at t n).role ≡ false → value_in value flow s ≡ value_in value flow t) before after line is stepped_to (λ s k v there. value_stays s k v there value flow)
+pub offered_elsewhere : (before after : Reached) (line : TraceLine) (number : ℕ) → IsRun before → Stepped before (Some line) after → node_of (Link number) before.state ≢ line.key.node → offered_in number before.state ≡ offered_in number after.state
+offered_elsewhere before after line number is stepped_to =
+    of_line (λ s t n. node_of (Link number) s ≢ n → offered_in number s ≡ offered_in number t) before after line is stepped_to (λ s k v there. offered_stays s k v there number)
+
+pub value_elsewhere : (before after : Reached) (line : TraceLine) (asked : ValueOf) → IsRun before → Stepped before (Some line) after → node_of (Value asked) before.state ≢ line.key.node → value_in asked.value asked.flow before.state ≡ value_in asked.value asked.flow after.state
+value_elsewhere before after line asked is stepped_to =
+    of_line (λ s t n. node_of (Value asked) s ≢ n → value_in asked.value asked.flow s ≡ value_in asked.value asked.flow t) before after line is stepped_to (λ s k v there. value_stays s k v there asked.value asked.flow)
 
 -- ALL THAT A BREAKPOINT SEES
 
@@ -259,25 +340,47 @@ neither : (a b : Bool) → (a || b) ≡ false → (a ≡ false) × (b ≡ false)
 neither true b e = absurd (true≢false e)
 neither false b e = (refl, e)
 
-same_seen : {a b c d a' b' c' d' : Option ℕ} → a ≡ a' → b ≡ b' → c ≡ c' → d ≡ d' → ◌≡◌ {A = Seen} (record { queue = a; wait = b; count = c; change = d }) (record { queue = a'; wait = b'; count = c'; change = d' })
+same_link : {n n' : ℕ} {o o' : Option ℕ} → n ≡ n' → o ≡ o' → ◌≡◌ {A = SeenLink} (record { node = n; offered = o }) (record { node = n'; offered = o' })
+same_link e f i = record { node = e i; offered = f i }
+
+same_value : {n n' : ℕ} {o o' : Option ℕ} → n ≡ n' → o ≡ o' → ◌≡◌ {A = SeenValue} (record { node = n; value = o }) (record { node = n'; value = o' })
+same_value e f i = record { node = e i; value = f i }
+
+same_seen : {a b c a' b' c' : SeenLink} {d d' : SeenValue} → a ≡ a' → b ≡ b' → c ≡ c' → d ≡ d' → ◌≡◌ {A = Seen} (record { queue = a; wait = b; count = c; change = d }) (record { queue = a'; wait = b'; count = c'; change = d' })
 same_seen e f g h i = record { queue = e i; wait = f i; count = g i; change = h i }
 
 module _ (before after : Reached) (line : TraceLine) (is : IsRun before) (stepped_to : Stepped before (Some line) after) where
-  abbrev node : PartState
-  node = part_at after.state line.key.node
+  as_many : length before.state.parts ≡ length after.state.parts
+  as_many = of_line (λ s t n. length s.parts ≡ length t.parts) before after line is stepped_to (λ s k v there. sym (length-set s.parts k.node (effect_of s (k, v)).part))
 
-  asked_offered : (asked : Option LinkBound) → has_link_asked node asked ≡ false → offered_as_asked before.state asked ≡ offered_as_asked after.state asked
-  asked_offered None none = refl
-  asked_offered (Some bound) none = offered_elsewhere before after line bound.link is stepped_to none
+  link_node : (asked : Option LinkBound) → (seen_link before.state asked).node ≡ (seen_link after.state asked).node
+  link_node None = as_many
+  link_node (Some bound) = node_same before after line (Link bound.link) is stepped_to
 
-  asked_value : (asked : Option ValueOf) → keeps_value_asked node asked ≡ false → value_as_asked before.state asked ≡ value_as_asked after.state asked
-  asked_value None none = refl
-  asked_value (Some asked) none = value_elsewhere before after line asked.value asked.flow is stepped_to none
+  value_node : (asked : Option ValueOf) → (seen_value before.state asked).node ≡ (seen_value after.state asked).node
+  value_node None = as_many
+  value_node (Some asked) = node_same before after line (Value asked) is stepped_to
+
+  -- it stays at the nodes at which it was
+  pub same_nodes : (v : Values) → HasSameNodes (seen_in before.state v) (seen_in after.state v)
+  same_nodes v = record { queue = link_node v.queue; wait = link_node v.wait; count = link_node v.count; change = value_node v.change }
+
+  other_link : (asked : Option LinkBound) → ((seen_link before.state asked).node == line.key.node) ≡ false → seen_link before.state asked ≡ seen_link after.state asked
+  other_link None none = same_link as_many refl
+  other_link (Some bound) none =
+      same_link (link_node (Some bound)) (offered_elsewhere before after line bound.link is stepped_to (eqb-false (node_of (Link bound.link) before.state) line.key.node none))
+
+  other_value : (asked : Option ValueOf) → ((seen_value before.state asked).node == line.key.node) ≡ false → seen_value before.state asked ≡ seen_value after.state asked
+  other_value None none = same_value as_many refl
+  other_value (Some asked) none =
+      same_value (value_node (Some asked)) (value_elsewhere before after line asked is stepped_to (eqb-false (node_of (Value asked) before.state) line.key.node none))
 
   -- none of what a breakpoint asks for is at the node of the line: it sees what it saw
-  pub seen_elsewhere : (v : Values) → sees_at v node ≡ false → seen_in before.state v ≡ seen_in after.state v
+  pub seen_elsewhere : (v : Values) → sees_at (seen_in before.state v) line.key.node ≡ false → seen_in before.state v ≡ seen_in after.state v
   seen_elsewhere v none =
-      let halves = neither (has_link_asked node v.queue || has_link_asked node v.wait) (has_link_asked node v.count || keeps_value_asked node v.change) none in
-      let first = neither (has_link_asked node v.queue) (has_link_asked node v.wait) halves.0 in
-      let last = neither (has_link_asked node v.count) (keeps_value_asked node v.change) halves.1 in
-      same_seen (asked_offered v.queue first.0) (asked_offered v.wait first.1) (asked_offered v.count last.0) (asked_value v.change last.1)
+      let seen = seen_in before.state v in
+      let n = line.key.node in
+      let halves = neither (seen.queue.node == n || seen.wait.node == n) (seen.count.node == n || seen.change.node == n) none in
+      let first = neither (seen.queue.node == n) (seen.wait.node == n) halves.0 in
+      let last = neither (seen.count.node == n) (seen.change.node == n) halves.1 in
+      same_seen (other_link v.queue first.0) (other_link v.wait first.1) (other_link v.count last.0) (other_value v.change last.1)

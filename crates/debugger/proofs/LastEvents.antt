@@ -18,7 +18,7 @@ module _ (breaks : List Break) (old : State) (line : TraceLine) (new : State) wh
   abbrev pub NoneOfFirst : ℕ → Type 0
   NoneOfFirst n = (k : ℕ) (d : Break) → k < n → Matches (get_or breaks k d) old line new → ⊥
 
-  pub hits_first : (i : ℕ) (b : Break) (w : Seen) → i < length breaks → b ≡ get_or breaks i b → w ≡ seen_in old b.values → NoneOfFirst i → Matches b old line new → HitsFirst breaks old line new (record { number = i + 1; breakpoint = b; was = w.change })
+  pub hits_first : (i : ℕ) (b : Break) (w : Seen) → i < length breaks → b ≡ get_or breaks i b → w ≡ seen_in old b.values → NoneOfFirst i → Matches b old line new → HitsFirst breaks old line new (record { number = i + 1; breakpoint = b; was = w.change.value })
   hits_first i b w within value sees none hit =
       let here : drop i breaks ≡ b ∷ drop (i + 1) breaks = drop_more breaks i b within ∙ ap (λ x. x ∷ drop (i + 1) breaks) (sym value) in
       let size : length (take i breaks) ≡ i = length-take-le i breaks (omega (arith, within)) in
@@ -27,7 +27,7 @@ module _ (breaks : List Break) (old : State) (line : TraceLine) (new : State) wh
         after = drop (i + 1) breaks;
         parted = sym (take-append-drop i breaks) ∙ ap (λ l. take i breaks ++ l) here;
         at = omega (arith, size);
-        was = ap (λ (x : Seen). x.change) sees;
+        was = ap (λ (x : Seen). x.change.value) sees;
         missed = λ has.
             let under : has.0 < i = omega (arith, has.2, size) in
             none has.0 has.1 under (subst (λ (c : Break). Matches c old line new) (sym (sym (get_or-take i breaks has.0 has.1 under) ∙ has.3)) has.4);

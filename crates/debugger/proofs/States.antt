@@ -33,6 +33,12 @@ module _ (s t : State) where
   halves_begin [] seen are = are
   halves_begin (b ∷ breaks) seen are = are
 
+  -- the next one has seen the state before the event
+  pub halves_at : (breaks : List Break) (i : ℕ) (d : Break) (w : Seen) → i < length breaks → get_or (halves s t breaks i) i w ≡ seen_in s (get_or breaks i d).values
+  halves_at [] i d w within = absurd (omega (arith, within))
+  halves_at (b ∷ breaks) zero d w within = refl
+  halves_at (b ∷ breaks) (suc i) d w within = halves_at breaks i d w (omega (arith, within))
+
   halves_all : (breaks : List Break) → halves s t breaks (length breaks) ≡ each (λ (x : Break). seen_in t x.values) breaks
   halves_all [] = refl
   halves_all (b ∷ breaks) = ap (λ l. seen_in t b.values ∷ l) (halves_all breaks)

@@ -131,7 +131,7 @@ pub record HitsFirst (breaks : List Break) (old : State) (line : TraceLine) (new
   pub after : List Break
   pub parted : breaks ≡ before ++ hit.breakpoint ∷ after
   pub at : hit.number ≡ length before + 1
-  pub was : hit.was ≡ (seen_in old hit.breakpoint.values).change
+  pub was : hit.was ≡ (seen_in old hit.breakpoint.values).change.value
   pub missed : ¬ IsHit before old line new
   pub matches : Matches hit.breakpoint old line new
 

@@ -9,7 +9,8 @@ use Rattle.debugger.specs.declared.reads.Readable.TheVariants.{Value, Phase, Que
 use Rattle.debugger.specs.declared.reads.Reading.{Reading}
 use Rattle.debugger.specs.declared.reads.Reading.TheVariants.{Number, Phase as InPhase, Nothing}
 use Rattle.debugger.specs.Values.{phase_of}
-use Rattle.debugger.specs.Seen.{value_in, queue_in, wait_in, count_in}
+use Rattle.debugger.specs.declared.values.LinkValue.TheVariants.{Queue as QueueOf, Wait as WaitOf, Count as CountOf}
+use Rattle.debugger.specs.Seen.{value_in, link_value_in}
 
 -- a number, where there is one
 abbrev pub as_number : Option ℕ → Reading
@@ -25,9 +26,9 @@ as_phase (Some f) = InPhase (phase_of f)
 abbrev pub read_in : ℕ → Readable → State → Reading
 read_in now (Value asked) s = as_number (value_in asked.value asked.flow s)
 read_in now (Phase flow) s = as_phase (sender_of flow s.parts)
-read_in now (Queue link) s = as_number (queue_in link s)
-read_in now (Wait link) s = as_number (wait_in now link s)
-read_in now (Count link) s = as_number (count_in link s)
+read_in now (Queue link) s = as_number (link_value_in QueueOf now link s)
+read_in now (Wait link) s = as_number (link_value_in WaitOf now link s)
+read_in now (Count link) s = as_number (link_value_in CountOf now link s)
 
 -- and of the state that a move has left, where there is one
 abbrev pub read_left_in : ℕ → Readable → Option Reached → Reading

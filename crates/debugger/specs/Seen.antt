@@ -1,10 +1,10 @@
 -- What a condition on a link, or on a change, says of a line: it compares the state before with that after.
-use Rattle.std.specs.Prelude.{◌≡◌, ◌≢◌, ◌⊎◌, ◌==◌, ◌-◌, ℕ, Bool, false, ◌||◌, if◌then◌else◌, List, [], ◌∷◌, length, map as each, slice_get, Option, None, Some, IfSome, is_some, option_map, option_and_then}
+use Rattle.std.specs.Prelude.{◌≡◌, ◌≢◌, ◌⊎◌, ◌==◌, ◌-◌, ℕ, suc, Bool, ◌||◌, if◌then◌else◌, List, [], ◌∷◌, length, map as each, slice_get, Option, None, Some, IfSome, is_some, option_map, option_and_then}
 use Rattle.std.specs.Option.{option_or}
 use Rattle.packet_chain.specs.Stamped.{Stamped}
 use Rattle.aqm.specs.Queue.{waiting_in}
-use Rattle.aqm.specs.declared.queue.Queue.{Queue}
-use Rattle.aqm.specs.declared.readout.Readout.TheVariants.{Count}
+use Rattle.aqm.specs.declared.queue.Queue.{Queue as LinkQueue}
+use Rattle.aqm.specs.declared.readout.Readout.TheVariants.{Count as DropCount}
 use Rattle.aqm.specs.Readouts.{read_of}
 use Rattle.reno_sender.specs.declared.fields.SenderFields.{SenderFields}
 use Rattle.reno_sender.specs.Fields.{flight_size}
@@ -16,13 +16,19 @@ use Rattle.node_core.specs.TraceLine.{TraceLine}
 use Rattle.table_run.specs.State.{State}
 use Rattle.flow_waits.specs.Stalled.{sender_for, sender_of}
 use Rattle.debugger.specs.declared.values.LinkBound.{LinkBound}
+use Rattle.debugger.specs.declared.values.LinkValue.{LinkValue}
+use Rattle.debugger.specs.declared.values.LinkValue.TheVariants.{Queue, Wait, Count}
 use Rattle.debugger.specs.declared.values.SenderValue.{SenderValue}
 use Rattle.debugger.specs.declared.values.SenderValue.TheVariants.{Cwnd, Flight, Ssthresh, Una, Nxt, Rto, Dups}
 use Rattle.debugger.specs.declared.values.FlowValue.{FlowValue}
 use Rattle.debugger.specs.declared.values.FlowValue.TheVariants.{Sender, Next}
 use Rattle.debugger.specs.declared.values.ValueOf.{ValueOf}
 use Rattle.debugger.specs.declared.values.Values.{Values}
+use Rattle.debugger.specs.declared.seen.SeenLink.{SeenLink}
+use Rattle.debugger.specs.declared.seen.SeenValue.{SeenValue}
 use Rattle.debugger.specs.declared.seen.Seen.{Seen}
+use Rattle.debugger.specs.declared.seen.Asked.{Asked}
+use Rattle.debugger.specs.declared.seen.Asked.TheVariants.{Link, Value}
 use Rattle.debugger.specs.declared.breaks.Break.{Break}
 use Rattle.debugger.specs.Values.{HoldsOf}
 
@@ -39,31 +45,30 @@ link_in number (part ∷ parts) = option_or (link_among number part.links) (link
 abbrev pub offered_in : ℕ → State → Option ℕ
 offered_in number s = option_map (λ (link : LinkState). link.port.offered) (link_in number s.parts)
 
--- how many packets wait at it
-abbrev pub queue_in : ℕ → State → Option ℕ
-queue_in number s = option_map (λ (link : LinkState). length (waiting_in link.port.queue)) (link_in number s.parts)
-
--- for how long the first of them has waited at a moment; none where none waits
+-- for how long the first packet has waited at a moment; none where none waits
 abbrev pub head_wait : ℕ → LinkState → Option ℕ
 head_wait now link = option_map (λ (cell : Stamped). now - cell.1) (slice_get (waiting_in link.port.queue) 0)
 
-abbrev pub wait_in : ℕ → ℕ → State → Option ℕ
-wait_in now number s = option_and_then (head_wait now) (link_in number s.parts)
-
 -- the count by which a queue drops; drop-tail has none
-abbrev pub count_of : Queue → Option ℕ
-count_of q = read_of q Count
+abbrev pub count_of : LinkQueue → Option ℕ
+count_of q = read_of q DropCount
 
-abbrev pub count_in : ℕ → State → Option ℕ
-count_in number s = option_and_then (λ (link : LinkState). count_of link.port.queue) (link_in number s.parts)
+-- a value of a link at a moment, and of that of a number in a state
+abbrev pub link_value : LinkValue → ℕ → LinkState → Option ℕ
+link_value Queue now link = Some (length (waiting_in link.port.queue))
+link_value Wait now link = head_wait now link
+link_value Count now link = count_of link.port.queue
+
+abbrev pub link_value_in : LinkValue → ℕ → ℕ → State → Option ℕ
+link_value_in value now number s = option_and_then (link_value value now) (link_in number s.parts)
 
 -- a line changes a link: the link becomes free, or packets are offered to it
 abbrev pub ChangesLink : ℕ → State → TraceLine → State → Type 0
 ChangesLink number before line after = (line.event ≡ Free number) ⊎ (offered_in number before ≢ offered_in number after)
 
 -- a line changes the link that a bound names, and the bound holds of a value of it afterwards
-abbrev pub HoldsOfLink : (ℕ → State → Option ℕ) → State → TraceLine → State → LinkBound → Type 0
-HoldsOfLink value before line after asked = ChangesLink asked.link before line after × HoldsOf (value asked.link after) asked.bound
+abbrev pub HoldsOfLink : LinkValue → State → TraceLine → State → LinkBound → Type 0
+HoldsOfLink value before line after asked = ChangesLink asked.link before line after × HoldsOf (link_value_in value line.key.time asked.link after) asked.bound
 
 -- the next byte that the receiver of a flow waits for, at the first of the nodes that receives it
 abbrev pub next_if : Bool → ReceiverState → Option ℕ
@@ -87,7 +92,11 @@ sender_value Nxt f = f.nxt
 sender_value Rto f = f.rto
 sender_value Dups f = f.dups
 
--- a value of a flow in a state
+-- a value of a flow that the sender or the receiver of a node keeps, and in a state
+abbrev pub value_for : FlowValue → ℕ → PartState → Option ℕ
+value_for (Sender value) flow part = option_map (sender_value value) (sender_for flow (sender_in part.role))
+value_for Next flow part = next_for flow (receiver_in part.role)
+
 abbrev pub value_in : FlowValue → ℕ → State → Option ℕ
 value_in (Sender value) flow s = option_map (sender_value value) (sender_of flow s.parts)
 value_in Next flow s = next_in flow s.parts
@@ -98,9 +107,9 @@ Becomes before after asked = value_in asked.value asked.flow before ≢ value_in
 
 -- each condition on a link holds
 pub record MeetsLinks (v : Values) (before : State) (line : TraceLine) (after : State) : Type 0 where
-  pub queue : IfSome v.queue (HoldsOfLink queue_in before line after)
-  pub wait : IfSome v.wait (HoldsOfLink (wait_in line.key.time) before line after)
-  pub count : IfSome v.count (HoldsOfLink count_in before line after)
+  pub queue : IfSome v.queue (HoldsOfLink Queue before line after)
+  pub wait : IfSome v.wait (HoldsOfLink Wait before line after)
+  pub count : IfSome v.count (HoldsOfLink Count before line after)
 
 -- each condition that compares the state after a line with that before it
 pub record MeetsStates (v : Values) (before : State) (line : TraceLine) (after : State) : Type 0 where
@@ -111,16 +120,6 @@ pub record MeetsStates (v : Values) (before : State) (line : TraceLine) (after :
 abbrev pub asks_states : Values → Bool
 asks_states v = (is_some v.queue || is_some v.wait) || (is_some v.count || is_some v.change)
 
--- what is seen of a state for it
-abbrev pub offered_as_asked : State → Option LinkBound → Option ℕ
-offered_as_asked s asked = option_and_then (λ (bound : LinkBound). offered_in bound.link s) asked
-
-abbrev pub value_as_asked : State → Option ValueOf → Option ℕ
-value_as_asked s asked = option_and_then (λ (v : ValueOf). value_in v.value v.flow s) asked
-
-abbrev pub seen_in : State → Values → Seen
-seen_in s v = record { queue = offered_as_asked s v.queue; wait = offered_as_asked s v.wait; count = offered_as_asked s v.count; change = value_as_asked s v.change }
-
 -- a link of a number leaves a node
 abbrev pub has_link : ℕ → PartState → Bool
 has_link number part = is_some (link_among number part.links)
@@ -130,17 +129,47 @@ abbrev pub keeps_value : FlowValue → ℕ → Role → Bool
 keeps_value (Sender value) flow role = is_some (sender_for flow (sender_in role))
 keeps_value Next flow role = is_some (next_for flow (receiver_in role))
 
--- something of what is seen is at a node
-abbrev pub has_link_asked : PartState → Option LinkBound → Bool
-has_link_asked part None = false
-has_link_asked part (Some bound) = has_link bound.link part
+-- a node has what is looked for
+abbrev pub has_asked : Asked → PartState → Bool
+has_asked (Link number) part = has_link number part
+has_asked (Value asked) part = keeps_value asked.value asked.flow part.role
 
-abbrev pub keeps_value_asked : PartState → Option ValueOf → Bool
-keeps_value_asked part None = false
-keeps_value_asked part (Some asked) = keeps_value asked.value asked.flow part.role
+-- the first of the nodes of which something holds, by its number; as many as there are nodes where there is none
+abbrev pub first_with : (PartState → Bool) → List PartState → ℕ
+first_with holds [] = 0
+first_with holds (part ∷ parts) = if holds part then 0 else suc (first_with holds parts)
 
-abbrev pub sees_at : Values → PartState → Bool
-sees_at v part = (has_link_asked part v.queue || has_link_asked part v.wait) || (has_link_asked part v.count || keeps_value_asked part v.change)
+abbrev pub node_of : Asked → State → ℕ
+node_of what s = first_with (has_asked what) s.parts
+
+-- what is seen of a state: of a link and of a value that are asked for the first node that has it, and it
+abbrev pub seen_of_link : ℕ → State → SeenLink
+seen_of_link number s = record { node = node_of (Link number) s; offered = offered_in number s }
+
+abbrev pub seen_link : State → Option LinkBound → SeenLink
+seen_link s None = record { node = length s.parts; offered = None }
+seen_link s (Some bound) = seen_of_link bound.link s
+
+abbrev pub seen_of_value : ValueOf → State → SeenValue
+seen_of_value asked s = record { node = node_of (Value asked) s; value = value_in asked.value asked.flow s }
+
+abbrev pub seen_value : State → Option ValueOf → SeenValue
+seen_value s None = record { node = length s.parts; value = None }
+seen_value s (Some asked) = seen_of_value asked s
+
+abbrev pub seen_in : State → Values → Seen
+seen_in s v = record { queue = seen_link s v.queue; wait = seen_link s v.wait; count = seen_link s v.count; change = seen_value s v.change }
+
+-- something of what is seen is at the node of a number
+abbrev pub sees_at : Seen → ℕ → Bool
+sees_at seen node = (seen.queue.node == node || seen.wait.node == node) || (seen.count.node == node || seen.change.node == node)
+
+-- all of it is at the same nodes
+pub record HasSameNodes (a b : Seen) : Type 0 where
+  pub queue : a.queue.node ≡ b.queue.node
+  pub wait : a.wait.node ≡ b.wait.node
+  pub count : a.count.node ≡ b.count.node
+  pub change : a.change.node ≡ b.change.node
 
 -- what each breakpoint sees of a state
 abbrev pub AreSeen : List Break → State → List Seen → Type 0

@@ -521,7 +521,7 @@ fn first_of(
                 return Ok(Some(Hit {
                     number: index as u64 + 1,
                     breakpoint: *breakpoint,
-                    was: was.change,
+                    was: was.change.value,
                 }));
             }
             Ok(false) => {}

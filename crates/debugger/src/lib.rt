@@ -26,8 +26,9 @@ pub use fault::MoveFault;
 pub use moves::Debugger;
 pub use passed::{LastEvent, LineOrder, Stretch};
 pub use reads::{Readable, Reading};
-pub use seen::Seen;
+pub use seen::{Seen, SeenLink, SeenValue};
 pub use stalls::StallAt;
 pub use values::{
-    Bound, FlowValue, LinkBound, Phase, SenderValue, Sign, ValueCondition, ValueOf, Values,
+    Bound, FlowValue, LinkBound, LinkValue, Phase, SenderValue, Sign, ValueCondition, ValueOf,
+    Values,
 };

@@ -3,8 +3,8 @@ ghost use Rattle.std.specs.Prelude.{◌≡◌};
 ghost use Rattle.flow_waits.specs.Stalled.{sender_of};
 ghost use Rattle.debugger.specs.Reads.{as_number, as_phase, read_in, read_left_in};
 
-use crate::seen::{count_in, fields_in, queue_in, value_in, wait_in};
-use crate::values::{Phase, ValueOf, phase_of};
+use crate::seen::{fields_in, link_value_in, value_in};
+use crate::values::{LinkValue, Phase, ValueOf, phase_of};
 use net_machine::Net;
 use node_core::SenderShown;
 use sim_time::Time;
@@ -62,9 +62,9 @@ pub(crate) fn read_in(now: Time, what: Readable, net: &Net) -> Reading
     match what {
         Readable::Value(asked) => as_number(value_in(asked.value, asked.flow, net)),
         Readable::Phase(flow) => phase_in(flow, net),
-        Readable::Queue(link) => as_number(queue_in(link, net)),
-        Readable::Wait(link) => as_number(wait_in(now, link, net)),
-        Readable::Count(link) => as_number(count_in(link, net)),
+        Readable::Queue(link) => as_number(link_value_in(LinkValue::Queue, now, link, net)),
+        Readable::Wait(link) => as_number(link_value_in(LinkValue::Wait, now, link, net)),
+        Readable::Count(link) => as_number(link_value_in(LinkValue::Count, now, link, net)),
     }
 }
 

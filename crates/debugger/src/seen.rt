@@ -1,16 +1,15 @@
 //! What breakpoints see of a state, so that the event after it can be compared with it.
-ghost use Rattle.std.specs.Prelude.{◌≡◌, ◌≢◌, ◌↔◌, IsTrue, IfSome, IfOk, Some, length, option_map, option_copied};
+ghost use Rattle.std.specs.Prelude.{◌≡◌, ◌≢◌, ◌↔◌, ◌==◌, IsTrue, IfSome, IfOk, Some, length, option_map, option_copied};
 ghost use Rattle.node_core.specs.TraceLine.{shown};
 ghost use Rattle.node_core.specs.Part.{sender_in, receiver_in};
 ghost use Rattle.net_machine.specs.Nodes.{parts_of};
 ghost use Rattle.net_machine.specs.Run.{Reached, IsRun, Stepped};
-ghost use Rattle.table_run.specs.State.{part_at};
 ghost use Rattle.flow_waits.specs.Stalled.{sender_for, sender_of};
 ghost use Rattle.debugger.specs.Values.{MeetsKept};
-ghost use Rattle.debugger.specs.Seen.{link_among, link_in, offered_in, queue_in, head_wait, wait_in, count_of, count_in, ChangesLink, HoldsOfLink, next_for, next_in, sender_value, value_in, Becomes, MeetsLinks, MeetsStates, asks_states, offered_as_asked, value_as_asked, seen_in, has_link, keeps_value, has_link_asked, keeps_value_asked, sees_at, AreSeen};
+ghost use Rattle.debugger.specs.Seen.{link_among, link_in, offered_in, head_wait, count_of, link_value, link_value_in, ChangesLink, HoldsOfLink, next_for, next_in, sender_value, value_for, value_in, Becomes, MeetsLinks, MeetsStates, asks_states, has_link, keeps_value, has_asked, first_with, node_of, seen_of_link, seen_link, seen_of_value, seen_value, seen_in, sees_at, HasSameNodes, AreSeen};
 
 use crate::breaks::{Break, Breaks};
-use crate::values::{FlowValue, LinkBound, SenderValue, ValueOf, Values};
+use crate::values::{FlowValue, LinkBound, LinkValue, SenderValue, ValueOf, Values};
 use aqm::{Queue, Readout};
 use net_machine::Net;
 use node_core::link::Link;
@@ -20,17 +19,46 @@ use sim_time::Time;
 use std::alloc::{AllocError, Global};
 use std::snapshot::Snapshot;
 
+/// What a breakpoint sees of a link that it asks for.
+#[derive(Clone, Copy, Debug, PartialEq, Eq)]
+pub struct SeenLink {
+    /// The node that the link leaves: the number of the first. As many as there are nodes where it leaves none, or no link
+    /// is asked for.
+    pub node: usize,
+    /// How many packets were offered to the link.
+    pub offered: Option<u128>,
+}
+
+/// What a breakpoint sees of a value whose change it asks for.
+#[derive(Clone, Copy, Debug, PartialEq, Eq)]
+pub struct SeenValue {
+    /// The node whose sender or receiver keeps the value: the number of the first. As many as there are nodes where none
+    /// does, or no value is asked for.
+    pub node: usize,
+    /// The value.
+    pub value: Option<u64>,
+}
+
 /// What a breakpoint sees of a state, for the conditions that compare the state after an event with it.
 #[derive(Clone, Copy, Debug, PartialEq, Eq)]
 pub struct Seen {
-    /// How many packets were offered to the link whose queue is asked for.
-    pub queue: Option<u128>,
-    /// The same of that whose wait is asked for.
-    pub wait: Option<u128>,
-    /// The same of that whose count is asked for.
-    pub count: Option<u128>,
+    /// The link whose queue is asked for.
+    pub queue: SeenLink,
+    /// That whose wait is asked for.
+    pub wait: SeenLink,
+    /// That whose count is asked for.
+    pub count: SeenLink,
     /// The value whose change is asked for.
-    pub change: Option<u64>,
+    pub change: SeenValue,
+}
+
+/// What a node can have that a breakpoint asks for.
+#[derive(Clone, Copy, Debug, PartialEq, Eq)]
+enum Asked {
+    /// The link of this number, which leaves it.
+    Link(u16),
+    /// A value of its sender, or of its receiver.
+    Value(ValueOf),
 }
 
 /// The link of a number among those that leave a node.
@@ -50,15 +78,6 @@ fn has_link(number: u16, node: &Node) -> bool
     ensures { result ≡ has_link number node.now.part }
 {
     link_among(number, node.ports()).is_some()
-}
-
-/// Whether it leaves the node of a number in a net.
-fn has_link_at(number: u16, net: &Net, node: u16) -> bool
-    ensures { result ≡ has_link number (part_at net.now.state node) }
-{
-    let nodes = net.nodes();
-    let place = usize::from(node);
-    place < nodes.len() && has_link(number, &nodes[place])
 }
 
 /// The link of a number in a net.
@@ -83,32 +102,12 @@ fn offered_in(number: u16, net: &Net) -> Option<u128>
     }
 }
 
-/// How many packets wait at it.
-pub(crate) fn queue_in(number: u16, net: &Net) -> Option<u64>
-    ensures { result ≡ queue_in number net.now.state }
-{
-    match link_in(number, net.nodes()) {
-        Some(link) => Some(link.port().queue().len() as u64),
-        None => None,
-    }
-}
-
 /// For how long the first packet has waited at a link.
 fn head_wait(now: Time, link: &Link) -> Option<Time>
     ensures { result ≡ head_wait now link.now }
 {
     match link.port().queue().packets().next() {
         Some((_, entered)) => Some(now.saturating_sub(entered)),
-        None => None,
-    }
-}
-
-/// The same at a link of a net.
-pub(crate) fn wait_in(now: Time, number: u16, net: &Net) -> Option<Time>
-    ensures { result ≡ wait_in now number net.now.state }
-{
-    match link_in(number, net.nodes()) {
-        Some(link) => head_wait(now, link),
         None => None,
     }
 }
@@ -120,12 +119,23 @@ fn count_of(queue: &Queue) -> Option<u64>
     queue.read(Readout::Count)
 }
 
-/// The count of a link of a net.
-pub(crate) fn count_in(number: u16, net: &Net) -> Option<u64>
-    ensures { result ≡ count_in number net.now.state }
+/// A value of a link at a moment.
+fn link_value(value: LinkValue, now: Time, link: &Link) -> Option<u64>
+    ensures { result ≡ link_value value now link.now }
+{
+    match value {
+        LinkValue::Queue => Some(link.port().queue().len() as u64),
+        LinkValue::Wait => head_wait(now, link),
+        LinkValue::Count => count_of(link.port().queue()),
+    }
+}
+
+/// The same of the link of a number in a net.
+pub(crate) fn link_value_in(value: LinkValue, now: Time, number: u16, net: &Net) -> Option<u64>
+    ensures { result ≡ link_value_in value now number net.now.state }
 {
     match link_in(number, net.nodes()) {
-        Some(link) => count_of(link.port().queue()),
+        Some(link) => link_value(value, now, link),
         None => None,
     }
 }
@@ -147,21 +157,60 @@ fn is_other_count(was: Option<u128>, is: Option<u128>) -> bool
     was != is
 }
 
+/// The link of a number at the node of a net that it leaves.
+fn link_at(number: u16, node: usize, net: &Net) -> Option<&Link>
+    ensures { node ≡ node_of (Asked.Link number) net.now.state → option_copied result ≡ link_in number net.now.state.parts }
+{
+    let nodes = net.nodes();
+    if node < nodes.len() {
+        link_among(number, nodes[node].ports())
+    } else {
+        None
+    }
+}
+
+/// How many packets were offered to it.
+fn offered_at(number: u16, node: usize, net: &Net) -> Option<u128>
+    ensures { node ≡ node_of (Asked.Link number) net.now.state → result ≡ offered_in number net.now.state }
+{
+    match link_at(number, node, net) {
+        Some(link) => Some(link.port().offered()),
+        None => None,
+    }
+}
+
+/// A value of it at a moment.
+fn link_value_at(value: LinkValue, now: Time, number: u16, node: usize, net: &Net) -> Option<u64>
+    ensures { node ≡ node_of (Asked.Link number) net.now.state → result ≡ link_value_in value now number net.now.state }
+{
+    match link_at(number, node, net) {
+        Some(link) => link_value(value, now, link),
+        None => None,
+    }
+}
+
+/// Whether a node is that of a number.
+fn is_at(node: usize, number: u16) -> bool
+    ensures { result ≡ (node == number) }
+{
+    node == usize::from(number)
+}
+
 /// Whether other than so many packets were offered to a link by a line, after which a net stands. The line's own node
 /// alone can have offered some.
-fn is_offered_more(number: u16, was: Option<u128>, net: &Net, line: &Line) -> bool
-    ensures { (before : Reached) → IsRun before → Stepped before (Some (shown line.now)) net.now → was ≡ offered_in number before.state → IsTrue result ↔ (offered_in number before.state ≢ offered_in number net.now.state) }
+fn is_offered_more(number: u16, was: &SeenLink, net: &Net, line: &Line) -> bool
+    ensures { (before : Reached) → IsRun before → Stepped before (Some (shown line.now)) net.now → was.now ≡ seen_of_link number before.state → IsTrue result ↔ (offered_in number before.state ≢ offered_in number net.now.state) }
 {
-    if has_link_at(number, net, line.key.node) {
-        is_other_count(was, offered_in(number, net))
+    if is_at(was.node, line.key.node) {
+        is_other_count(was.offered, offered_at(number, was.node, net))
     } else {
         false
     }
 }
 
-/// Whether a line, after which a net stands, changes a link, to which so many packets were offered before it.
-fn changes_link(number: u16, was: Option<u128>, net: &Net, line: &Line) -> bool
-    ensures { (before : Reached) → IsRun before → Stepped before (Some (shown line.now)) net.now → was ≡ offered_in number before.state → IsTrue result ↔ ChangesLink number before.state (shown line.now) net.now.state }
+/// Whether a line, after which a net stands, changes a link, with what was seen of it before the line.
+fn changes_link(number: u16, was: &SeenLink, net: &Net, line: &Line) -> bool
+    ensures { (before : Reached) → IsRun before → Stepped before (Some (shown line.now)) net.now → was.now ≡ seen_of_link number before.state → IsTrue result ↔ ChangesLink number before.state (shown line.now) net.now.state }
 {
     if is_free_of(number, &line.event) {
         true
@@ -170,67 +219,35 @@ fn changes_link(number: u16, was: Option<u128>, net: &Net, line: &Line) -> bool
     }
 }
 
-/// Whether a line changes the link of a bound, and the bound holds of the queue of the link.
-fn queue_within(asked: LinkBound, was: Option<u128>, net: &Net, line: &Line) -> bool
-    ensures { (before : Reached) → IsRun before → Stepped before (Some (shown line.now)) net.now → was ≡ offered_in asked.link before.state → IsTrue result ↔ HoldsOfLink queue_in before.state (shown line.now) net.now.state asked }
+/// Whether a line changes the link of a bound, and the bound holds of a value of the link.
+fn is_link_within(
+    value: LinkValue,
+    asked: LinkBound,
+    was: &SeenLink,
+    net: &Net,
+    line: &Line,
+) -> bool
+    ensures { (before : Reached) → IsRun before → Stepped before (Some (shown line.now)) net.now → was.now ≡ seen_of_link asked.link before.state → IsTrue result ↔ HoldsOfLink value before.state (shown line.now) net.now.state asked }
 {
     if changes_link(asked.link, was, net, line) {
-        asked.bound.holds_of(queue_in(asked.link, net))
+        asked.bound.holds_of(link_value_at(value, line.key.time, asked.link, was.node, net))
     } else {
         false
     }
 }
 
-/// Whether the queue of a link that a line changes is as asked.
-fn has_queue(asked: Option<LinkBound>, was: Option<u128>, net: &Net, line: &Line) -> bool
-    ensures { (before : Reached) → IsRun before → Stepped before (Some (shown line.now)) net.now → was ≡ offered_as_asked before.state asked → IsTrue result ↔ IfSome asked (HoldsOfLink queue_in before.state (shown line.now) net.now.state) }
+/// Whether a value of a link that a line changes is as asked.
+fn has_link_value(
+    value: LinkValue,
+    asked: Option<LinkBound>,
+    was: &SeenLink,
+    net: &Net,
+    line: &Line,
+) -> bool
+    ensures { (before : Reached) → IsRun before → Stepped before (Some (shown line.now)) net.now → was.now ≡ seen_link before.state asked → IsTrue result ↔ IfSome asked (HoldsOfLink value before.state (shown line.now) net.now.state) }
 {
     match asked {
-        Some(asked) => queue_within(asked, was, net, line),
-        None => true,
-    }
-}
-
-/// Whether a line changes the link of a bound, and the bound holds of the wait at the link.
-fn wait_within(asked: LinkBound, was: Option<u128>, net: &Net, line: &Line) -> bool
-    ensures { (before : Reached) → IsRun before → Stepped before (Some (shown line.now)) net.now → was ≡ offered_in asked.link before.state → IsTrue result ↔ HoldsOfLink (wait_in line.now.key.time) before.state (shown line.now) net.now.state asked }
-{
-    if changes_link(asked.link, was, net, line) {
-        asked
-            .bound
-            .holds_of(wait_in(line.key.time, asked.link, net))
-    } else {
-        false
-    }
-}
-
-/// Whether the wait at a link that a line changes is as asked.
-fn has_wait(asked: Option<LinkBound>, was: Option<u128>, net: &Net, line: &Line) -> bool
-    ensures { (before : Reached) → IsRun before → Stepped before (Some (shown line.now)) net.now → was ≡ offered_as_asked before.state asked → IsTrue result ↔ IfSome asked (HoldsOfLink (wait_in line.now.key.time) before.state (shown line.now) net.now.state) }
-{
-    match asked {
-        Some(asked) => wait_within(asked, was, net, line),
-        None => true,
-    }
-}
-
-/// Whether a line changes the link of a bound, and the bound holds of the count of the link.
-fn count_within(asked: LinkBound, was: Option<u128>, net: &Net, line: &Line) -> bool
-    ensures { (before : Reached) → IsRun before → Stepped before (Some (shown line.now)) net.now → was ≡ offered_in asked.link before.state → IsTrue result ↔ HoldsOfLink count_in before.state (shown line.now) net.now.state asked }
-{
-    if changes_link(asked.link, was, net, line) {
-        asked.bound.holds_of(count_in(asked.link, net))
-    } else {
-        false
-    }
-}
-
-/// Whether the count of a link that a line changes is as asked.
-fn has_count(asked: Option<LinkBound>, was: Option<u128>, net: &Net, line: &Line) -> bool
-    ensures { (before : Reached) → IsRun before → Stepped before (Some (shown line.now)) net.now → was ≡ offered_as_asked before.state asked → IsTrue result ↔ IfSome asked (HoldsOfLink count_in before.state (shown line.now) net.now.state) }
-{
-    match asked {
-        Some(asked) => count_within(asked, was, net, line),
+        Some(asked) => is_link_within(value, asked, was, net, line),
         None => true,
     }
 }
@@ -326,11 +343,58 @@ pub(crate) fn value_in(value: FlowValue, flow: u16, net: &Net) -> Option<u64>
     }
 }
 
+/// A value of a flow, where the sender or the receiver of a node keeps it.
+fn value_for(asked: ValueOf, node: &Node) -> Option<u64>
+    ensures { result ≡ value_for asked.value asked.flow node.now.part }
+{
+    match asked.value {
+        FlowValue::Sender(value) => match fields_for(asked.flow, node) {
+            Some(fields) => Some(sender_value(value, fields)),
+            None => None,
+        },
+        FlowValue::Next => next_for(asked.flow, node),
+    }
+}
+
+/// A value of a flow at the node of a net that keeps it.
+fn value_at(asked: ValueOf, node: usize, net: &Net) -> Option<u64>
+    ensures { node ≡ node_of (Asked.Value asked) net.now.state → result ≡ value_in asked.value asked.flow net.now.state }
+{
+    let nodes = net.nodes();
+    if node < nodes.len() {
+        value_for(asked, &nodes[node])
+    } else {
+        None
+    }
+}
+
 /// Whether two values differ.
 fn is_other(was: Option<u64>, is: Option<u64>) -> bool
     ensures { IsTrue result ↔ (was ≢ is) }
 {
     was != is
+}
+
+/// Whether a value is another after a line, after which a net stands, than it was. The line's own node alone can have
+/// changed it.
+fn becomes(asked: ValueOf, was: &SeenValue, net: &Net, line: &Line) -> bool
+    ensures { (before : Reached) → IsRun before → Stepped before (Some (shown line.now)) net.now → was.now ≡ seen_of_value asked before.state → IsTrue result ↔ Becomes before.state net.now.state asked }
+{
+    if is_at(was.node, line.key.node) {
+        is_other(was.value, value_at(asked, was.node, net))
+    } else {
+        false
+    }
+}
+
+/// Whether the value that is asked for is another than it was.
+fn has_changed(asked: Option<ValueOf>, was: &SeenValue, net: &Net, line: &Line) -> bool
+    ensures { (before : Reached) → IsRun before → Stepped before (Some (shown line.now)) net.now → was.now ≡ seen_value before.state asked → IsTrue result ↔ IfSome asked (Becomes before.state net.now.state) }
+{
+    match asked {
+        Some(asked) => becomes(asked, was, net, line),
+        None => true,
+    }
 }
 
 /// Whether a value of a flow is one that the sender or the receiver of a node keeps.
@@ -343,74 +407,99 @@ fn keeps_value(value: FlowValue, flow: u16, node: &Node) -> bool
     }
 }
 
-/// The same of the node of a number in a net.
-fn keeps_value_at(value: FlowValue, flow: u16, net: &Net, node: u16) -> bool
-    ensures { result ≡ keeps_value value flow (part_at net.now.state node).role }
+/// Whether a node has what is looked for.
+fn has_asked(what: Asked, node: &Node) -> bool
+    ensures { result ≡ has_asked what node.now.part }
 {
-    let nodes = net.nodes();
-    let place = usize::from(node);
-    place < nodes.len() && keeps_value(value, flow, &nodes[place])
-}
-
-/// Whether a value is another after a line, after which a net stands, than it was. The line's own node alone can have
-/// changed it.
-fn becomes(asked: ValueOf, was: Option<u64>, net: &Net, line: &Line) -> bool
-    ensures { (before : Reached) → IsRun before → Stepped before (Some (shown line.now)) net.now → was ≡ value_in asked.value asked.flow before.state → IsTrue result ↔ Becomes before.state net.now.state asked }
-{
-    if keeps_value_at(asked.value, asked.flow, net, line.key.node) {
-        is_other(was, value_in(asked.value, asked.flow, net))
-    } else {
-        false
+    match what {
+        Asked::Link(number) => has_link(number, node),
+        Asked::Value(asked) => keeps_value(asked.value, asked.flow, node),
     }
 }
 
-/// Whether the value that is asked for is another than it was.
-fn has_changed(asked: Option<ValueOf>, was: Option<u64>, net: &Net, line: &Line) -> bool
-    ensures { (before : Reached) → IsRun before → Stepped before (Some (shown line.now)) net.now → was ≡ value_as_asked before.state asked → IsTrue result ↔ IfSome asked (Becomes before.state net.now.state) }
+/// The number of the first node that has it; as many as there are nodes where none has.
+fn node_of(what: Asked, nodes: &[Node]) -> usize
+    ensures { result ≡ first_with (has_asked what) (parts_of nodes.now) }
+{
+    for index in 0..nodes.len() {
+        if has_asked(what, &nodes[index]) {
+            return index;
+        }
+    }
+    nodes.len()
+}
+
+/// What is seen of the link that is asked for.
+fn seen_link(asked: Option<LinkBound>, net: &Net) -> SeenLink
+    ensures { result ≡ seen_link net.now.state asked }
 {
     match asked {
-        Some(asked) => becomes(asked, was, net, line),
-        None => true,
+        Some(asked) => SeenLink {
+            node: node_of(Asked::Link(asked.link), net.nodes()),
+            offered: offered_in(asked.link, net),
+        },
+        None => SeenLink {
+            node: net.nodes().len(),
+            offered: None,
+        },
     }
 }
 
-/// Whether the link that is asked for leaves the node of a number in a net.
-fn has_link_asked(asked: Option<LinkBound>, net: &Net, node: u16) -> bool
-    ensures { result ≡ has_link_asked (part_at net.now.state node) asked }
+/// The same, of a link that is still at the node at which it was seen.
+fn link_seen_again(asked: Option<LinkBound>, was: &SeenLink, net: &Net) -> SeenLink
+    ensures { was.now.node ≡ (seen_link net.now.state asked).node → result ≡ seen_link net.now.state asked }
 {
     match asked {
-        Some(asked) => has_link_at(asked.link, net, node),
-        None => false,
+        Some(asked) => SeenLink {
+            node: was.node,
+            offered: offered_at(asked.link, was.node, net),
+        },
+        None => SeenLink {
+            node: was.node,
+            offered: None,
+        },
     }
 }
 
-/// Whether the value whose change is asked for is one that this node keeps.
-fn keeps_value_asked(asked: Option<ValueOf>, net: &Net, node: u16) -> bool
-    ensures { result ≡ keeps_value_asked (part_at net.now.state node) asked }
+/// What is seen of the value whose change is asked for.
+fn seen_value(asked: Option<ValueOf>, net: &Net) -> SeenValue
+    ensures { result ≡ seen_value net.now.state asked }
 {
     match asked {
-        Some(asked) => keeps_value_at(asked.value, asked.flow, net, node),
-        None => false,
+        Some(asked) => SeenValue {
+            node: node_of(Asked::Value(asked), net.nodes()),
+            value: value_in(asked.value, asked.flow, net),
+        },
+        None => SeenValue {
+            node: net.nodes().len(),
+            value: None,
+        },
     }
 }
 
-/// How many packets were offered to the link that is asked for.
-fn offered_as_asked(asked: Option<LinkBound>, net: &Net) -> Option<u128>
-    ensures { result ≡ offered_as_asked net.now.state asked }
+/// The same, of a value that is still kept at the node at which it was seen.
+fn value_seen_again(asked: Option<ValueOf>, was: &SeenValue, net: &Net) -> SeenValue
+    ensures { was.now.node ≡ (seen_value net.now.state asked).node → result ≡ seen_value net.now.state asked }
 {
     match asked {
-        Some(asked) => offered_in(asked.link, net),
-        None => None,
+        Some(asked) => SeenValue {
+            node: was.node,
+            value: value_at(asked, was.node, net),
+        },
+        None => SeenValue {
+            node: was.node,
+            value: None,
+        },
     }
 }
 
-/// The value whose change is asked for.
-fn value_as_asked(asked: Option<ValueOf>, net: &Net) -> Option<u64>
-    ensures { result ≡ value_as_asked net.now.state asked }
-{
-    match asked {
-        Some(asked) => value_in(asked.value, asked.flow, net),
-        None => None,
+impl Seen {
+    /// Whether something of it is at the node of a number.
+    fn is_at(&self, node: u16) -> bool
+        ensures { result ≡ sees_at self.now node }
+    {
+        (is_at(self.queue.node, node) || is_at(self.wait.node, node))
+            || (is_at(self.count.node, node) || is_at(self.change.node, node))
     }
 }
 
@@ -427,9 +516,9 @@ impl Values {
     fn meets_links(&self, was: &Seen, net: &Net, line: &Line) -> bool
         ensures { (before : Reached) → IsRun before → Stepped before (Some (shown line.now)) net.now → was.now ≡ seen_in before.state self.now → IsTrue result ↔ MeetsLinks self.now before.state (shown line.now) net.now.state }
     {
-        has_queue(self.queue, was.queue, net, line)
-            && has_wait(self.wait, was.wait, net, line)
-            && has_count(self.count, was.count, net, line)
+        has_link_value(LinkValue::Queue, self.queue, &was.queue, net, line)
+            && has_link_value(LinkValue::Wait, self.wait, &was.wait, net, line)
+            && has_link_value(LinkValue::Count, self.count, &was.count, net, line)
     }
 
     /// Whether a line, after which a net stands, is as asked, with what was seen of the state before it.
@@ -437,7 +526,7 @@ impl Values {
         ensures { (before : Reached) → IsRun before → Stepped before (Some (shown line.now)) net.now → was.now ≡ seen_in before.state self.now → IsTrue result ↔ MeetsStates self.now before.state (shown line.now) net.now.state }
     {
         if self.meets_links(was, net, line) {
-            has_changed(self.change, was.change, net, line)
+            has_changed(self.change, &was.change, net, line)
         } else {
             false
         }
@@ -454,23 +543,27 @@ impl Values {
         }
     }
 
-    /// Whether something of what is seen is at the node of a number in a net.
-    fn sees_at(&self, net: &Net, node: u16) -> bool
-        ensures { result ≡ sees_at self.now (part_at net.now.state node) }
-    {
-        (has_link_asked(self.queue, net, node) || has_link_asked(self.wait, net, node))
-            || (has_link_asked(self.count, net, node) || keeps_value_asked(self.change, net, node))
-    }
-
     /// What is seen of a net.
     fn seen_in(&self, net: &Net) -> Seen
         ensures { result ≡ seen_in net.now.state self.now }
     {
         Seen {
-            queue: offered_as_asked(self.queue, net),
-            wait: offered_as_asked(self.wait, net),
-            count: offered_as_asked(self.count, net),
-            change: value_as_asked(self.change, net),
+            queue: seen_link(self.queue, net),
+            wait: seen_link(self.wait, net),
+            count: seen_link(self.count, net),
+            change: seen_value(self.change, net),
+        }
+    }
+
+    /// The same, of a net in which all that is asked for is still at the nodes at which it was seen.
+    fn seen_again(&self, was: &Seen, net: &Net) -> Seen
+        ensures { HasSameNodes was.now (seen_in net.now.state self.now) → result ≡ seen_in net.now.state self.now }
+    {
+        Seen {
+            queue: link_seen_again(self.queue, &was.queue, net),
+            wait: link_seen_again(self.wait, &was.wait, net),
+            count: link_seen_again(self.count, &was.count, net),
+            change: value_seen_again(self.change, &was.change, net),
         }
     }
 }
@@ -501,9 +594,10 @@ pub(crate) fn see_again(
     ensures { AreSeen breaks.now net.now.state seen.new.items }
 {
     for index in 0..breaks.len() {
-        let b = &breaks[index];
-        if b.values.sees_at(net, line.key.node) {
-            seen[index] = b.values.seen_in(net);
+        if seen[index].is_at(line.key.node) {
+            let b = &breaks[index];
+            let again = b.values.seen_again(&seen[index], net);
+            seen[index] = again;
         }
     }
 }

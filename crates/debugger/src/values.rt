@@ -52,6 +52,17 @@ pub struct LinkBound {
     pub bound: Bound,
 }
 
+/// A value of a link.
+#[derive(Clone, Copy, Debug, PartialEq, Eq)]
+pub enum LinkValue {
+    /// How many packets wait at it.
+    Queue,
+    /// For how long the first of them has waited, in nanoseconds.
+    Wait,
+    /// CoDel's count of drops.
+    Count,
+}
+
 /// A value of a sender.
 #[derive(Clone, Copy, Debug, PartialEq, Eq)]
 pub enum SenderValue {

@@ -1,12 +1,21 @@
-use Rattle.std.proofs.Common.{ℕ, Option, sym, subst, ◌∙◌, true≢false}
+use Rattle.std.proofs.Common.{ℕ, ◌==◌, Option, sym, ap, subst, ◌∙◌, true≢false}
+use Rattle.std.proofs.lemmas.Bool.{eqb-false}
 use Rattle.std.specs.Prelude.{◌↔◌, ◌≢◌, IsTrue}
 use Rattle.node_core.specs.TraceLine.{shown}
-use Rattle.debugger.proofs.Elsewhere.{value_elsewhere}
+use Rattle.debugger.specs.declared.seen.SeenValue.{SeenValue}
+use Rattle.debugger.specs.declared.seen.Asked.TheVariants.{Value}
+use Rattle.debugger.specs.Seen.{node_of}
+use Rattle.debugger.proofs.Elsewhere.{node_same, value_elsewhere}
 use Rattle.debugger.proofs.seen.becomes.Goals as goal
 
-pub returns-then-keeps_value_at : goal.returns-then-keeps_value_at
-returns-then-keeps_value_at c = λ before is stepped was. subst (λ (p : Option ℕ × Option ℕ). IsTrue c.is_other.result ↔ (p.0 ≢ p.1)) (λ i. (was i, c.value_in.ensures i)) c.is_other.ensures
+pub returns-then-is_at : goal.returns-then-is_at
+returns-then-is_at c = λ before is stepped was.
+    let there = ap (λ (w : SeenValue). w.node) was ∙ node_same before c.args.net.now (shown c.args.line.now) (Value c.args.asked) is stepped in
+    let value = ap (λ (w : SeenValue). w.value) was in
+    subst (λ (p : Option ℕ × Option ℕ). IsTrue c.is_other.result ↔ (p.0 ≢ p.1)) (λ i. (value i, c.value_at.ensures there i)) c.is_other.ensures
 
-pub returns-else-keeps_value_at : goal.returns-else-keeps_value_at
-returns-else-keeps_value_at c = λ before is stepped was.
-    (λ t. absurd (true≢false (sym t)), λ other. absurd (other (value_elsewhere before c.args.net.now (shown c.args.line.now) c.args.asked.value c.args.asked.flow is stepped (sym c.keeps_value_at.ensures ∙ c.if-keeps_value_at.false))))
+pub returns-else-is_at : goal.returns-else-is_at
+returns-else-is_at c = λ before is stepped was.
+    let line = shown c.args.line.now in
+    let other = eqb-false (node_of (Value c.args.asked) before.state) line.key.node (ap (λ (w : SeenValue). w.node == line.key.node) (sym was) ∙ sym c.is_at.ensures ∙ c.if-is_at.false) in
+    (λ t. absurd (true≢false (sym t)), λ changed. absurd (changed (value_elsewhere before c.args.net.now line c.args.asked is stepped other)))
