@@ -1,5 +1,5 @@
 //! A line of the table.
-ghost use Rattle.std.specs.Prelude.{◌≡◌, ◌++◌, OnOk};
+ghost use Rattle.std.specs.Prelude.{◌≡◌, ◌++◌, decimal, OnOk};
 ghost use Rattle.figures_text.specs.Table.{value_text, last_text, row_line, rows_text};
 
 use crate::column::NameColumn;
@@ -66,9 +66,17 @@ fn append_value(value: Option<u128>, text: &mut Vec<u8>) -> Result<(), AllocErro
 {
     match value {
         None => text.extend_from_slice(b"-"),
-        Some(value) => {
-            let mut digits = Buffer::new();
-            text.extend_from_slice(digits.format(value).as_bytes())
-        }
+        Some(value) => append_number(value, text),
+    }
+}
+
+/// Appends a number, or nothing where memory is refused. Most fit a word, whose digits cost much less.
+fn append_number(value: u128, text: &mut Vec<u8>) -> Result<(), AllocError>
+    ensures { OnOk result (text.new.items ≡ text.old.items ++ decimal value) }
+{
+    let mut digits = Buffer::new();
+    match u64::try_from(value) {
+        Ok(small) => text.extend_from_slice(digits.format(small).as_bytes()),
+        Err(_) => text.extend_from_slice(digits.format(value).as_bytes()),
     }
 }

@@ -28,6 +28,9 @@ use scenario_image::{FlowPart, LinkPart, Scenario};
 use sim_time::Time;
 use std::alloc::{AllocError, Global};
 
+/// As many bytes as the rows of a flow or a link have in most tables: 13 rows of 48 bytes.
+const BYTES_OF_A_PART: usize = 13 * 48;
+
 /// The next byte that the receiver at a node waits for, where one is.
 fn next_at(nodes: &[Node], place: usize) -> u64
     ensures { result ≡ next_of_role (node_at nodes.now place).part.role }
@@ -268,6 +271,14 @@ fn last_event(figures: &Figures) -> Option<Time>
     }
 }
 
+/// Room for the table of so many flows and links, in bytes: it seldom grows then.
+fn room_for(flows: &[FlowSummary], links: &[LinkSummary]) -> usize {
+    let parts = flows.len().saturating_add(links.len());
+    parts
+        .saturating_mul(BYTES_OF_A_PART)
+        .saturating_add(BYTES_OF_A_PART)
+}
+
 /// The table of a run, of which these figures were counted from some moment on, as the net is after the last event.
 pub fn run_text(
     alloc: Global,
@@ -287,7 +298,7 @@ pub fn run_text(
         events: figures.events,
         end: last_event(figures),
     };
-    let mut text = Vec::new(alloc);
+    let mut text = Vec::with_capacity(alloc, room_for(&flows, &links))?;
     append_table(column, &flows, &links, run, &mut text)?;
     Ok(text)
 }
