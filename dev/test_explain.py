@@ -56,8 +56,9 @@ class TestExplained(Folder):
             assert re.search(rf'^refused {code}( line \d+)?$', says)
             out, note = self.tried(refused)
             if how == 'note':
-                # At a prompt the meaning follows.
-                means = text.splitlines()[0] + '\n' if 'tcpsim debug one.txt' in refused else ''
+                # At a prompt the meaning follows, and what there is; of these codes B5 alone has an example there.
+                there = 'tcpsim: breaks lists the breakpoints with their numbers\n'
+                means = f'{text.splitlines()[0]}\n{there}' if 'tcpsim debug one.txt' in refused else ''
                 assert (out, note) == ('', f'{says}\n{means}')
             else:
                 assert (out.count('refused'), note) == (1, '')

@@ -270,8 +270,9 @@ def test_the_nearest_command():
         noted = PROMPT + NO_NAME + b'tcpsim: no command ' + shown + b'; the nearest is ' + nearest + b'\n' + PROMPT
         for line in (word, b'  ' + word + b'  1'):
             assert debug(ONE, line + b'\n') == (0, b'', noted)
-    for line in (b'x' * 33, b'state kind rto', b'help stpe'):
-        assert debug(ONE, line + b'\n') == (0, b'', PROMPT + NO_NAME + PROMPT)
+    for line, there in ((b'x' * 33, b''), (b'state kind rto', b'tcpsim: parts of a state are node N, link L, flow F: see help state\n'),
+                        (b'help stpe', b'tcpsim: help is of a command, or of numbers, trace, kinds, stall, values: see help\n')):
+        assert debug(ONE, line + b'\n') == (0, b'', PROMPT + NO_NAME + there + PROMPT)
 
 
 def test_long_lines():

@@ -9,7 +9,7 @@ from tcpsim_model.scenario import Refused
 from tcpsim_model.texts import topics_in
 from tcpsim_model.command_line import read as scenario_in
 
-SHOWN = 13      # of the grammar's steps, those that the page has
+SHOWN = 14      # of the grammar's steps, those that the page has
 
 
 def session():

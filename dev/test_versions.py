@@ -22,6 +22,7 @@ from tcpsim_model.text import assemble
 
 MISSING = 12        # the number of the prompt from which on `why` tells what is missing
 DISPLAYS = 13       # the number from which on there are displays
+EXPECTED = 14       # the number from which on a refusal tells what is expected
 BY_TIME = 4         # the number of the figures' format from which on they are there by time and with names
 SAMPLES = 'three_losses', 'newreno_in_a_network', 'codel_drops_before_it_sends', 'two_flows_over_a_router', 'delayed_acknowledgement'
 # Of each format, what its samples come to under each number that it had. A row stays; a change adds one.
@@ -38,7 +39,8 @@ SUMS = {
                10: 'cff69870124a5b401b163837671e65512d3d52bcf73fde372ebe619b716632c3',
                11: 'fe1e51fe010477e647b1fc14b05a0ced0f6a31bdefda7804b66192481e6be577',
                12: '23c350c43fc0e83f030db4aa4c8329e64c2746bce63438ea117cb4a7e69c58ba',
-               13: '62508fa529c07614945c53bebc6f8b35ae0341feaa659ad1287491a4f3300237'},
+               13: '62508fa529c07614945c53bebc6f8b35ae0341feaa659ad1287491a4f3300237',
+               14: '8f275a90dcfefad7280bfa709142274ce0d2a80f288e3db2991de693f45324e7'},
 }
 
 
@@ -55,7 +57,8 @@ def prompt_words(number):
     names = sorted((name, step) for name, step in grammar.NAMES.items() if step <= number)
     fates = [repr(missing.FATES).encode()] if number >= MISSING else []
     displays = [*conditions.DISPLAYED, *conditions.VALUE_WORDS] if number >= DISPLAYS else []
-    return [repr(names).encode(), *conditions.behind(number), *sorted(texts.topics_in(number)), *fates, *displays]
+    expected = [repr((texts.EXPECTED_TOLD, texts.THERE_TOLD)).encode()] if number >= EXPECTED else []
+    return [repr(names).encode(), *conditions.behind(number), *sorted(texts.topics_in(number)), *fates, *displays, *expected]
 
 
 def named_by_time(scenario):

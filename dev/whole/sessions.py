@@ -251,17 +251,28 @@ NO_SORT = [*refused('B1'), 'tcpsim: conditions are node N, flow F, kind K, drop,
 NO_ITEM = [*refused('B1'), 'tcpsim: displays are flow F, link L, cwnd F, flight F, ssthresh F, una F, nxt F, rto F, dups F, phase F, next F, '
            'queue L, wait L, count L: see help display']
 
+# What is expected in the place of a word that does not fit.
+ONCE = [*refused('B2'), 'tcpsim: each sort of condition stands once: see help break']
+NO_PART = [*refused('B2'), OUTSIDE_TWO[-1]]
+A_NUMBER = 'tcpsim: a number is expected, as 3000, with no unit: see help values'
+NO_HELP = [*refused('B1'), 'tcpsim: help is of a command, or of numbers, trace, kinds, stall, values: see help']
+
+# Where the numbers are of breakpoints and of displays.
+NO_BREAK = [*refused('B5'), 'tcpsim: breaks lists the breakpoints with their numbers']
+NO_DISPLAY = [*refused('B5'), 'tcpsim: display lists the displays with their numbers']
+
 # The lines that are typed, how many of them are read and one more where the input ends, what is answered, and what is
 # told of lines that are refused.
 LINES_TYPED = [
     (CUT_SHORT, 11, MOVED, NO_NAME + NO_TIME + refused('B2') + NO_TIME + refused('B2')),
     (REFUSED, 9, MOVED, NO_NAME + refused('B3', 'B2') + OUTSIDE),
-    (BREAKPOINTS, 16, NUMBERED, refused('B5', 'B5', 'B5', 'B3', 'B1')),
+    (BREAKPOINTS, 16, NUMBERED, NO_BREAK * 3 + refused('B3') + NO_HELP),
     (LINES, 17, TOLD, refused('B3', 'B2')),
-    (DISPLAYS, 20, SHOWN, NO_ITEM + refused('B2', 'B3') + ['tcpsim: a is a link: see help numbers', OUTSIDE[-1]] + refused('B5', 'B3')),
+    (DISPLAYS, 20, SHOWN, NO_ITEM + [*refused('B2'), NO_ITEM[-1]] + refused('B3') + ['tcpsim: a is a link: see help numbers', OUTSIDE[-1]] + NO_DISPLAY
+     + refused('B3')),
 ]
 
 # The same over two flows of equal times.
 LINES_OF_EQUAL_TIMES = [
-    (CONDITIONS, 21, MATCHED, OUTSIDE_TWO * 2 + refused('B2', 'B2', 'B2', 'B2', 'B2') + NO_SORT + OUTSIDE_TWO),
+    (CONDITIONS, 21, MATCHED, OUTSIDE_TWO * 2 + ONCE + NO_PART + ONCE + [*refused('B2'), A_NUMBER] + NO_PART + NO_SORT + [*refused('B3'), A_NUMBER]),
 ]

@@ -21,7 +21,7 @@ if TYPE_CHECKING:
     from tcpsim.api.sweeps import Sweep, sweep
 
 __version__ = '0.2.0'
-FORMATS = {'trace': 1, 'image': 2, 'figures': 4, 'prompt': 13}
+FORMATS = {'trace': 1, 'image': 2, 'figures': 4, 'prompt': 14}
 VERSIONS = f'{__version__} ({", ".join(f"{name} {number}" for name, number in FORMATS.items())})'   # of --version
 
 # Of each public name the module of `api` that has it.

@@ -1,6 +1,7 @@
 """The conditions of a breakpoint, as they are typed and as they are told. Since step 11 of the prompt's grammar they can be on
 values: `cwnd<3000`, `queue L>50`, `time>=5s`, `change cwnd F`."""
 import re
+from itertools import zip_longest
 
 from tcpsim_model.debugger import KINDS, MOST, number_to
 from tcpsim_model.grammar import time_in
@@ -9,6 +10,7 @@ from tcpsim_model.text import FLOW, LINK, NODE
 
 MOST_BYTE = 9 * 10**12      # of the greatest flow
 SIGN, NUMBER, TIME, KIND, BYTE, PHASE, VALUE = 'sign', 'number', 'time', 'kind', 'byte', 'phase', 'value'
+SORT, OTHER_SORT = 'sort', 'other sort'     # where a condition begins, and where its sort is there already
 SIGNS = (b'<=', b'>=', b'<', b'>', b'=')
 PARTS = re.compile(rb'<=|>=|[<>=]|[^<>=]+')
 PHASES = (b'ss', b'ca', b'fr')
@@ -64,6 +66,33 @@ def conditions_in(words, names, steps):
         raise Refused('B2')
     values = {sort: tuple(read(place, word, names) for place, word in zip(sorts[sort], those)) for sort, those in found.items()}
     return tuple((sort, alone(values[sort])) for sort in sorts if sort in values)
+
+
+def expected_in(words, names, steps):
+    """What is expected at the first word behind `break` that does not fit, or behind the last where one is missing; None where
+    words are too many. Since step 14 a refusal tells it."""
+    words, sorts, found = words_behind_break(words, steps), behind(steps), set()
+    if words[:1] == [b'stall']:
+        return FLOW if len(words) == 2 else None
+    for sort, *those in parted(words, steps):
+        if sort not in sorts or sort in found:
+            return OTHER_SORT if sort in found else SORT
+        found.add(sort)
+        for place, word in zip_longest(sorts[sort], those):
+            if word is None or not fits(place, word, names):
+                return place
+    return None if words else SORT
+
+
+def fits(place, word, names):
+    """Whether a word can be at a place."""
+    if place == VALUE:
+        return word in OF_CHANGE
+    try:
+        read(place, word, names)
+    except Refused:
+        return False
+    return True
 
 
 def alone(values):

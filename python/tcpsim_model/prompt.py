@@ -19,8 +19,9 @@ none reads lines as a session whose commands are all there (`debugger.obey`).
 11. Breakpoints on values; to a moment, either way.
 12. Of a flow that waits what is missing, and the drops of it.
 13. Names in answers; behind the last line of a move whose it is; displays; all stalls of a run.
+14. What is expected at the first word that does not fit, in the place of what is refused.
 """
-from tcpsim_model.conditions import NAMED, VALUE_WORDS, conditions_in, named_in, words_behind_break, words_of
+from tcpsim_model.conditions import NAMED, VALUE_WORDS, conditions_in, expected_in, named_in, words_behind_break, words_of
 from tcpsim_model.debugger import MOST, breakpoint_of, number_to, obey, set_breakpoint, words_in, words_wanted
 from tcpsim_model.displays import Displays, display_of
 from tcpsim_model.grammar import (BEFORE_TOPICS, MEANINGS, MOST_LINE, MOST_WORD, NAMES, NUMBERED, UNIT, UNITS_TOLD, at_most, count_in, edits,
@@ -31,12 +32,12 @@ from tcpsim_model.naming import Names, names_in, names_told
 from tcpsim_model.scenario import Refused
 from tcpsim_model.simulate import line_text
 from tcpsim_model.text import FLOW, LINK, NODE, NUMBER
-from tcpsim_model.texts import elsewhere, help_in, last_of_help, topics_in, words_there
+from tcpsim_model.texts import EXPECTED_TOLD, THERE_TOLD, elsewhere, help_in, last_of_help, topics_in, words_there
 from tcpsim_model.waits import why
 
-STEPS = 13
+STEPS = 14
 # How many of them the program has.
-BUILT = 13
+BUILT = 14
 PROMPT = '(tcpsim) '
 MOST_SHOWN = 10         # lines that a move passed
 MOST_LINES = 1_000      # of `lines`
@@ -106,11 +107,32 @@ class Prompt:
         if self.steps == 0:
             return note
         note += MEANINGS[refusal.code] + '\n'
+        if self.steps >= 14:
+            return note + ('' if len(line) > MOST_LINE else self.there(words_in(line), refusal.code))
         if refusal.code == 'B3' and self.steps >= 9 and self.has_time(line):
             note += f'tcpsim: {UNITS_TOLD}\n'
         if refusal.code == 'B3':
             note += self.other_sort(words_in(line))
         return note + {'B1': self.nearest, 'B3': self.numbers}.get(refusal.code, lambda word: '')((words_in(line) or [b''])[0])
+
+    def there(self, words, code):
+        """The lines that tell what there is in the place of what the words of a refused line are, since step 14."""
+        name = next((name for name, step in self.NAMES.items() if step <= self.steps and name.startswith(words[0])), None)
+        if name is None:
+            return self.nearest(words[0])
+        if name == b'break' and code in ('B1', 'B2', 'B3'):
+            return (self.other_sort(words) if code == 'B3' else '') + self.expected(words[1:])
+        if code == 'B3' and name in NUMBERED:
+            return self.other_sort(words) + self.numbers(words[0])
+        told = THERE_TOLD.get((code, name))
+        return f'tcpsim: {told}\n' if told else ''
+
+    def expected(self, words):
+        """The line that tells what is expected at the first word behind `break` that does not fit."""
+        place = expected_in(words, self.names, self.steps)
+        if place in (NODE, LINK, FLOW):
+            return self.numbers(b'break')
+        return f'tcpsim: {EXPECTED_TOLD[place]}\n' if place else ''
 
     def has_time(self, line):
         """Whether a line can have a time."""

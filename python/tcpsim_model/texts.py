@@ -1,7 +1,7 @@
 """What help says of the prompt's grammar after each of its steps: what `grammar` has, which is that of the ninth, and what a later
 step says in its place or besides."""
-from tcpsim_model.conditions import DISPLAYED
-from tcpsim_model.grammar import ELSEWHERE, HELP, LAST_OF_HELP, NAMES, SORTS_TOLD, TOPICS
+from tcpsim_model.conditions import BYTE, DISPLAYED, KIND, NUMBER, OTHER_SORT, PHASE, SIGN, SORT, TIME, VALUE
+from tcpsim_model.grammar import ELSEWHERE, HELP, LAST_OF_HELP, NAMES, SORTS_TOLD, TOPICS, UNITS_TOLD
 
 # Of each later step: rows of `help`.
 ROWS = {
@@ -99,6 +99,29 @@ DISPLAYS_TOLD = f'displays are {", ".join(f"{name.decode()} {sort[0].upper()}" f
 # What later steps say in the place of what other debuggers call it.
 INSTEAD = {
     13: {b'print': 'display shows a value after each move, state flow F all of a flow, state link L of a link: see help display'},
+}
+# What is expected behind `break` at a place, since step 14, and what there is in the place of other words that are refused.
+A_NUMBER = 'a number is expected, as 3000, with no unit: see help values'
+EXPECTED_TOLD = {
+    SORT: SORTS[11],
+    OTHER_SORT: 'each sort of condition stands once: see help break',
+    KIND: 'kinds are start, rto, delack, free, data, ack: see help kinds',
+    PHASE: 'phases are ss, ca, fr: see help values',
+    VALUE: 'changes are of cwnd F, flight F, ssthresh F, una F, nxt F, rto F, dups F, next F: see help values',
+    SIGN: 'signs are <, <=, >, >=, =, as cwnd<3000: see help values',
+    TIME: UNITS_TOLD,
+    NUMBER: A_NUMBER,
+    BYTE: A_NUMBER,
+}
+THERE_TOLD = {
+    ('B1', b'display'): DISPLAYS_TOLD,
+    ('B2', b'display'): DISPLAYS_TOLD,
+    ('B1', b'state'): 'parts of a state are node N, link L, flow F: see help state',
+    ('B1', b'help'): 'help is of a command, or of numbers, trace, kinds, stall, values: see help',
+    ('B3', b'until'): UNITS_TOLD,
+    ('B3', b'goto'): UNITS_TOLD,
+    ('B5', b'delete'): 'breaks lists the breakpoints with their numbers',
+    ('B5', b'undisplay'): 'display lists the displays with their numbers',
 }
 
 

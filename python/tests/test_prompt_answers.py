@@ -114,6 +114,42 @@ def test_what_there_is_in_the_place_of_what_is_refused():
     assert Session(TWO, 8)('print').endswith('the nearest is run\n')
 
 
+THERE_ARE = 'there are nodes 0 to 1, links 0 to 1, flows 0 to 0: see help numbers'
+SORTS = 'conditions are node N, flow F, kind K, drop, link L, byte B, cwnd,'
+SIGNS = 'signs are <, <=, >, >=, =, as cwnd<3000: see help values'
+UNITS = 'a time has a unit, ns, us, ms or s, as 1.5s: see help until'
+KINDS = 'kinds are start, rto, delack, free, data, ack: see help kinds'
+PHASES = 'phases are ss, ca, fr: see help values'
+CHANGES = 'changes are of cwnd F, flight F,'
+A_NUMBER = 'a number is expected, as 3000, with no unit: see help values'
+ONCE = 'each sort of condition stands once: see help break'
+DISPLAYS = 'displays are flow F, link L, cwnd F,'
+# What is told behind a line that is refused, of the first word that does not fit.
+EXPECTED = {
+    'break': SORTS, 'break foo': SORTS, 'break drop 1': SORTS, 'break cwnd<1 foo': SORTS, 'break node x foo': THERE_ARE,
+    'break kind foo': KINDS, 'break kind': KINDS, 'break kind foo bar': KINDS, 'break phase xx': PHASES, 'break phase=fr': PHASES,
+    'break cwnd': SIGNS, 'break cwnd 3000': SIGNS, 'break queue a 5': SIGNS, 'break cwnd<': A_NUMBER, 'break cwnd<x': A_NUMBER,
+    'break cwnd==3000': A_NUMBER, 'break byte x': A_NUMBER, 'break queue a>1s': A_NUMBER, 'break cwnd<1 cwnd>2': ONCE, 'break drop drop': ONCE,
+    'break rto>1.5': UNITS, 'break wait a>1.5': UNITS, 'break time>=': UNITS, 'break change': CHANGES, 'break change phase f': CHANGES,
+    'break change cwnd': THERE_ARE, 'break change cwnd x': THERE_ARE, 'break queue': THERE_ARE, 'break node 9': THERE_ARE, 'break stall x': THERE_ARE,
+    'display': None, 'display foo': DISPLAYS, 'display cwnd': DISPLAYS, 'display cwnd x': THERE_ARE, 'state f': 'parts of a state are node N,',
+    'help foo': 'help is of a command, or of numbers, trace, kinds, stall, values: see help', 'until 1.5': UNITS, 'goto 1.5': UNITS,
+    'delete 9': 'breaks lists the breakpoints', 'undisplay 9': 'display lists the displays', 'break stall 0 0': None, 'delete x': None, 'step x': None,
+}
+
+
+def test_what_is_expected_where_a_word_does_not_fit():
+    session = Session(TWO, 14)
+    for line, told in EXPECTED.items():
+        lines = session(line).splitlines()
+        assert lines[2:] == [] if told is None else len(lines) == 3 and lines[2].startswith(f'tcpsim: {told}'), line
+    # A name of another sort is told of before.
+    assert session('break queue s>1').splitlines()[2:] == ['tcpsim: s is a node: see help numbers', f'tcpsim: {THERE_ARE}']
+    assert session('break count a>x wait r>1s').splitlines()[2:] == ['tcpsim: r is a node: see help numbers', f'tcpsim: {A_NUMBER}']
+    # Of a line that is too long nothing is told.
+    assert len(session('break ' + 'x' * 65_536).splitlines()) == 2
+
+
 # ---- names of commands
 
 def test_short_words_mean_what_they_meant():

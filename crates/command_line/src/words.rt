@@ -18,7 +18,7 @@ use std::alloc::{AllocError, Global};
 use std::convert::AsStr;
 
 /// The version of the whole, with that of each format: what python/tcpsim/__init__.py has.
-const VERSION: &str = "0.2.0 (trace 1, image 2, figures 4, prompt 13)";
+const VERSION: &str = "0.2.0 (trace 1, image 2, figures 4, prompt 14)";
 
 /// The program's command without its subcommands.
 fn top_command<'a>(alloc: Global) -> Command<'a>

@@ -19,7 +19,7 @@ use Rattle.debug_session.specs.declared.conditions.Awaited.TheVariants.{Value, S
 use Rattle.debug_session.specs.declared.conditions.Gathered.{Gathered}
 use Rattle.debug_session.specs.declared.conditions.Sort.{Sort}
 use Rattle.debug_session.specs.declared.conditions.Sort.TheVariants.{Node, Flow, Kind, Drop, Link, Byte, OfFlow, Phase, OfLink, Time, Change}
-use Rattle.debug_session.specs.declared.measure.LinkValue.{LinkValue}
+use Rattle.debugger.specs.declared.values.LinkValue.{LinkValue}
 use Rattle.debug_session.specs.declared.measure.Measure.{Measure}
 use Rattle.debug_session.specs.declared.measure.Measure.TheVariants as measure
 use Rattle.debug_session.specs.declared.naming.Naming.{Naming}

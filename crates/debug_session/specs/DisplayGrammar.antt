@@ -8,8 +8,8 @@ use Rattle.debug_session.specs.declared.display.DisplayCommand.{DisplayCommand}
 use Rattle.debug_session.specs.declared.display.DisplayCommand.TheVariants.{All, Add, TakeAway}
 use Rattle.debug_session.specs.declared.display.DisplayItem.{DisplayItem}
 use Rattle.debug_session.specs.declared.display.DisplayItem.TheVariants as item
-use Rattle.debug_session.specs.declared.measure.LinkValue.{LinkValue}
-use Rattle.debug_session.specs.declared.measure.LinkValue.TheVariants as link
+use Rattle.debugger.specs.declared.values.LinkValue.{LinkValue}
+use Rattle.debugger.specs.declared.values.LinkValue.TheVariants as link
 use Rattle.debug_session.specs.declared.naming.Naming.{Naming}
 use Rattle.debug_session.specs.declared.naming.PartSort.TheVariants as part
 use Rattle.debug_session.specs.declared.refusal.Refusal.{Refusal}

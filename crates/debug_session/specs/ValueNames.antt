@@ -10,8 +10,8 @@ use Rattle.debugger.specs.declared.values.SenderValue.TheVariants.{Cwnd, Flight,
 use Rattle.debugger.specs.declared.values.ValueCondition.{ValueCondition}
 use Rattle.debugger.specs.declared.values.ValueCondition.TheVariants as on
 use Rattle.debugger.specs.declared.values.Values.{Values}
-use Rattle.debug_session.specs.declared.measure.LinkValue.{LinkValue}
-use Rattle.debug_session.specs.declared.measure.LinkValue.TheVariants.{Queue, Wait, Count}
+use Rattle.debugger.specs.declared.values.LinkValue.{LinkValue}
+use Rattle.debugger.specs.declared.values.LinkValue.TheVariants.{Queue, Wait, Count}
 use Rattle.debug_session.specs.declared.measure.Measure.{Measure}
 use Rattle.debug_session.specs.declared.measure.Measure.TheVariants.{OfFlow, OfLink, Moment}
 use Rattle.debug_session.specs.Grammar.{Word, number_below}

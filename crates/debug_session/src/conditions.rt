@@ -8,15 +8,14 @@ ghost use Rattle.debug_session.specs.Conditions.{value_sort_named, sort_named, h
 use crate::command::Command;
 use crate::grammar::{is, kind_named, number_below, sets};
 use crate::measure::{
-    LinkValue, Measure, asks_flow_value, asks_link_value, flow_value_named, link_value_named,
-    phase_named,
+    Measure, asks_flow_value, asks_link_value, flow_value_named, link_value_named, phase_named,
 };
 use crate::naming::{Naming, PartSort};
 use crate::refusal::Refusal;
 use crate::signs::{next_part, sign_named};
 use debugger::{
-    Bound, Break, Condition, EventKind, FlowValue, Phase, Sign, StallOf, ValueCondition, ValueOf,
-    Values,
+    Bound, Break, Condition, EventKind, FlowValue, LinkValue, Phase, Sign, StallOf, ValueCondition,
+    ValueOf, Values,
 };
 
 /// One more than the greatest byte that can be asked for: a flow has at most so many.

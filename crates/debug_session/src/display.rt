@@ -6,10 +6,9 @@ ghost use Rattle.debug_session.specs.Numbered.{IsNumber};
 
 use crate::conditions::{Sort, sort_named};
 use crate::cut::next_word;
-use crate::measure::LinkValue;
 use crate::naming::{Naming, PartSort};
 use crate::refusal::Refusal;
-use debugger::{Readable, ValueOf};
+use debugger::{LinkValue, Readable, ValueOf};
 
 /// The most displays that there are at one time.
 pub(crate) const MOST_DISPLAYS: usize = 64;

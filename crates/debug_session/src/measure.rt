@@ -4,18 +4,9 @@ ghost use Rattle.debug_session.specs.ValueNames.{flow_value_named, link_value_na
 
 use crate::grammar::{AMOUNTS, is, number_below};
 use crate::moment::moment_in;
-use debugger::{Bound, FlowValue, LinkBound, Phase, SenderValue, ValueCondition, Values};
-
-/// A value of a link.
-#[derive(Clone, Copy)]
-pub enum LinkValue {
-    /// How many packets wait there.
-    Queue,
-    /// For how long the first of them has waited.
-    Wait,
-    /// CoDel's count of drops.
-    Count,
-}
+use debugger::{
+    Bound, FlowValue, LinkBound, LinkValue, Phase, SenderValue, ValueCondition, Values,
+};
 
 /// A value that is compared with a number.
 #[derive(Clone, Copy)]
@@ -142,7 +133,7 @@ impl Measure {
     }
 
     /// Whether the value is a time, in nanoseconds.
-    fn is_time(self) -> bool
+    pub(crate) fn is_time(self) -> bool
         ensures { result ≡ is_time self }
     {
         matches!(

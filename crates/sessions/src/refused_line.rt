@@ -3,7 +3,9 @@
 use crate::nearest::{command_begun, first_word, tell_nearest};
 use command_line::notes::{Notes, Numbers};
 use command_line::reasons::{meaning_of, shown_bytes};
-use debug_session::{CommandName, Misnamed, Naming, PartSort, misnamed_in};
+use debug_session::{
+    CommandName, Expected, MOST_LINE, Misnamed, Naming, PartSort, expected_in, misnamed_in,
+};
 use std::alloc::{AllocError, Global};
 use std::str;
 
@@ -11,17 +13,6 @@ use std::str;
 fn code_in(refusal: &[u8]) -> Option<&str> {
     let text = str::from_utf8(refusal).ok()?;
     text.split_whitespace().nth(1)
-}
-
-/// Whether a line is of a command that can have the number of a node, a link or a flow.
-fn has_numbers(line: &[u8]) -> bool {
-    matches!(
-        command_begun(line),
-        Some(CommandName::Break)
-            | Some(CommandName::State)
-            | Some(CommandName::Why)
-            | Some(CommandName::Display)
-    )
 }
 
 /// The conditions that a breakpoint can have.
@@ -34,6 +25,37 @@ const DISPLAYS: &str =
 
 /// The units of times.
 const UNITS: &str = "tcpsim: a time has a unit, ns, us, ms or s, as 1.5s: see help until";
+
+/// That a breakpoint has no two conditions of a sort.
+const ONCE: &str = "tcpsim: each sort of condition stands once: see help break";
+
+/// The kinds of events.
+const KINDS: &str = "tcpsim: kinds are start, rto, delack, free, data, ack: see help kinds";
+
+/// The phases of a sender.
+const PHASES: &str = "tcpsim: phases are ss, ca, fr: see help values";
+
+/// The values of which a change is a condition.
+const CHANGES: &str =
+    "tcpsim: changes are of cwnd F, flight F, ssthresh F, una F, nxt F, rto F, dups F, next F: see help values";
+
+/// The signs of conditions on values.
+const SIGNS: &str = "tcpsim: signs are <, <=, >, >=, =, as cwnd<3000: see help values";
+
+/// That a number is expected.
+const NUMBER: &str = "tcpsim: a number is expected, as 3000, with no unit: see help values";
+
+/// The parts of a state.
+const PARTS: &str = "tcpsim: parts of a state are node N, link L, flow F: see help state";
+
+/// What help is there of.
+const TOPICS: &str =
+    "tcpsim: help is of a command, or of numbers, trace, kinds, stall, values: see help";
+
+/// Where the numbers of breakpoints, and of displays, are.
+const BREAKS: &str = "tcpsim: breaks lists the breakpoints with their numbers";
+
+const DISPLAYED: &str = "tcpsim: display lists the displays with their numbers";
 
 /// What does here what a word does in other debuggers.
 fn of_other_debuggers(word: &[u8]) -> Option<&'static str> {
@@ -52,11 +74,13 @@ fn of_other_debuggers(word: &[u8]) -> Option<&'static str> {
     }
 }
 
-/// Tells what there is in the place of a line that names no command, no sort of condition, or nothing that can be displayed.
+/// Tells what there is in the place of a line that names no command, no part of a state, nothing that can be displayed, or
+/// nothing that help is there of.
 fn tell_instead<N: Notes>(alloc: Global, line: &[u8], notes: &mut N) {
     match command_begun(line) {
-        Some(CommandName::Break) => notes.refusal_means(CONDITIONS),
         Some(CommandName::Display) => notes.refusal_means(DISPLAYS),
+        Some(CommandName::State) => notes.refusal_means(PARTS),
+        Some(CommandName::Help) => notes.refusal_means(TOPICS),
         Some(_) => {}
         None => match of_other_debuggers(first_word(line)) {
             Some(advice) => notes.refusal_means(advice),
@@ -65,12 +89,13 @@ fn tell_instead<N: Notes>(alloc: Global, line: &[u8], notes: &mut N) {
     }
 }
 
-/// Whether a line can have a time.
-fn has_time(line: &[u8]) -> bool {
-    matches!(
-        command_begun(line),
-        Some(CommandName::Until) | Some(CommandName::Goto)
-    )
+/// Tells where the numbers are of which a line has none.
+fn tell_lists<N: Notes>(line: &[u8], notes: &mut N) {
+    match command_begun(line) {
+        Some(CommandName::Delete) => notes.refusal_means(BREAKS),
+        Some(CommandName::Undisplay) => notes.refusal_means(DISPLAYED),
+        _ => {}
+    }
 }
 
 /// A sort of parts, as one of them is told of.
@@ -94,14 +119,18 @@ fn reported_sort(alloc: Global, found: &Misnamed<'_>) -> Result<String, AllocErr
     Ok(reported)
 }
 
-/// Tells of a line that may have a name or a number that is none where it stands: a part of another sort
-/// that has this name, where there is memory to say it, and which numbers there are.
-fn tell_parts<N: Notes>(alloc: Global, naming: &Naming, line: &[u8], notes: &mut N) {
+/// Tells of the first name in a line that is of a part of another sort than is asked for there, if there is one and memory
+/// to say it.
+fn tell_misnamed<N: Notes>(alloc: Global, naming: &Naming, line: &[u8], notes: &mut N) {
     if let Some(found) = misnamed_in(naming, line) {
         if let Ok(reported) = reported_sort(alloc, &found) {
             notes.refusal_means(reported.as_str());
         }
     }
+}
+
+/// Tells which numbers nodes, links and flows have.
+fn tell_numbers<N: Notes>(naming: &Naming, notes: &mut N) {
     notes.numbers(&Numbers {
         nodes: naming.limits.nodes,
         links: naming.limits.links,
@@ -109,9 +138,49 @@ fn tell_parts<N: Notes>(alloc: Global, naming: &Naming, line: &[u8], notes: &mut
     });
 }
 
-/// Tells that a line is refused, and what that means; where it names no command, the nearest one, or
-/// what does the same here; which conditions, displays and units there are; and where a name or a number may be
-/// none of the scenario's, which there are.
+/// Tells what is expected at the first word behind `break` that does not fit.
+fn tell_expected<N: Notes>(naming: &Naming, line: &[u8], notes: &mut N) {
+    match expected_in(naming, line) {
+        None => {}
+        Some(Expected::Sort) => notes.refusal_means(CONDITIONS),
+        Some(Expected::OtherSort) => notes.refusal_means(ONCE),
+        Some(Expected::Part) => tell_numbers(naming, notes),
+        Some(Expected::Kind) => notes.refusal_means(KINDS),
+        Some(Expected::Phase) => notes.refusal_means(PHASES),
+        Some(Expected::Changing) => notes.refusal_means(CHANGES),
+        Some(Expected::Sign) => notes.refusal_means(SIGNS),
+        Some(Expected::Time) => notes.refusal_means(UNITS),
+        Some(Expected::Number) => notes.refusal_means(NUMBER),
+    }
+}
+
+/// Tells what there is in the place of a word that is no number, no time and no name of the sort that is asked for.
+fn tell_values<N: Notes>(alloc: Global, naming: &Naming, line: &[u8], notes: &mut N) {
+    match command_begun(line) {
+        Some(CommandName::Until) | Some(CommandName::Goto) => notes.refusal_means(UNITS),
+        Some(CommandName::Break) => {
+            tell_misnamed(alloc, naming, line, notes);
+            tell_expected(naming, line, notes);
+        }
+        Some(CommandName::State) | Some(CommandName::Why) | Some(CommandName::Display) => {
+            tell_misnamed(alloc, naming, line, notes);
+            tell_numbers(naming, notes);
+        }
+        _ => {}
+    }
+}
+
+/// Tells what a line lacks, or has too much of.
+fn tell_words<N: Notes>(naming: &Naming, line: &[u8], notes: &mut N) {
+    match command_begun(line) {
+        Some(CommandName::Break) => tell_expected(naming, line, notes),
+        Some(CommandName::Display) => notes.refusal_means(DISPLAYS),
+        _ => {}
+    }
+}
+
+/// Tells that a line is refused, and what that means; where it names no command, the nearest one, or what does the same
+/// here; and what there is in the place of what the line has.
 pub(crate) fn tell_refused<N: Notes>(
     alloc: Global,
     naming: &Naming,
@@ -126,13 +195,21 @@ pub(crate) fn tell_refused<N: Notes>(
     if let Some(meaning) = meaning_of(code) {
         notes.refusal_means(meaning);
     }
-    if code == "B1" {
-        tell_instead(alloc, line, notes);
-    }
-    if code == "B3" && has_time(line) {
-        notes.refusal_means(UNITS);
-    }
-    if code == "B3" && has_numbers(line) {
-        tell_parts(alloc, naming, line, notes);
+    match code {
+        "B1" => {
+            if command_begun(line) == Some(CommandName::Break) {
+                tell_expected(naming, line, notes);
+            } else {
+                tell_instead(alloc, line, notes);
+            }
+        }
+        "B2" => {
+            if line.len() <= MOST_LINE {
+                tell_words(naming, line, notes);
+            }
+        }
+        "B3" => tell_values(alloc, naming, line, notes),
+        "B5" => tell_lists(line, notes),
+        _ => {}
     }
 }
