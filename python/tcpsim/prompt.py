@@ -75,11 +75,17 @@ class Prompt:
         with contextlib.suppress(OSError):
             self.process.stdin.close()
         if self.process.poll() is None:
-            os.killpg(self.process.pid, signal.SIGKILL)
+            self.kill()
         self.process.wait()
         self._selector.close()
         self._out.close()
         self._err.close()
+
+    def kill(self) -> None:
+        """Kills the process, and what it started. A handler can call it: `ready` and `ask` then raise PromptEnded."""
+        if self.process.returncode is None:             # else its number can be another's
+            with contextlib.suppress(ProcessLookupError):
+                os.killpg(self.process.pid, signal.SIGKILL)
 
     def _type(self, line):
         with contextlib.suppress(BrokenPipeError):      # it has ended, which its outputs say

@@ -7,6 +7,7 @@ import re
 import signal
 import subprocess
 import sys
+import termios
 import time
 
 import pytest
@@ -14,6 +15,7 @@ import pytest
 pexpect = pytest.importorskip('pexpect', reason='no pexpect: apt-get install python3-pexpect')
 
 from clone import BIN, EXAMPLES, MODEL, PROGRAM, TOP, of_model, read, read_text, tool  # noqa: E402
+from tcpsim.console import keyboard  # noqa: E402
 from tcpsim.console.completion import Completion  # noqa: E402
 from tcpsim.prompt import Prompt  # noqa: E402
 from tcpsim_model import image  # noqa: E402
@@ -24,6 +26,7 @@ TWO = os.path.join(EXAMPLES, 'two_timeouts_in_a_row.txt')
 FAIR = os.path.join(EXAMPLES, 'two_flows_share_fairly.txt')
 PROMPT = '(tcpsim) '
 PATIENCE = 120          # seconds for one answer, on a machine that is busy
+LIMIT = 600             # seconds for a test
 LONG = """sim 1000000000000000
 node s sender
 node r receiver
@@ -102,6 +105,10 @@ class Terminal:
     def interrupt(self, line):
         """What is shown where Ctrl-C comes while the program is at work on a line."""
         self.begin_long(line)
+        return self.interrupted()
+
+    def interrupted(self):
+        """What is shown where Ctrl-C comes while the program is at work."""
         self.type('\x03')
         return self.shown()
 
@@ -135,6 +142,17 @@ class Terminal:
         self.child.close()
         assert soon(lambda: not any(map(is_running, left)))
         return self.child.exitstatus
+
+
+@pytest.fixture(autouse=True)
+def limited():
+    """A test that waits for ever fails."""
+    def late(*_):
+        raise TimeoutError(f'the test takes more than {LIMIT} seconds')
+    signal.signal(signal.SIGALRM, late)
+    signal.alarm(LIMIT)
+    yield
+    signal.alarm(0)
 
 
 @pytest.fixture
@@ -290,6 +308,53 @@ def test_ctrl_c_at_the_prompt_clears_the_line(terminal):
     session.clear()
     assert soon(lambda: session.ask('state').startswith('at 0\n'))
     assert session.process() == before
+
+
+@pytest.mark.wants(cc='gcc')
+def test_ctrl_c_behind_a_key(terminal, library):
+    """It comes once select has seen the key, and before readline reads it."""
+    session = terminal(TWO, LD_PRELOAD=library('late_keys'))
+    session.begin()
+    session.type('x')
+    time.sleep(.1)
+    session.clear()
+    assert session.ask('step') == at_once(TWO, 'step')[0]
+    assert session.end() == 0
+
+
+def test_ctrl_c_is_raised_by_the_wait_for_a_key(monkeypatch):
+    """And not by what readline calls meanwhile, as for Tab: it would swallow it."""
+    before = signal.signal(signal.SIGINT, keyboard.interrupt)
+    try:
+        monkeypatch.setattr(keyboard, 'input', lambda number: signal.raise_signal(number), raising=False)
+        keyboard.typed(signal.SIGINT)
+        monkeypatch.setattr(keyboard, 'input', signal.raise_signal)
+        with pytest.raises(KeyboardInterrupt):
+            keyboard.typed(signal.SIGINT)
+        keyboard.typed(signal.SIGINT)       # once
+    finally:
+        signal.signal(signal.SIGINT, before)
+
+
+def test_ctrl_c_drops_what_was_typed_behind_the_line(terminal, long):
+    session = terminal(long)
+    session.begin()
+    session.begin_long('until 1000000s')
+    session.type('step\r')
+    assert 'ended; the session is at 0 of the run\n' in session.interrupted()
+    assert session.ask('state').startswith('at 0\n')
+
+
+def test_the_terminal_is_as_before(terminal):
+    session = terminal(TWO)
+    session.begin()
+
+    def keeps_keys():
+        return bool(termios.tcgetattr(session.child.child_fd)[keyboard.LFLAG] & termios.NOFLSH)
+    assert keeps_keys()
+    session.type('\x04')
+    assert soon(lambda: not keeps_keys())
+    assert session.end() == 0
 
 
 def test_displays_are_kept(terminal, long):

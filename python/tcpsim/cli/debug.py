@@ -7,6 +7,7 @@ Where standard input or output is no terminal it is `tcpsim debug SCENARIO`.
 from __future__ import annotations
 
 import argparse
+import contextlib
 import os
 import signal
 import sys
@@ -45,26 +46,29 @@ def options_of(given: argparse.Namespace, path: str, terminal: bool) -> list[str
 def hold(words: list[str], source: bytes) -> int:
     """Answers line after line, up to the end of input; answers the status, which is the program's where that ends."""
     try:
-        from tcpsim.console.keyboard import Keyboard
+        from tcpsim.console.keyboard import Keyboard, drop_keys, keys_kept
     except ImportError as wrong:
         raise Refused(f'this python has no readline, by which lines are edited: {words[0]} debug goes without') from wrong
-    session = Session(words, source)
-    try:
+    with contextlib.ExitStack() as ends:
+        session = Session(words, source)
+        ends.callback(session.end)
         signal.signal(signal.SIGINT, nothing)
         completion = Completion(session.ask)
         keyboard = Keyboard(PROMPT.decode(), lambda before: completion.words(before, session.counted))
+        ends.enter_context(keys_kept())
         note(HINT)
         while (line := keyboard.line()) is not None:
             try:
                 answer = session.ask(line)
+            except Interrupted as ended:
+                drop_keys()     # those that were typed behind the line
+                tell(f'\ntcpsim-debug: {ended}')
             except Lost as lost:
-                tell(f'{os.linesep * isinstance(lost, Interrupted)}tcpsim-debug: {lost}')
+                tell(f'tcpsim-debug: {lost}')
             else:
                 show(answer.text)
                 tell(answer.note)
-        return 0
-    finally:
-        session.end()
+    return 0
 
 
 def last_words(ended: PromptEnded) -> int:

@@ -5,15 +5,18 @@ import contextlib
 import os
 import readline
 import shutil
+import signal
 import sys
-from collections.abc import Callable
+import termios
+from collections.abc import Callable, Iterator
+from types import FrameType
 
-from tcpsim.command_line import Ended
-from tcpsim.console.session import interruptible
+from tcpsim.command_line import Ended, nothing
 
 MOST_REMEMBERED = 1_000         # lines
 COMPLETE = 'bind ^I rl_complete' if 'libedit' in (readline.__doc__ or '') else 'tab: complete'
 SETTINGS = COMPLETE, 'set show-all-if-ambiguous on'
+LFLAG = 3                       # where a terminal's settings have the flag NOFLSH
 
 
 def history_file() -> str:
@@ -41,9 +44,9 @@ class Keyboard:
         """The next line, None at the end of input. Ctrl-C clears what is typed, and means no line."""
         while True:
             count = readline.get_current_history_length()
+            signal.signal(signal.SIGINT, interrupt)
             try:
-                with interruptible():
-                    line = input(self._prompt)
+                line = typed(self._prompt)
             except EOFError:
                 print()
                 return None
@@ -71,6 +74,38 @@ class Keyboard:
             sys.stdout.write(f'\n{f"{word.ljust(width)}  {what}"[:most].rstrip()}')
         sys.stdout.write(f'\n{self._prompt}{readline.get_line_buffer()}')
         sys.stdout.flush()
+
+
+def typed(prompt: str) -> str:
+    """A line; KeyboardInterrupt where Ctrl-C comes meanwhile and has the handler `interrupt`."""
+    return input(prompt)
+
+
+def interrupt(number: int, frame: FrameType | None) -> None:
+    """A handler: raises in `typed` alone, and once. What a callback of readline's raises is swallowed; and Python takes no
+    second interruption before it has left input()."""
+    if frame is not None and frame.f_code is typed.__code__:
+        signal.signal(number, nothing)
+        raise KeyboardInterrupt
+
+
+@contextlib.contextmanager
+def keys_kept() -> Iterator[None]:
+    """Ctrl-C takes away no key that was typed before it. Readline, which saw such a key, would wait for it, and hear no
+    Ctrl-C while it waits."""
+    before = termios.tcgetattr(0)
+    termios.tcsetattr(0, termios.TCSANOW, [*before[:LFLAG], before[LFLAG] | termios.NOFLSH, *before[LFLAG + 1:]])
+    try:
+        yield
+    finally:
+        with contextlib.suppress(termios.error):        # the terminal is gone
+            termios.tcsetattr(0, termios.TCSANOW, before)
+
+
+def drop_keys() -> None:
+    """Takes away the keys that were typed and are not yet read."""
+    with contextlib.suppress(termios.error):
+        termios.tcflush(0, termios.TCIFLUSH)
 
 
 def remember() -> None:

@@ -11,9 +11,8 @@ import re
 import signal
 from collections.abc import Iterator
 from dataclasses import dataclass
-from types import FrameType
 
-from tcpsim.command_line import Ended, Refused, nothing
+from tcpsim.command_line import Refused
 from tcpsim.prompt import Answer, Prompt, PromptEnded
 
 # What a move is answered: where in the run it came to. Where the session is can be asked too, and is no move.
@@ -73,16 +72,11 @@ class Session:
             if not line:
                 return Answer('', '')
         try:
-            with interruptible():
+            with self._interruptible():
                 self._prompt.ready()
                 there = True
                 answer = self._prompt.ask(line)
                 self._kept = self._kept_after(line, answer)
-        except Ended:
-            raise
-        except KeyboardInterrupt:
-            self._start_again()
-            raise Interrupted(f'ended; {self._where()}') from None
         except PromptEnded as ended:
             if ended.status >= 0 or not there:
                 raise
@@ -93,6 +87,27 @@ class Session:
     def end(self) -> None:
         """Ends the process, whatever it does, as one that goes on to where the session is."""
         self._prompt.end()
+
+    @contextlib.contextmanager
+    def _interruptible(self) -> Iterator[None]:
+        """Ctrl-C ends the process: Interrupted then, with another one. Its handler raises nothing, so that it comes at no
+        wrong moment: who waits for the process sees that it ended."""
+        came = []
+
+        def interrupt(*_):
+            came.append(True)
+            self._prompt.kill()
+        before = signal.signal(signal.SIGINT, interrupt)
+        try:
+            yield
+        except PromptEnded as ended:
+            if not came or ended.status >= 0:
+                raise
+        finally:
+            signal.signal(signal.SIGINT, before)
+        if came:
+            self._start_again()
+            raise Interrupted(f'ended; {self._where()}')
 
     def _kept_after(self, line, answer):
         moves = MOVED.findall(answer.text)
@@ -117,16 +132,3 @@ def how_ended(status: int) -> str:
     if status >= 0:
         return f'the program ended with status {status}'
     return f'the program was ended by signal {-status} ({signal.strsignal(-status)})'
-
-
-@contextlib.contextmanager
-def interruptible() -> Iterator[None]:
-    """Ctrl-C is raised, once; behind it, and outside, it is nothing."""
-    def interrupt(number: int, _frame: FrameType | None) -> None:
-        signal.signal(number, nothing)
-        raise KeyboardInterrupt
-    signal.signal(signal.SIGINT, interrupt)
-    try:
-        yield
-    finally:
-        signal.signal(signal.SIGINT, nothing)
