@@ -485,9 +485,41 @@ SORTS = ['node', 'flow', 'kind', 'drop', 'link', 'byte']
     ('br drop ', [it for it in SORTS if it != 'drop']), ('break flow 1 kind rto ', ['node', 'drop', 'link', 'byte']),
     ('break kind ', ['start', 'rto', 'delack', 'free', 'data', 'ack']), ('break drop kind ', ['start', 'rto', 'delack', 'free', 'data', 'ack']),
     ('break flow ', list('01')), ('break stall ', list('01')), ('break stall 1 ', []), ('break byte ', []), ('why ', list('01')),
-    ('delete ', list('12')), ('help ', ['numbers', 'trace', 'kinds', 'stall', *COMMANDS]), ('step ', []), ('run ', []), ('until ', []), ('x ', [])])
+    ('delete ', list('12')), ('help ', ['numbers', 'trace', 'kinds', 'stall', *COMMANDS]), ('step ', []), ('run ', []), ('until ', []),
+    ('goto ', []), ('x ', [])])
 def test_words_that_fit(completion, before, words):
     assert [word for word, _ in completion.words(before, {'breakpoint': ('drop', 'stall 1')})] == words
+
+
+@pytest.fixture(scope='module')
+def latest():
+    """The same of a prompt that has all steps, and names."""
+    return Completion(Session(FAIR, 14).ask)
+
+
+VALUES = ['cwnd', 'flight', 'ssthresh', 'una', 'nxt', 'rto', 'dups', 'phase', 'next', 'queue', 'wait', 'count', 'time', 'change']
+CHANGES = ['cwnd', 'flight', 'ssthresh', 'una', 'nxt', 'rto', 'dups', 'next']
+
+
+@pytest.mark.parametrize('before, words', [
+    ('break ', [*SORTS, *VALUES, 'stall']), ('break change ', CHANGES), ('break change cwnd ', ['fa', 'fb']), ('break change rto ', ['fa', 'fb']),
+    ('break change cwnd fa ', [*SORTS, *VALUES[:-1]]), ('break phase ', ['ss', 'ca', 'fr']),
+    ('break phase fr ', [*SORTS, *(it for it in VALUES if it != 'phase')]), ('break drop phase ', ['ss', 'ca', 'fr']),
+    ('break cwnd ', []), ('break cwnd<', []), ('break cwnd < ', []), ('break queue pq ', []), ('break queue pq > ', []), ('break queue pq>', []),
+    *((f'break {value} ', [*SORTS, *VALUES[1:]]) for value in ('cwnd<3000', 'cwnd <3000', 'cwnd< 3000', 'cwnd < 3000', 'cwnd>=3000')),
+    ('break queue pq>50 ', [*SORTS, *(it for it in VALUES if it != 'queue')]), ('break time>=5s flow ', ['fa', 'fb']),
+    ('break flow fa cwnd<3000 change cwnd fa kind rto ', ['node', 'drop', 'link', 'byte', *VALUES[1:-1]]), ('break stall fa ', []),
+    ('break drop x ', []), ('goto ', []), ('display phase ', ['fa', 'fb']), ('display phase fa ', [])])
+def test_values_that_fit(latest, before, words):
+    assert [word for word, _ in latest.words(before)] == words
+
+
+def test_values_have_their_meaning(latest):
+    told = dict(latest.words('break '))
+    assert told['rto'] == 'at a sender: how long its retransmission timer runs' and all(told[it] for it in VALUES)
+    assert dict(latest.words('break phase ')) == {'ss': 'slow start', 'ca': 'congestion avoidance', 'fr': 'fast recovery'}
+    assert dict(latest.words('break change ')) == {it: told[it] for it in CHANGES}
+    assert dict(latest.words('display '))['flight'] == 'a value of flow F: bytes in flight'
 
 
 def test_words_have_their_meaning(completion):
@@ -518,9 +550,17 @@ def test_every_word_that_fits_is_taken():
     prompt = Prompt([PROGRAM, 'debug'], read(FAIR))
     try:
         completion = Completion(prompt.ask)
-        for before in ('state node ', 'state flow ', 'break kind ', 'break flow ', 'break stall ', 'why ', 'help '):
+        for before in ('state node ', 'state flow ', 'break kind ', 'break flow ', 'break stall ', 'break phase ', 'break change cwnd ',
+                       'break change next ', 'break cwnd<3000 phase ', 'display flow ', 'display phase ', 'why ', 'help '):
             for word, _ in completion.words(before):
                 assert not prompt.ask(before + word).note, before + word
+        # The program expects what has to follow each sort that is offered, and not another sort in its place.
+        for before in ('break ', 'break drop ', 'break cwnd<3000 ', 'break queue pq > 5 phase fr ', 'break change cwnd fa kind rto ', 'break change '):
+            prompt.ask('clear')
+            expected = prompt.ask(before + 'x').note.splitlines()[-1]
+            for word, _ in completion.words(before):
+                note = prompt.ask(before + word).note
+                assert expected not in note and 'stands once' not in note, before + word
     finally:
         prompt.end()
 

@@ -277,7 +277,8 @@ def test_words_that_fit():
     assert words('display queue ')[:3] == ['pq', 'qp', 'sap'] and words('display queue pq ') == words('stalls ') == []
     assert words('undisplay ', display=['cwnd fa', 'link pq'], breakpoint=['drop']) == ['1', '2']
     assert words('delete ', display=['cwnd fa', 'link pq'], breakpoint=['drop']) == ['1'] and words('undisplay ') == []
-    assert dict(completion.words('display '))['queue'] == 'a value of link L'
+    told = dict(completion.words('display '))
+    assert (told['queue'], told['cwnd']) == ('a value of link L: how many packets wait there', 'a value of flow F')
 
 
 if __name__ == '__main__':

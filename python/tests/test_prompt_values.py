@@ -202,7 +202,10 @@ def test_sorts_that_fit():
     words = [word for word, _ in completion.words('break ')]
     assert words[:8] == ['node', 'flow', 'kind', 'drop', 'link', 'byte', 'cwnd', 'flight'] and words[-2:] == ['change', 'stall']
     assert [word for word, _ in completion.words('break queue ')] == ['a', 'b'] and completion.words('break cwnd ') == []
-    assert 'values' in [word for word, _ in completion.words('help ')]
+    assert 'values' in [word for word, _ in completion.words('help ')] and completion.words('goto ') == []
+    told = dict(completion.words('break '))
+    assert told['flight'] == 'at a sender, of its state: bytes in flight' and told['time'] == 'the moment'
+    assert told['wait'] == 'an event that changes link L: how long the first of them has waited'
 
 
 if __name__ == '__main__':
