@@ -19,7 +19,7 @@ import time
 from collections import namedtuple
 
 from results import BENCH, CALLGRIND, ENVIRONMENT, PROGRAM, instructions, made, number, saved, table
-from scenarios import EVER, GBIT, MBIT, MS, MSS, ROUTER, SCENARIOS, US, Net, disassemble, droptail, four_groups, islands, two_ends, under_way
+from scenarios import EVER, GBIT, MBIT, MS, MSS, RECEIVER, ROUTER, SCENARIOS, SENDER, US, Net, disassemble, droptail, four_groups, islands, two_ends, under_way
 
 PAGE = os.path.join(BENCH, 'DEBUGGER.md')
 PROMPT = b'(tcpsim) '
@@ -275,6 +275,23 @@ def in_islands():
                   ('kind start node 1', 'rto>999s', 'queue 0>60000', 'queue 207>60000', 'wait 207>999s', 'change ssthresh 40'))
 
 
+def last_nodes(segments):
+    """A flow of so many segments between the last two of 256 nodes. The others are routers in a row, which pass nothing on."""
+    net, link = Net(), (8 * MBIT, MS, droptail(100))
+    row = [net.node(ROUTER) for _ in range(254)]
+    for a, b in zip(row, row[1:]):
+        net.cable(a, b, *link)
+    sender, receiver = net.node(SENDER), net.node(RECEIVER)
+    net.link(sender, receiver, *link)
+    net.link(receiver, sender, *link)
+    net.flow(sender, receiver, MSS, segments, 0, 44 * MSS)
+    return net.scenario(EVER)
+
+
+def at_last_nodes():
+    return values(path_of('value last nodes', last_nodes(26_000)), ('kind rto', 'queue 506>60000', 'wait 507>999s', 'change ssthresh 0'))
+
+
 def value_table(found):
     """A row for each breakpoint, over the first of them."""
     (first, *least), *_ = found
@@ -330,6 +347,9 @@ def page(args, before):
         yield ('The same in `islands` of bench/scenarios.py, with 104 nodes, 208 links, and 48 flows of 2,000 segments. '
                'Link 0 is one of the first nodes, and link 207 is the last.\n')
         yield from value_table(list(in_islands()))
+        yield ('The same of a flow of 26,000 segments between the last two of 256 nodes, over links 506 and 507. '
+               'No other node has events.\n')
+        yield from value_table(list(at_last_nodes()))
     yield '## With groups and workers\n'
     crews = grouped(args.rounds, before)
     at = next(iter(crews.values()))[0]
