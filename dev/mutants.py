@@ -260,7 +260,9 @@ def main():
         fit, failed = check(names)
         print(f'{fit} can be applied, {failed} failed')
     else:
-        having = [it for it in names if edits_in(f'{TOP}/crates/{it}/wrong')]
+        having = [it for it in names if edits_in(f'{TOP}/crates/{it}/mutants')]
+        if not having:
+            sys.exit(f'there is nothing to try: none of {len(names)} crates has a folder mutants/ with an edit')
         refused, failed = try_all(having, crates)
         print(f'{refused} refused, {failed} failed')
     sys.exit(1 if failed else 0)
