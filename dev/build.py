@@ -4,9 +4,9 @@
     dev/build.py [--jobs N] [--ready | --module]
 
 Each crate is proved once, by `rattle build`, the prover behind `rt`, as soon as those that it stands on
-are: up to three crates side by side. The one on which most others stand gets the processors that the
-others leave, for as many functions at once; each of the others gets one, since a crate costs a third more
-by four jobs than by one. Of a library
+are: as many crates side by side as there are jobs. The one for which the longest chain of others waits, by
+lines, gets the processors that the others leave, for as many functions at once, and two at least; each of
+the others gets one and gives way to it, since a crate costs a third more by four jobs than by one. Of a library
 its statements are kept (crates/tcpsim/out/libs), so that what stands on it does not read its proofs;
 after a change the changed crate and those that stand on it are proved again. `rt ci` trusts nothing of
 it. The same run of the prover that makes the program keeps the LLVM module that it is made of, as
@@ -37,8 +37,6 @@ MADE = f"{TOP}/crates/{PROGRAM}/out/{PROGRAM}"
 # The program's LLVM module, and what says of which proof and which program it is.
 MODULE, RECORD = f"{MADE}.bc", f"{MADE}.module"
 PARTS = ("src", "specs", "proofs")
-# How many crates are proved side by side.
-CRATES_AT_ONCE = 3
 # What one of the prover's processes may take, in bytes.
 JOB_MEMORY = 2_500_000_000
 # How often it says how far it is where nothing else is said, in seconds.
@@ -67,11 +65,7 @@ def toolchain():
 
 def look_at_layout(kit):
     """Says which files are in another layout than `rt fmt` gives; answers the status."""
-    files = []
-    for name in declared():
-        for part in PARTS:
-            for at, _, names in os.walk(f"{TOP}/crates/{name}/{part}"):
-                files += [os.path.relpath(f"{at}/{it}", TOP) for it in names if it.endswith((".rt", ".antt"))]
+    files = [os.path.relpath(it, TOP) for name in declared() for it in files_of(name) if it.endswith((".rt", ".antt"))]
     words = [f"{kit}/bin/rattle", "fmt", "--check", *sorted(files)]
     looked = subprocess.run(words, cwd=TOP, stdin=subprocess.DEVNULL, stderr=subprocess.STDOUT)
     return 1 if looked.returncode else 0
@@ -82,13 +76,11 @@ def look_at_names():
     them; answers the status."""
     found = []
     for crate, libraries in declared().items():
-        for at, _, names in os.walk(f"{TOP}/crates/{crate}/src"):
-            for name in sorted(it for it in names if it.endswith(".rt")):
-                with open(f"{at}/{name}", encoding="utf-8") as file:
-                    modules = re.findall(r"^ *(?:pub(?:\([^)]*\))? )?mod (\w+)", file.read(), re.M)
-                where = os.path.relpath(f"{at}/{name}", TOP)
-                found += [f"{where}: {it} is the name of a library: give the module another"
-                          for it in sorted({*modules} & {"core", "std", *libraries})]
+        for path in (it for it in files_of(crate) if it.endswith(".rt")):
+            with open(path, encoding="utf-8") as file:
+                modules = re.findall(r"^ *(?:pub(?:\([^)]*\))? )?mod (\w+)", file.read(), re.M)
+            found += [f"{os.path.relpath(path, TOP)}: {it} is the name of a library: give the module another"
+                      for it in sorted({*modules} & {"core", "std", *libraries})]
     print("".join(f"{it}\n" for it in found), end="")
     return 1 if found else 0
 
@@ -102,6 +94,14 @@ def declared():
             if colon:
                 found[head.split()[0]] = below.split()
     return found
+
+
+def files_of(name):
+    """The files that a crate's proof reads of its own, in one order."""
+    for part in PARTS:
+        for at, folders, files in os.walk(f"{TOP}/crates/{name}/{part}"):
+            folders.sort()
+            yield from (f"{at}/{it}" for it in sorted(files))
 
 
 def below(name, libraries, found=()):
@@ -127,12 +127,9 @@ def sum_of(name, kit, sums, libraries):
     taken = hashlib.sha256(kit.encode())
     for it in libraries[name]:
         taken.update(f"{it} {sums.get(it, '')}\n".encode())
-    for part in PARTS:
-        for at, folders, files in os.walk(f"{TOP}/crates/{name}/{part}"):
-            folders.sort()
-            for file in sorted(files):
-                with open(f"{at}/{file}", "rb") as it:
-                    taken.update(f"{os.path.relpath(at, TOP)}/{file}".encode() + b"\0" + it.read() + b"\0")
+    for path in files_of(name):
+        with open(path, "rb") as file:
+            taken.update(os.path.relpath(path, TOP).encode() + b"\0" + file.read() + b"\0")
     return taken.hexdigest()
 
 
@@ -250,7 +247,8 @@ class Crate:
     def __init__(self, name, libraries, stamp):
         self.name, self.stamp = name, stamp
         self.waits = [it for it in libraries[name] if it in libraries]
-        self.above = sum(name in libraries[it] for it in libraries)
+        # The lines of this crate and of the longest chain of those that wait for it, one behind the other.
+        self.chain = 0
         self.prover, self.begun, self.usage = None, 0, None
 
     def mark(self):
@@ -304,11 +302,11 @@ def prove(crates, count, jobs, words_for):
     running = []
     while left or running:
         ready = [it for it in left if all(name in done for name in it.waits)]
-        for at, it in enumerate(ready[: CRATES_AT_ONCE - len(running)]):
-            beside = min(CRATES_AT_ONCE - 1, len(running) + len(ready) - at - 1)
+        for at, it in enumerate(ready[: jobs - len(running)]):
+            beside = min(jobs, len(running) + len(ready) - at) - 1
             left.remove(it)
-            gives_way = any(other.above > it.above for other in [*left, *running])
-            it.start(words_for(it.name, 1 if gives_way else max(1, jobs - beside)), gives_way)
+            gives_way = any(other.chain > it.chain for other in [*left, *running])
+            it.start(words_for(it.name, 1 if gives_way else min(jobs, max(2, jobs - beside))), gives_way)
             running.append(it)
         for it in [it for it in running if it.has_ended()]:
             running.remove(it)
@@ -345,9 +343,22 @@ def sums_of(names, kit, libraries):
     return sums
 
 
+def lines_of(name):
+    """How many lines a crate has."""
+    lines = 0
+    for path in files_of(name):
+        with open(path, "rb") as file:
+            lines += file.read().count(b"\n")
+    return lines
+
+
 def crates_of(names, libraries, sums):
-    """The program's crates, each behind those that it stands on."""
-    return [Crate(name, libraries, sums[name]) for name in names]
+    """The crates of these names, which come each behind those that it stands on: those first for which the longest
+    chain waits."""
+    crates = [Crate(name, libraries, sums[name]) for name in names]
+    for it in reversed(crates):
+        it.chain = lines_of(it.name) + max((other.chain for other in crates if it.name in other.waits), default=0)
+    return sorted(crates, key=lambda it: -it.chain)
 
 
 def is_built():
@@ -367,8 +378,7 @@ def left_by_the_gate(name, libraries):
     places, newest = {}, 0
     for it in below(name, libraries):
         places[it] = f"{TOP}/crates/{it}/out/rlib"
-        files = [f"{at}/{file}" for part in PARTS for at, _, files in os.walk(f"{TOP}/crates/{it}/{part}") for file in files]
-        newest = max([newest, *map(os.path.getmtime, files)])
+        newest = max([newest, *map(os.path.getmtime, files_of(it))])
         made = f"{places[it]}/{it}.rlib"
         if not os.path.isdir(made) or not os.listdir(made) or os.path.getmtime(made) < newest:
             return None
@@ -433,8 +443,6 @@ def build(asked):
     names = [*below(PROGRAM, libraries), PROGRAM]
     sums = sums_of(names, kit, libraries)
     crates = crates_of(names, libraries, sums)
-    # First those on which most others stand.
-    crates.sort(key=lambda it: -it.above)
     left = sum(not it.is_kept() for it in crates)
     if not left and os.path.isfile(MADE):
         return 0

@@ -1,5 +1,7 @@
 #!/usr/bin/env python3
-"""Tests of what dev/build.py keeps for the page with the simulator, without the prover: python3 -m pytest dev/test_build.py."""
+"""Tests of dev/build.py without the prover: in which order it proves crates, and what it keeps for the page with the
+simulator."""
+import functools
 import json
 import os
 import subprocess
@@ -25,6 +27,27 @@ def clone(tmp_path, monkeypatch):
 
 
 LIBRARIES = {'low': ['std'], 'high': ['low'], build.PROGRAM: ['high']}
+
+
+def test_what_the_longest_chain_waits_for_is_proved_first(clone):
+    """It gets the processors that the others leave, and two at least; the others get one, and give way."""
+    lines = {'wide': 40, 'low': 20, 'small': 1, 'middle': 25, 'high': 20}
+    libraries = {'wide': [], 'small': [], 'low': ['std'], 'middle': ['low'], 'high': ['small', 'middle', 'low']}
+    for name, count in lines.items():
+        os.makedirs(clone / 'crates' / name / 'src', exist_ok=True)
+        (clone / 'crates' / name / 'src/lib.rt').write_text('\n' * count)
+    crates = build.crates_of(libraries, libraries, dict.fromkeys(libraries, 'sum'))
+    assert [(it.name, it.chain) for it in crates] == [('low', 65), ('middle', 45), ('wide', 40), ('small', 21), ('high', 20)]
+
+    begun = []
+    for it in crates:
+        it.start = functools.partial(lambda start, words, gives_way: begun.append((*words, gives_way)) or start(['true'], False), it.start)
+    assert build.prove(crates, len(crates), 3, lambda name, jobs: [name, jobs]) is None
+    assert begun[:3] == [('low', 2, False), ('wide', 1, True), ('small', 1, True)]
+    assert [it[0] for it in begun[3:]] == ['middle', 'high'] and all(it.is_kept() for it in crates)
+    os.remove(crates[-1].mark())
+    assert build.prove(crates, len(crates), 3, lambda name, jobs: [name, jobs]) is None
+    assert begun[5:] == [('high', 3, False)]
 
 
 def test_the_compiler_keeps_its_module(clone):
