@@ -33,7 +33,7 @@ use Rattle.run_laws.proofs.Ports.{sends, counted, by_test, to_none, took, queue_
 use Rattle.run_laws.proofs.Touched.{Touches, by_offers, by_offer, by_take}
 use Rattle.run_laws.proofs.Turns.{at_each_link, busy_sends_none, one_list}
 
-abbrev drops_in : List Act → List Packet
+abbrev pub drops_in : List Act → List Packet
 drops_in acts = filter_map queue_drop_in acts
 
 -- what a take drops is told
@@ -43,10 +43,10 @@ module _ (now : ℕ) (old : PortState) (queue : Queue) (reason : TakeDrop) where
   reported_by [] (Some cell) = refl
   reported_by (x ∷ dropped) given = ap (λ ls. x.0 ∷ ls) (reported_by dropped given)
 
-take_drops : (now : ℕ) (old : PortState) → drops_in (taken now old).acts ≡ map (λ (cell : Stamped). cell.0) (taken_from old.queue now).dropped
+pub take_drops : (now : ℕ) (old : PortState) → drops_in (taken now old).acts ≡ map (λ (cell : Stamped). cell.0) (taken_from old.queue now).dropped
 take_drops now old = let take = taken_from old.queue now in reported_by now old take.queue (take_reason old.queue) take.dropped take.given
 
-queue_after : (now : ℕ) (old : PortState) → (taken now old).port.queue ≡ (taken_from old.queue now).queue
+pub queue_after : (now : ℕ) (old : PortState) → (taken now old).port.queue ≡ (taken_from old.queue now).queue
 queue_after now old = let take = taken_from old.queue now in queue_same now old take.queue (take_reason old.queue) take.given
 
 -- of one packet that waits none is dropped
@@ -57,10 +57,10 @@ none_dropped q now cell is = none (taken_from q now).dropped (last_stays q now c
     none [] few = refl
     none (x ∷ dropped) few = absurd (omega (arith, few))
 
-abbrev Idle : PortState → Type 0
+abbrev pub Idle : PortState → Type 0
 Idle port = NothingWaitsWhereIdle port
 
-idle : (port : PortState) → IsKept port → Idle port
+pub idle : (port : PortState) → IsKept port → Idle port
 idle port kept none = kept.idle_empty (subst (λ (o : Option ℕ). IsNone o) (sym none) refl)
 
 alone : (now : ℕ) (old : PortState) (packet : Packet) → Idle old → is_none old.next_free ≡ true → refuses old.queue ≡ false → waiting_in (with_packet now (counted old) packet).queue ≡ (packet, now) ∷ []
@@ -203,7 +203,7 @@ undropped now old new acts none left alone_sent =
           absurd (true≢false (sym ok ∙ ap (λ j. (judgement s now j).ok) count ∙ ap (λ ws. (judged s now (slice_get ws 0) (bytes_of (drop 1 ws)) s.first_above).ok) empty));
     }
 
-as_many_dropped : (cells : List Stamped) → length (map (λ (cell : Stamped). cell.0) cells) ≡ length cells
+pub as_many_dropped : (cells : List Stamped) → length (map (λ (cell : Stamped). cell.0) cells) ≡ length cells
 as_many_dropped [] = refl
 as_many_dropped (x ∷ cells) = ap suc (as_many_dropped cells)
 
@@ -233,7 +233,7 @@ take_on_time now old = record {
     goes s was on = ap length (take_drops now old) ∙ as_many_dropped (taken_from old.queue now).dropped ∙ ap (λ q. length (taken_from q now).dropped) was ∙ drops_in_drop_state s now on
 
 -- a link sends something of what is offered only where nothing waits
-sends_where_empty : (now : ℕ) (old : PortState) (packets : List Packet) → Idle old → 1 ≤ sends (offered_all now old packets).acts → waiting_in old.queue ≡ []
+pub sends_where_empty : (now : ℕ) (old : PortState) (packets : List Packet) → Idle old → 1 ≤ sends (offered_all now old packets).acts → waiting_in old.queue ≡ []
 sends_where_empty now old packets kept one = by old.next_free refl
   where
     by : (o : Option ℕ) → old.next_free ≡ o → waiting_in old.queue ≡ []

@@ -28,12 +28,12 @@ use Rattle.run_laws.proofs.Touched.{Touches, by_offers, by_offer, by_take, IsTou
 abbrev pub its_own : ℕ → List Act → List Act
 its_own number acts = filter (λ act. link_of act == number) acts
 
-all_its : (m n : ℕ) → m ≡ n → (acts : List Act) → AllByRecursion (λ (act : Act). link_of act ≡ m) acts → its_own n acts ≡ acts
+pub all_its : (m n : ℕ) → m ≡ n → (acts : List Act) → AllByRecursion (λ (act : Act). link_of act ≡ m) acts → its_own n acts ≡ acts
 all_its m n same [] h = refl
 all_its m n same (act ∷ acts) h =
     ap (λ b. cond b (act ∷ its_own n acts) (its_own n acts)) (eq-eqb (link_of act) n (h.0 ∙ same)) ∙ ap (λ ls. act ∷ ls) (all_its m n same acts h.1)
 
-none_its : (m n : ℕ) → m ≢ n → (acts : List Act) → AllByRecursion (λ (act : Act). link_of act ≡ m) acts → its_own n acts ≡ []
+pub none_its : (m n : ℕ) → m ≢ n → (acts : List Act) → AllByRecursion (λ (act : Act). link_of act ≡ m) acts → its_own n acts ≡ []
 none_its m n other [] h = refl
 none_its m n other (act ∷ acts) h =
     ap (λ b. cond b (act ∷ its_own n acts) (its_own n acts)) (ne_eqb (link_of act) n (λ same. other (sym h.0 ∙ same))) ∙ none_its m n other acts h.1
@@ -45,10 +45,10 @@ acts_more number lines line =
     ∙ filter-append (λ act. link_of act == number) (flat_map (λ (l : TraceLine). l.acts) lines) line.acts
 
 -- all acts of what is done at a link are that link's
-abbrev AreIts : PortState → PortStep → Type 0
+abbrev pub AreIts : PortState → PortStep → Type 0
 AreIts old step = AllByRecursion (λ (act : Act). link_of act ≡ old.link) step.acts × (step.port.link ≡ old.link)
 
-its_acts : (now : ℕ) (old : PortState) (step : PortStep) → Touches now old step → AreIts old step
+pub its_acts : (now : ℕ) (old : PortState) (step : PortStep) → Touches now old step → AreIts old step
 its_acts now old step (by_offers packets is) = let b = all_balance now old packets in subst (AreIts old) (sym is) (b.its, b.same_link)
 its_acts now old step (by_offer packet is) = let b = one_balances now old packet in subst (AreIts old) (sym is) (b.its, b.same_link)
 its_acts now old step (by_take free is) = let b = taken_balances now old in subst (AreIts old) (sym is) (b.its, b.same_link)
@@ -78,10 +78,10 @@ module _ (p : ScenarioParts) (is_scenario : IsScenario p) (lines : List TraceLin
   abbrev pub line : TraceLine
   line = line_of (k, v) (effect_of s (k, v))
 
-  abbrev touch : IsTouched (part_at s k.node) k.time (effect_of s (k, v))
+  abbrev pub touch : IsTouched (part_at s k.node) k.time (effect_of s (k, v))
   touch = touched p is_scenario lines sound.moment s k sound.sound v (sound.sound.belongs k v (is_due s k v is).pending)
 
-  abbrev changed : LinkState
+  abbrev pub changed : LinkState
   changed = record (link_at (part_at s k.node).links touch.index) { port = touch.step.port }
 
   pub here : part_at t k.node ≡ (effect_of s (k, v)).part
@@ -90,14 +90,14 @@ module _ (p : ScenarioParts) (is_scenario : IsScenario p) (lines : List TraceLin
   pub there : (node : ℕ) → node ≢ k.node → part_at t node ≡ part_at s node
   there node other = get_or-set_other s.parts k.node node (effect_of s (k, v)).part no_part other
 
-  links_here : (part_at t k.node).links ≡ set (part_at s k.node).links touch.index changed
+  pub links_here : (part_at t k.node).links ≡ set (part_at s k.node).links touch.index changed
   links_here = ap (λ (x : PartState). x.links) here ∙ touch.links_are
 
   pub nodes_there : (node index : ℕ) → index < length (part_at s node).links → node < length p.nodes
   nodes_there node index within = subst (λ n. node < n) sound.sound.nodes_are (node_there s node index within)
 
   -- another link has another number
-  other_number : (node index : ℕ) → index < length (part_at s node).links → (node ≡ k.node → index ≢ touch.index) → (port_of_link s k.node touch.index).link ≢ (port_of_link s node index).link
+  pub other_number : (node index : ℕ) → index < length (part_at s node).links → (node ≡ k.node → index ≢ touch.index) → (port_of_link s k.node touch.index).link ≢ (port_of_link s node index).link
   other_number node index within apart same =
       let its_links = (sound.sound.each_node k.node (nodes_there k.node touch.index touch.within)).its_links in
       let one = link_part p node (part_at s node).links (sound.sound.each_node node (nodes_there node index within)).its_links index within in
@@ -107,7 +107,7 @@ module _ (p : ScenarioParts) (is_scenario : IsScenario p) (lines : List TraceLin
       let inside : index < length (part_at s k.node).links = subst (λ n. index < length (part_at s n).links) at within in
       apart at (one_index p k.node (part_at s k.node).links its_links index touch.index inside touch.within (ap (λ n. (port_of_link s n index).link) (sym at) ∙ sym same))
 
-  its : AllByRecursion (λ (act : Act). link_of act ≡ (port_of_link s k.node touch.index).link) line.acts
+  pub its : AllByRecursion (λ (act : Act). link_of act ≡ (port_of_link s k.node touch.index).link) line.acts
   its = subst (AllByRecursion (λ (act : Act). link_of act ≡ (port_of_link s k.node touch.index).link)) (sym touch.acts_are) (its_acts k.time (port_of_link s k.node touch.index) touch.step touch.touches).0
 
   left : (node index : ℕ) → port_of_link t node index ≡ port_of_link s node index → index < length (part_at s node).links → (node ≡ k.node → index ≢ touch.index) → AtLink s t k.time line node index

@@ -7,8 +7,14 @@ pub mod Along
 pub mod Conserved
 pub mod Rows
 pub mod Senders
+pub mod Losses
+pub mod GoesOn
+pub mod Offers
 pub mod Turns
 pub mod Causes
 pub mod Rates
 pub mod Once
 pub mod Offered
+pub mod Forwarding
+pub mod Timing
+pub mod DropState

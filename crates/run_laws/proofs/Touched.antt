@@ -20,7 +20,7 @@ use Rattle.node_core.specs.declared.event.Event.{Event}
 use Rattle.node_core.specs.declared.event.Event.TheVariants.{Start, Rto, DelAck, Free, Arrive}
 use Rattle.node_core.specs.declared.role.Role.{Role}
 use Rattle.node_core.specs.Part.{PartState, link_at}
-use Rattle.node_core.specs.Row.{Effect, data_packet, ack_of, sender_row, receiver_row, start_row, rto_row, delack_row, free_row, arrival_row, at_sender, at_receiver, passed_on}
+use Rattle.node_core.specs.Row.{Effect, leaving_over, data_packet, ack_of, sender_row, receiver_row, start_row, rto_row, delack_row, free_row, arrival_row, at_sender, at_receiver, passed_on}
 use Rattle.node_core.specs.TraceLine.{TraceLine}
 use Rattle.table_run.specs.State.{State, part_at, effect_of}
 use Rattle.table_run.specs.Flow.{path_of}
@@ -42,6 +42,7 @@ pub record IsTouched (part : PartState) (now : ℕ) (effect : Effect) : Type 0 w
   pub touches : Touches now (link_at part.links index).port step
   pub links_are : effect.part.links ≡ set part.links index (record (link_at part.links index) { port = step.port })
   pub acts_are : effect.acts ≡ step.acts
+  pub leaving_is : effect.leaving ≡ leaving_over index step.departure
 
 module _ (p : ScenarioParts) (is_scenario : IsScenario p) (lines : List TraceLine) (now : ℕ) (s : State) (k : Key) (S : IsSoundAt p lines now s) where
   abbrev part : PartState
@@ -60,6 +61,7 @@ module _ (p : ScenarioParts) (is_scenario : IsScenario p) (lines : List TraceLin
         touches = by_offers (map (data_packet number planned.fields.mss) planned.sent) refl;
         links_are = ap (λ (e : Effect). e.part.links) is;
         acts_are = ap (λ (e : Effect). e.acts) is;
+        leaving_is = ap (λ (e : Effect). e.leaving) is;
       }
 
   by_receiver : (effect : Effect) (number : ℕ) (flow : FlowPart) → slice_get p.flows number ≡ Some flow → k.node ≡ flow.receiver → (old : ReceiverState) (answered : Answered) → effect ≡ receiver_row part k number old answered → IsTouched part k.time effect
@@ -72,6 +74,7 @@ module _ (p : ScenarioParts) (is_scenario : IsScenario p) (lines : List TraceLin
         touches = by_offers (ack_of number answered.reply) refl;
         links_are = ap (λ (e : Effect). e.part.links) is;
         acts_are = ap (λ (e : Effect). e.acts) is;
+        leaving_is = ap (λ (e : Effect). e.leaving) is;
       }
 
   at_start : (number : ℕ) → IsStart p k number → IsTouched part k.time (effect_of s (k, Start number))
@@ -104,6 +107,7 @@ module _ (p : ScenarioParts) (is_scenario : IsScenario p) (lines : List TraceLin
         touches = by_take h.timer.is_set refl;
         links_are = ap (λ (e : Effect). e.part.links) is;
         acts_are = ap (λ (e : Effect). e.acts) is;
+        leaving_is = ap (λ (e : Effect). e.leaving) is;
       }
 
   passes : (x : Packet) (h : IsArrival p s now k x) → PathGoesOn p (path_of x.kind h.under_way.flow) k.node → IsTouched part k.time (effect_of s (k, Arrive x))
@@ -118,6 +122,7 @@ module _ (p : ScenarioParts) (is_scenario : IsScenario p) (lines : List TraceLin
         touches = by_offer x refl;
         links_are = ap (λ (e : Effect). e.part.links) is;
         acts_are = ap (λ (e : Effect). e.acts) is;
+        leaving_is = ap (λ (e : Effect). e.leaving) is;
       }
 
   ends_at : (x : Packet) (h : IsArrival p s now k x) (kind : Kind) → x.kind ≡ kind → k.node ≡ (path_of kind h.under_way.flow).end → IsTouched part k.time (effect_of s (k, Arrive x))

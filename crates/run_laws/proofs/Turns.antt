@@ -59,7 +59,7 @@ module _ (now : ℕ) (old : PortState) (queue : Queue) (reason : TakeDrop) where
   rest None = refl
   rest (Some cell) = refl
 
-taken_in_turn : (now : ℕ) (old : PortState) → filter_map left_by (taken now old).acts ++ packets_of (taken now old).port ≡ packets_of old
+pub taken_in_turn : (now : ℕ) (old : PortState) → filter_map left_by (taken now old).acts ++ packets_of (taken now old).port ≡ packets_of old
 taken_in_turn now old =
     let take = taken_from old.queue now in
     ap (λ ls. ls ++ packets_of (taken now old).port) (leave now old take.queue (take_reason old.queue) take.dropped take.given)

@@ -1,6 +1,6 @@
 -- What holds in every state of every run, in the words of TCP, of queues and of links.
-use Rattle.std.specs.Prelude.{◌≡◌, ℕ, ◌+◌, ◌*◌, ◌-◌, ◌%◌, ◌<◌, ◌≤◌, ◌↔◌, List, [], length, Some, IfSome, IsSome, IsNone}
-use Rattle.std.specs.List.{slice_get}
+use Rattle.std.specs.Prelude.{◌≡◌, ◌≢◌, ℕ, ◌+◌, ◌*◌, ◌-◌, ◌%◌, ◌<◌, ◌≤◌, ◌↔◌, ◌⊎◌, List, [], length, Some, IfSome, IsSome, IsNone}
+use Rattle.std.specs.List.{slice_get, AllByRecursion}
 use Rattle.std.specs.FinMap as finmap
 use Rattle.scenario_image.specs.declared.parts.FlowPart.{FlowPart}
 use Rattle.scenario_image.specs.declared.parts.ScenarioParts.{ScenarioParts}
@@ -10,7 +10,7 @@ use Rattle.reno_receiver.specs.Received.{ReceiverState, IsReceived, next_of}
 use Rattle.aqm.specs.Queue.{fifo_of, waiting_in}
 use Rattle.port.specs.Port.{PortState}
 use Rattle.node_core.specs.declared.timer.Timer.TheVariants.{Retransmission}
-use Rattle.node_core.specs.declared.event.Event.TheVariants.{Rto}
+use Rattle.node_core.specs.declared.event.Event.TheVariants.{Start, Rto}
 use Rattle.node_core.specs.declared.role.Role.TheVariants.{Sends, Receives}
 use Rattle.node_core.specs.Timers.{timer_key}
 use Rattle.node_core.specs.Part.{link_at}
@@ -71,6 +71,23 @@ pub record IsTimed (events : Events) (number : ℕ) (flow : FlowPart) (f : Sende
 
 abbrev pub TimersRun : Type 0
 TimersRun = InEveryState (λ p _ s. (number : ℕ) (flow : FlowPart) → slice_get p.flows number ≡ Some flow → HasEnds (λ f _. IsTimed s.pending number flow f) s number flow)
+
+-- none of the lines is the start of a flow
+abbrev pub HasNotStarted : ℕ → List TraceLine → Type 0
+HasNotStarted number lines = AllByRecursion (λ (line : TraceLine). line.event ≢ Start number) lines
+
+-- bytes are in flight, and the timer runs
+pub record GoesOn (f : SenderFields) : Type 0 where
+  pub flies : f.una < f.nxt
+  pub timed : IsSome f.deadline
+
+-- a flow that has started goes on until all of it is acknowledged
+abbrev pub NoFlowHangs : Type 0
+NoFlowHangs = InEveryState (λ p lines s. (number : ℕ) (flow : FlowPart) → slice_get p.flows number ≡ Some flow → HasNotStarted number lines ⊎ HasEnds (λ f _. f.una < bytes_of_flow flow → GoesOn f) s number flow)
+
+-- what was ever sent lies within the receiver's window beyond una
+abbrev pub SendsWithinWindow : Type 0
+SendsWithinWindow = InEveryState (λ p _ s. OfEachFlow (λ flow f _. f.high ≤ f.una + flow.rwnd) p s)
 
 abbrev pub ArrivalsKeepOrder : Type 0
 ArrivalsKeepOrder = InEveryState (λ _ _ s. ArriveInOrder s.pending)

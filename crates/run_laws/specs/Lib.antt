@@ -1,3 +1,5 @@
 pub mod Laws
 pub mod Links
 pub mod Senders
+pub mod Forwarding
+pub mod Timing

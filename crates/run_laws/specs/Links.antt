@@ -1,6 +1,6 @@
 -- What becomes of packets at each link of each run.
-use Rattle.std.specs.Prelude.{◌≡◌, ◌≢◌, ℕ, zero, suc, ◌+◌, ◌*◌, ◌==◌, ◌<◌, ◌≤◌, min, Bool, true, false, List, [], ◌++◌, length, map, drop, slice_get, filter, count_by, Option, Some, None, IfSome, IsSomeAnd}
-use Rattle.std.specs.List.{AllByRecursion, flat_map, filter_map, sum_by, range_with_len}
+use Rattle.std.specs.Prelude.{◌≡◌, ◌≢◌, ℕ, zero, suc, ◌+◌, ◌-◌, ◌*◌, ◌==◌, ◌<◌, ◌≤◌, ◌⊎◌, min, Bool, true, false, not, List, [], ◌∷◌, ◌++◌, length, map, drop, slice_get, filter, count_by, Option, Some, None, IfSome, IsSomeAnd}
+use Rattle.std.specs.List.{AllByRecursion, list_any, flat_map, filter_map, sum_by, range_with_len}
 use Rattle.std.specs.FinMap as finmap
 use Rattle.sim_time.specs.ControlLaw.{gap_of}
 use Rattle.sim_time.specs.declared.key.Key.{Key}
@@ -13,7 +13,7 @@ use Rattle.aqm.specs.Codel.{CodelState}
 use Rattle.aqm.specs.Judgement.{judgement}
 use Rattle.aqm.specs.Laws.{IsForCause}
 use Rattle.aqm.specs.declared.drop_reason.DropReason.TheVariants.{Lost, Offer, Take}
-use Rattle.aqm.specs.Queue.{waiting_in}
+use Rattle.aqm.specs.Queue.{fifo_of, waiting_in}
 use Rattle.port.specs.declared.acts.Act.{Act}
 use Rattle.port.specs.declared.acts.Act.TheVariants.{Tx, Dropped}
 use Rattle.port.specs.Port.{PortState}
@@ -111,6 +111,33 @@ pub record DropsOnTime (now : ℕ) (old : PortState) (acts : List Act) (new : Po
   pub next : (s q : CodelState) → old.queue ≡ Codel s → s.dropping ≡ true → new.queue ≡ Codel q → q.dropping ≡ true → q.drop_next ≡ due_behind s (length (filter_map queue_drop_in acts))
   pub none_left : (s : CodelState) → old.queue ≡ Codel s → s.dropping ≡ true → 1 ≤ count_by is_sent acts → (judgement s now (length (filter_map queue_drop_in acts))).ok ≡ true → now < due_behind s (length (filter_map queue_drop_in acts))
 
+-- the packet at the head has waited for the target, with more than maxpacket bytes behind it; or it has not
+pub record IsAbove (s : CodelState) (now left : ℕ) (cell : Stamped) : Type 0 where
+  pub waited : s.target ≤ now - cell.1
+  pub behind : s.maxpacket < left
+
+abbrev pub IsBelow : CodelState → ℕ → ℕ → Stamped → Type 0
+IsBelow s now left cell = (now - cell.1 < s.target) ⊎ (left ≤ s.maxpacket)
+
+-- nothing is dropped, and drop state doesn't begin
+pub record DropsNothing (acts : List Act) (q : CodelState) (first_above : Option ℕ) : Type 0 where
+  pub first_above_is : q.first_above ≡ first_above
+  pub outside : q.dropping ≡ false
+  pub none_dropped : filter_map queue_drop_in acts ≡ []
+
+-- outside drop state, by the packet at the head: below target the clock is off; the first above it sets it an interval ahead, until then nothing is dropped, and from then on the head is dropped and drop state begins
+pub record EntersDropState (now : ℕ) (s : CodelState) (cell : Stamped) (acts : List Act) (q : CodelState) : Type 0 where
+  pub below : IsBelow s now (bytes_of (drop 1 s.fifo.waiting)) cell → DropsNothing acts q None
+  pub first : IsAbove s now (bytes_of (drop 1 s.fifo.waiting)) cell → s.first_above ≡ None → DropsNothing acts q (Some (now + s.interval))
+  pub early : (t : ℕ) → IsAbove s now (bytes_of (drop 1 s.fifo.waiting)) cell → s.first_above ≡ Some t → now < t → DropsNothing acts q (Some t)
+  pub due : (t : ℕ) → IsAbove s now (bytes_of (drop 1 s.fifo.waiting)) cell → s.first_above ≡ Some t → t ≤ now → (q.dropping ≡ true) × (filter_map queue_drop_in acts ≡ cell.0 ∷ [])
+
+-- where a link takes from CoDel's queue and sends: drop state begins by the head, and it ends where the packet that is sent is below target
+pub record KeepsDropState (now : ℕ) (old : PortState) (acts : List Act) (new : PortState) : Type 0 where
+  pub enters : (s q : CodelState) (cell : Stamped) → old.queue ≡ Codel s → new.queue ≡ Codel q → 1 ≤ count_by is_sent acts → slice_get s.fifo.waiting 0 ≡ Some cell → s.dropping ≡ false → EntersDropState now s cell acts q
+  pub leaves : (s q : CodelState) (head cell : Stamped) → old.queue ≡ Codel s → new.queue ≡ Codel q → 1 ≤ count_by is_sent acts → slice_get s.fifo.waiting 0 ≡ Some head → s.dropping ≡ true
+      → let k = length (filter_map queue_drop_in acts) in slice_get s.fifo.waiting k ≡ Some cell → IsBelow s now (bytes_of (drop (k + 1) s.fifo.waiting)) cell → (q.dropping ≡ false) × (q.first_above ≡ None)
+
 -- the bytes that an act tells to be sent
 abbrev pub bytes_by : Act → ℕ
 bytes_by (Tx link packet) = packet.bytes
@@ -145,3 +172,29 @@ pub record ArrivesOnce (lines : List TraceLine) (events : Events) (port : PortSt
 
 abbrev pub PacketsArriveOnce : Type 0
 PacketsArriveOnce = InEveryState (λ p lines s. (node index : ℕ) → index < length (part_at s node).links → ArrivesOnce lines s.pending (port_of_link s node index))
+
+-- the packet that an act turns away: it is lost, or refused as it comes
+abbrev pub turned_away : Act → Option Packet
+turned_away (Dropped link Lost packet) = Some packet
+turned_away (Dropped link (Offer reason) packet) = Some packet
+turned_away act = None
+
+-- these packets are offered to a link and no others, in their order: each is turned away, or it joins those that wait, at the end
+pub record IsOffered (packets : List Packet) (old : PortState) (acts : List Act) (new : PortState) : Type 0 where
+  pub fates : List (Packet × Bool)
+  pub each_one : map (λ x. x.0) fates ≡ packets
+  pub away : filter_map turned_away acts ≡ map (λ x. x.0) (filter (λ x. not x.1) fates)
+  pub joins : filter_map left_by acts ++ packets_of new ≡ packets_of old ++ map (λ x. x.0) (filter (λ x. x.1) fates)
+  pub counted : new.offered ≡ old.offered + length packets
+
+-- whether a list has a number
+abbrev pub has_number : List ℕ → ℕ → Bool
+has_number numbers number = list_any (λ n. n == number) numbers
+
+-- packets are counted from 1 as they are offered: those are lost whose numbers the link's list has, and one is refused only where the queue is full
+pub record TurnsAwayByRule (now : ℕ) (old : PortState) (acts : List Act) (new : PortState) : Type 0 where
+  pub offers : ℕ
+  pub counted : new.offered ≡ old.offered + offers
+  pub lost : count_by is_lost_act acts ≡ count_by (has_number old.lose) (range_with_len (old.offered + 1) offers)
+  pub refused : 1 ≤ count_by is_refused acts → length (waiting_in new.queue) ≡ (fifo_of new.queue).capacity
+  pub list_stays : new.lose ≡ old.lose

@@ -1,12 +1,14 @@
 -- What each event does to the sender of a flow.
-use Rattle.std.specs.Prelude.{◌≡◌, ◌≢◌, ℕ, ◌+◌, ◌*◌, ◌<◌, ◌≤◌, ◌⊎◌, min, length, Contains, None, Some, IfSome}
+use Rattle.std.specs.Prelude.{◌≡◌, ◌≢◌, ℕ, ◌+◌, ◌-◌, ◌*◌, ◌/◌, ◌<◌, ◌≤◌, ◌⊎◌, min, max, true, false, [], ◌∷◌, length, Contains, None, Some, IfSome, IsFalse}
+use Rattle.std.specs.Int.{abs_diff}
 use Rattle.std.specs.List.{slice_get}
 use Rattle.packet_chain.specs.declared.packet.Packet.{Packet}
 use Rattle.packet_chain.specs.declared.packet.Kind.{Kind}
 use Rattle.packet_chain.specs.declared.packet.Kind.TheVariants.{Data, Ack}
 use Rattle.scenario_image.specs.declared.parts.FlowPart.{FlowPart}
 use Rattle.reno_sender.specs.declared.fields.SenderFields.{SenderFields}
-use Rattle.reno_sender.specs.Fields.{total}
+use Rattle.reno_sender.specs.declared.fields.Timing.{Timing}
+use Rattle.reno_sender.specs.Fields.{total, is_newreno}
 use Rattle.reno_sender.specs.Sending.{Planned}
 use Rattle.reno_sender.specs.LossRecovery.{nothing_sent}
 use Rattle.reno_sender.specs.Table.{started, acknowledged, timed_out}
@@ -59,3 +61,67 @@ TimesNoneResent now v f q = (x : ℕ) → Contains q.sent x → x < f.high → I
 abbrev pub SendersOfferWhatTheySend : Type 0
 SendersOfferWhatTheySend = AtEachEvent (λ p s k v. (number : ℕ) (flow : FlowPart) → slice_get p.flows number ≡ Some flow → flow.sender ≡ k.node → (f : SenderFields) → (part_at s flow.sender).role ≡ Sends number f
     → (port_of_link (stepped s k (effect_of s (k, v))) flow.sender 0).offered ≡ (port_of_link s flow.sender 0).offered + length (row_of f v k.time).sent)
+
+-- a new acknowledgement comes: it acknowledges more than any before it
+abbrev pub IsNewAck : Event → SenderFields → ℕ → Type 0
+IsNewAck v f ack = (x : Packet) × (v ≡ Arrive x) × (x.kind ≡ Ack) × (x.number ≡ ack) × (f.una < ack)
+
+-- a duplicate comes: the last acknowledgement once more, while bytes are in flight (RFC 5681 section 2)
+abbrev pub IsDuplicate : Event → SenderFields → Type 0
+IsDuplicate v f = (x : Packet) × (v ≡ Arrive x) × (x.kind ≡ Ack) × (x.number ≡ f.una) × (f.una < f.nxt)
+
+-- half of some bytes, two segments at least (RFC 5681 section 3.1, equation 4)
+abbrev pub half_of : ℕ → SenderFields → ℕ
+half_of bytes f = max (bytes / 2) (2 * f.mss)
+
+-- a timeout (RFC 5681 section 3.1, RFC 6298 section 5): una alone is sent again, cwnd is one segment, and ssthresh half of what was in flight, but for a further timeout of the same segment; recovery is over
+pub record AnswersTimeout (f : SenderFields) (q : Planned) : Type 0 where
+  pub sends : q.sent ≡ f.una ∷ []
+  pub goes_back : q.fields.nxt ≡ f.una + f.mss
+  pub cwnd : q.fields.cwnd ≡ f.mss
+  pub first : f.resent ≡ false → q.fields.ssthresh ≡ half_of (f.nxt - f.una) f
+  pub further : f.resent ≡ true → q.fields.ssthresh ≡ f.ssthresh
+  pub resent : q.fields.resent ≡ true
+  pub recovery : q.fields.recovery ≡ false
+
+abbrev pub AnswersTimeouts : ℕ → Event → SenderFields → Planned → Type 0
+AnswersTimeouts now v f q = (number : ℕ) → v ≡ Rto number → AnswersTimeout f q
+
+-- NewReno's recover is behind una, or none is set (RFC 6582 section 3.2 step 2); Reno has none
+abbrev pub IsPastRecover : SenderFields → Type 0
+IsPastRecover f = IsFalse (is_newreno f) ⊎ IfSome f.recover (λ r. r < f.una)
+
+-- recovery begins (RFC 5681 section 3.2 steps 2 and 3): at a third duplicate; ssthresh is half of what is in flight, without what limited transmit sent, cwnd three segments more, and una alone is sent again
+pub record BeginsRecovery (v : Event) (f : SenderFields) (q : Planned) : Type 0 where
+  pub third : IsDuplicate v f × (f.dups ≡ 2)
+  pub ssthresh : q.fields.ssthresh ≡ half_of (f.nxt - f.una - f.lt) f
+  pub cwnd : q.fields.cwnd ≡ half_of (f.nxt - f.una - f.lt) f + 3 * f.mss
+  pub sends : q.sent ≡ f.una ∷ []
+
+-- duplicates are counted, the third begins recovery where NewReno is past recover, and recovery begins so alone
+pub record AnswersDuplicates (now : ℕ) (v : Event) (f : SenderFields) (q : Planned) : Type 0 where
+  pub counts : IsDuplicate v f → f.dups < 4294967295 → q.fields.dups ≡ f.dups + 1
+  pub begins : IsDuplicate v f → f.recovery ≡ false → f.dups ≡ 2 → IsPastRecover f → q.fields.recovery ≡ true
+  pub so_alone : f.recovery ≡ false → q.fields.recovery ≡ true → BeginsRecovery v f q
+
+-- ssthresh moves where a timeout comes or recovery begins, and nowhere else
+abbrev pub ThresholdStaysWithoutLoss : ℕ → Event → SenderFields → Planned → Type 0
+ThresholdStaysWithoutLoss now v f q = ((number : ℕ) → v ≢ Rto number) → (f.recovery ≡ true) ⊎ (q.fields.recovery ≡ false) → q.fields.ssthresh ≡ f.ssthresh
+
+-- how cwnd grows outside recovery (RFC 5681 section 3.1): at a new acknowledgement, in slow start by what it acknowledges, a segment at most, else by mss·mss/cwnd, a byte at least; up to 2^40; and at no other event but a timeout
+pub record GrowsByReno (now : ℕ) (v : Event) (f : SenderFields) (q : Planned) : Type 0 where
+  pub slow_start : (ack : ℕ) → IsNewAck v f ack → f.recovery ≡ false → f.cwnd < f.ssthresh → q.fields.cwnd ≡ min (f.cwnd + min (ack - f.una) f.mss) 1099511627776
+  pub avoidance : (ack : ℕ) → IsNewAck v f ack → f.recovery ≡ false → f.ssthresh ≤ f.cwnd → q.fields.cwnd ≡ min (f.cwnd + max (f.mss * f.mss / f.cwnd) 1) 1099511627776
+  pub stays : f.recovery ≡ false → q.fields.recovery ≡ false → ((number : ℕ) → v ≢ Rto number) → ((ack : ℕ) → IsNewAck v f ack → ⊥) → q.fields.cwnd ≡ f.cwnd
+
+-- a round trip is measured (RFC 6298 section 2): the first, or a later one; RTTVAR goes by the SRTT before it
+pub record IsMeasured (f g : SenderFields) (r : ℕ) : Type 0 where
+  pub first_srtt : f.srtt ≡ None → g.srtt ≡ Some r
+  pub first_rttvar : f.srtt ≡ None → g.rttvar ≡ r / 2
+  pub later_srtt : (srtt : ℕ) → f.srtt ≡ Some srtt → g.srtt ≡ Some ((7 * srtt + r) / 8)
+  pub later_rttvar : (srtt : ℕ) → f.srtt ≡ Some srtt → g.rttvar ≡ (3 * f.rttvar + abs_diff srtt r) / 4
+  pub rto : IfSome g.srtt (λ srtt. g.rto ≡ min (max (srtt + max 1 (4 * g.rttvar)) 1000000000) 60000000000)
+
+-- a new acknowledgement of the segment that is timed measures the time since it was sent
+abbrev pub MeasuresRoundTrips : ℕ → Event → SenderFields → Planned → Type 0
+MeasuresRoundTrips now v f q = (ack : ℕ) (t : Timing) → IsNewAck v f ack → f.timing ≡ Some t → t.number ≤ ack → IsMeasured f q.fields (now - t.sent_at)

@@ -1,27 +1,39 @@
 //! What a networker expects of a run, whatever its scenario. Each function is a law: its contract is the statement, and its
 //! body is empty.
-ghost use Rattle.run_laws.specs.Laws.{AcknowledgedWasReceived, WindowsHold, TimersRun, ArrivalsKeepOrder, IdleLinksAreEmpty};
-ghost use Rattle.run_laws.specs.Links.{PacketsAreConserved, PacketsArriveOnce, RatesHold, AtEachLink, LeavesInTurn, SendsAllThatEntered, SendsOneByOne, DropsForCause, DropsOnTime};
-ghost use Rattle.run_laws.specs.Senders.{AtEachSender, FitsWindows, IsSilentOnceComplete, EndsAfterRto, GoesByTimeouts, TimesNoneResent, SendersOfferWhatTheySend};
+ghost use Rattle.run_laws.specs.Laws.{AcknowledgedWasReceived, WindowsHold, TimersRun, NoFlowHangs, SendsWithinWindow, ArrivalsKeepOrder, IdleLinksAreEmpty};
+ghost use Rattle.run_laws.specs.Links.{PacketsAreConserved, PacketsArriveOnce, RatesHold, AtEachLink, LeavesInTurn, TurnsAwayByRule, SendsAllThatEntered, SendsOneByOne, DropsForCause, DropsOnTime, KeepsDropState};
+ghost use Rattle.run_laws.specs.Forwarding.{SendersOfferSegments, RoutersForward, ReceiversAcknowledge, DelayedAnswersAreDue};
+ghost use Rattle.run_laws.specs.Timing.{LinksTakeTheirTime};
+ghost use Rattle.run_laws.specs.Senders.{AtEachSender, FitsWindows, IsSilentOnceComplete, EndsAfterRto, GoesByTimeouts, TimesNoneResent, SendersOfferWhatTheySend, AnswersTimeouts, AnswersDuplicates, ThresholdStaysWithoutLoss, GrowsByReno, MeasuresRoundTrips};
 
-/// In every state of every run una <= nxt <= high <= the flow's bytes at each sender, what it knows to be acknowledged its
-/// receiver has, what the receiver has in order is a prefix of what was sent, and a flow that is complete has delivered
-/// all (RFC 9293 section 3.4).
+/// In every state of every run una <= nxt <= high <= the flow's bytes at each sender. Its receiver has what it knows to
+/// be acknowledged, and in order a prefix of what was sent. A complete flow has delivered all (RFC 9293 section 3.4).
 pub fn acknowledged_was_received()
     ensures { AcknowledgedWasReceived }
 {}
 
-/// In every state of every run cwnd and ssthresh are one segment at least, and no more is in flight than the receiver's
-/// window (RFC 5681 sections 2 and 3.1).
+/// In every state of every run cwnd and ssthresh are one segment at least. The receiver's window bounds what is in
+/// flight (RFC 5681 sections 2 and 3.1).
 pub fn windows_hold()
     ensures { WindowsHold }
 {}
 
-/// In every state of every run a sender's retransmission timer is set exactly while bytes are in flight, its end is then a
-/// pending event and at most 60 seconds after the last one, and the timeout is from 1 to 60 seconds (RFC 6298 sections 2
-/// and 5).
+/// In every state of every run a sender's retransmission timer is set exactly while bytes are in flight. Its end is
+/// then a pending event, and the timeout is from 1 to 60 seconds (RFC 6298 sections 2 and 5).
 pub fn timers_run_while_bytes_are_in_flight()
     ensures { TimersRun }
+{}
+
+/// In every state of every run a flow that has started, and is not complete, has bytes in flight. Its retransmission
+/// timer runs, so no flow can hang (RFC 6298 section 5.1).
+pub fn no_flow_hangs()
+    ensures { NoFlowHangs }
+{}
+
+/// In every state of every run all that was ever sent of a flow lies within the receiver's window beyond una (RFC 9293
+/// section 3.8.6).
+pub fn sent_fits_the_receivers_window()
+    ensures { SendsWithinWindow }
 {}
 
 /// In every state of every run packets that are under way over one link arrive in the order in which they were sent.
@@ -35,19 +47,19 @@ pub fn idle_links_are_empty()
     ensures { IdleLinksAreEmpty }
 {}
 
-/// At each position of every run the packets that were offered to a link are those that the lines so far tell to be lost,
-/// dropped by the queue as they came or at a take (RFC 8289), or sent, and those that wait: each is counted once.
+/// At each position of every run each packet that was offered to a link was lost, dropped, sent, or waits. A drop is
+/// the queue's, as the packet comes or at a take (RFC 8289). Each packet is counted once.
 pub fn packets_are_conserved()
     ensures { PacketsAreConserved }
 {}
 
-/// At each event of every run a sender does what the row of its table says (RFC 5681, RFC 6582, RFC 6298), and sends new
-/// segments up to una + min(cwnd + 2 segments, rwnd) alone.
+/// At each event of every run a sender does what the row of its table says. It sends new segments up to una + min(cwnd
+/// + 2 segments, rwnd) alone (RFC 5681 section 3.1, RFC 3042).
 pub fn new_segments_fit_the_windows()
     ensures { AtEachSender FitsWindows }
 {}
 
-/// In every run nothing of a flow is sent any more once all of it was acknowledged.
+/// In every run a sender sends nothing more of a flow once all of it was acknowledged.
 pub fn complete_flows_are_silent()
     ensures { AtEachSender IsSilentOnceComplete }
 {}
@@ -57,8 +69,8 @@ pub fn timers_end_after_rto()
     ensures { AtEachSender EndsAfterRto }
 {}
 
-/// In every run each timeout doubles the rto, up to 60 seconds, and it stays where no timed segment is acknowledged (RFC
-/// 6298 sections 5.5 and 5.7).
+/// In every run each timeout doubles the rto, up to 60 seconds. Else the rto stays where no timed segment is
+/// acknowledged (RFC 6298 sections 5.5 and 5.7).
 pub fn rto_doubles_until_a_sample()
     ensures { AtEachSender GoesByTimeouts }
 {}
@@ -68,21 +80,82 @@ pub fn nothing_resent_is_timed()
     ensures { AtEachSender TimesNoneResent }
 {}
 
+/// In every run a timeout sends una again and nothing else, and sets cwnd to one segment. Ssthresh becomes half of what
+/// was in flight, two segments at least. A further timeout of the same segment leaves it (RFC 5681 section 3.1, RFC
+/// 6298 section 5).
+pub fn timeouts_are_answered()
+    ensures { AtEachSender AnswersTimeouts }
+{}
+
+/// In every run duplicates are counted, and the third begins recovery, with NewReno only past recover. Ssthresh is then
+/// half of what is in flight, without what limited transmit sent. Cwnd is three segments more, and una is sent again.
+/// Recovery begins in no other way (RFC 5681 section 3.2, RFC 6582 section 3.2).
+pub fn third_duplicates_are_answered()
+    ensures { AtEachSender AnswersDuplicates }
+{}
+
+/// In every run ssthresh stays but where a timeout comes or recovery begins (RFC 5681 section 3.1).
+pub fn ssthresh_stays_without_a_loss()
+    ensures { AtEachSender ThresholdStaysWithoutLoss }
+{}
+
+/// In every run, outside recovery, a new acknowledgement lets cwnd grow. In slow start it grows by what is
+/// acknowledged, one segment at most. Else it grows by mss * mss / cwnd, one byte at least. No other event but a
+/// timeout changes it there (RFC 5681 section 3.1).
+pub fn windows_grow_by_new_acknowledgements()
+    ensures { AtEachSender GrowsByReno }
+{}
+
+/// In every run an acknowledgement of the timed segment measures its round trip. SRTT, RTTVAR and the rto go by it:
+/// SRTT + max(1 ns, 4 RTTVAR), from 1 to 60 seconds (RFC 6298 section 2).
+pub fn round_trips_are_measured()
+    ensures { AtEachSender MeasuresRoundTrips }
+{}
+
 /// At each event of every run a sender's link is offered as many packets as the sender sends segments.
 pub fn senders_offer_what_they_send()
     ensures { SendersOfferWhatTheySend }
 {}
 
-/// In every run the packets that a link begins to send arrive in turn and once: the first so many have arrived, and each
-/// other one is under way.
+/// At each event of every run but those of its link a sender offers the segments of its row to its link. They come in
+/// their order, 40 bytes longer than their data, and alone.
+pub fn senders_offer_their_segments()
+    ensures { SendersOfferSegments }
+{}
+
+/// In every run a router offers each packet that comes, as it came, to the link of its route, and nothing else.
+pub fn routers_forward_what_comes()
+    ensures { RoutersForward }
+{}
+
+/// In every run a receiver takes in each segment that comes. It acknowledges its next byte in that event, or after the
+/// flow's delay (RFC 5681 section 4.2). It may wait only where the segment was the next one, and no other answer waits.
+pub fn receivers_acknowledge_what_comes()
+    ensures { ReceiversAcknowledge }
+{}
+
+/// In every state of every run in which a receiver's answer waits, its end is a pending event, and the delay is the
+/// flow's.
+pub fn delayed_answers_are_due()
+    ensures { DelayedAnswersAreDue }
+{}
+
+/// In every run the packets that a link begins to send arrive in turn and once. The first of them have arrived, and
+/// each other one is under way.
 pub fn packets_arrive_once()
     ensures { PacketsArriveOnce }
 {}
 
-/// At each event of every run packets leave a queue in the order in which they entered it, to be sent or, from CoDel's, to
-/// be dropped.
+/// At each event of every run packets leave a queue in the order in which they entered it. They are sent, or CoDel
+/// drops them.
 pub fn packets_leave_in_turn()
     ensures { AtEachLink LeavesInTurn }
+{}
+
+/// In every run a link loses the packets whose numbers its `lose` names, counted as they are offered, and no others. It
+/// refuses a packet only where its queue is full.
+pub fn links_turn_away_by_rule()
+    ensures { AtEachLink TurnsAwayByRule }
 {}
 
 /// In every run a drop-tail queue drops nothing that entered it: what entered is sent.
@@ -90,25 +163,37 @@ pub fn drop_tail_sends_all_that_entered()
     ensures { AtEachLink SendsAllThatEntered }
 {}
 
+/// In every run a packet takes the time of its bits at the link's rate, rounded up to the nanosecond. So long the link
+/// is busy, and one delay later the packet arrives at the link's end.
+pub fn links_take_their_time()
+    ensures { LinksTakeTheirTime }
+{}
+
 /// In every run a link sends one packet at a time.
 pub fn links_send_one_by_one()
     ensures { AtEachLink SendsOneByOne }
 {}
 
-/// In every run the bits that a link has sent fit its rate: they are at most the rate times the time up to when it is free
-/// of the last one.
+/// In every run the bits that a link has sent fit its rate and the time up to when the last one is out.
 pub fn rates_hold()
     ensures { RatesHold }
 {}
 
-/// In every run a packet that CoDel drops has waited for the target at least, with more than maxpacket bytes behind it (RFC
-/// 8289 section 5.6).
+/// In every run a packet that CoDel drops has waited for the target at least. More than maxpacket bytes are behind it
+/// (RFC 8289 section 5.6).
 pub fn codel_drops_for_cause()
     ensures { AtEachLink DropsForCause }
 {}
 
-/// In every run CoDel's drops in drop state are due, and each moves the next one by a gap of the control law (RFC 8289
+/// In every run CoDel's drops in drop state are due. Each moves the next one by a gap of the control law (RFC 8289
 /// sections 5.4 and 5.5).
 pub fn codel_drops_on_time()
     ensures { AtEachLink DropsOnTime }
+{}
+
+/// In every run CoDel drops the head and begins its drop state once heads were above target for an interval, and not
+/// before. Above target is what waited for it with more than maxpacket bytes behind. Drop state ends where a packet
+/// that is sent was not (RFC 8289 sections 5.5 and 5.6).
+pub fn codel_drops_once_the_interval_is_over()
+    ensures { AtEachLink KeepsDropState }
 {}
