@@ -2,7 +2,7 @@
 # of the gate, and those of dev/ and python/tests, of the tools and of the built program, side by side
 # (`make test-tools` passes those that are in Python alone);
 # `make mutants` tries the mutants that stand beside the gate, `make mutants NAME=aqm` those
-# of one crate;
+# of one crate, over what `make run` keeps, and keeps in bench/mutants.csv what it came to;
 # `make bench` measures the built program and writes bench/RESULTS.md and its tables in bench/csv (python3 and valgrind);
 # `make pictures` draws the pictures of README.md and docs/ (python3 and matplotlib);
 # `make page` writes the page with the simulator, out/page/tcpsim.html, of the module of the program's proof (chromium or
@@ -26,6 +26,8 @@ PROGRAM = crates/tcpsim/out/tcpsim
 PREFIX = /usr/local
 # The crates of `make mutants`, all where none is named.
 NAME =
+# When make began, in seconds: where CI=true the last step of `make test` is left out when it is late.
+BEGUN := $(shell date +%s)
 DOCUMENTS = share/doc/tcpsim
 BASH_COMPLETIONS = share/bash-completion/completions
 ZSH_COMPLETION = share/zsh/site-functions/_tcpsim
@@ -41,6 +43,7 @@ test: setup
 	@python3 dev/pass_gate.py
 	@python3 dev/build.py --module
 	@python3 dev/run_tests.py --python '$(PYTEST)'
+	@python3 dev/mutants.py --due --begun $(BEGUN)
 
 setup:
 	@[ "$$CI" != true ] || dev/setup

@@ -31,13 +31,7 @@ def checked(crate, folder):
     kit, libraries = build.toolchain(), build.declared()
     if crate not in libraries:
         raise build.Refused(f"there is no crate {crate}")
-    words = build.words_of(crate, kit, 1, libraries)
-    words[1] = "check"
-    # What `build` alone takes: where to, for what processor, and that statements are enough.
-    for word, count in (("-o", 2), ("--statements", 1), ("--toolchain", 2), ("--backend", 2)):
-        if word in words:
-            at = words.index(word)
-            del words[at : at + count]
+    words = build.check_words(crate, kit, 1, libraries)
     said = subprocess.run([*words, "--incremental", folder], stdin=subprocess.DEVNULL, capture_output=True, text=True)
     if said.returncode:
         raise build.Refused(f"{crate} is not proved over what `make run` keeps:\n{said.stdout}{said.stderr}")

@@ -7,7 +7,7 @@
 The first runs a command, `rt ci` with one job a processor where none is given. Every quarter of a second it
 looks at the processes that the command started, and counts what each has used: of a prover the crate is in
 its words (`--crate-name`), and whether it checks the crate, its tests (`--test`) or a mutant (it then
-runs in a folder of its own).
+runs in a folder that `rt` or dev/mutants.py made for it).
 
 With --kept no command is run: what is proved anew is each CRATE with its tests, over what `make run` keeps.
 The table is of what was counted last of each crate, by whatever was run last: of its check by `make run`, of
@@ -58,7 +58,7 @@ class Process:
     def kind(self):
         if "--test" in self.words:
             return "tests"
-        return "mutants" if "/rt-edit" in self.folder else "check"
+        return "mutants" if "/rt-edit" in self.folder or "/mutants-" in self.folder else "check"
 
 
 def look(session, seen):
@@ -107,8 +107,7 @@ def counted(processes):
 
 def prove_with_tests(name, kit, libraries):
     """Proves a crate with its tests from nothing, over what is kept; answers whether it is proved."""
-    words = build.words_of(name, kit, build.jobs_at_once(0), libraries)
-    words = [words[0], "check", *words[2 : words.index("--statements")], "--test"]
+    words = [*build.check_words(name, kit, build.jobs_at_once(0), libraries), "--test"]
     begun = time.time()
     with tempfile.TemporaryDirectory() as folder, open(f"{build.KEPT}/{name}.tests.log", "w", encoding="utf-8") as log:
         prover = subprocess.Popen([*words, "--incremental", folder], cwd=TOP, stdin=subprocess.DEVNULL,

@@ -197,22 +197,27 @@ def module_record(stamp=None):
     return found
 
 
-def words_of(name, kit, jobs, libraries, kept=None, tools=None):
-    """The command that proves a crate and writes what is kept of it. The statements of the crates below are where `kept`
-    says of each, in KEPT where it says nothing; `tools` is the folder of the compiler, else the toolchain's."""
-    is_program = name == PROGRAM
-    kept = kept or {}
-    words = [f"{kit}/bin/rattle", "build", "--crate-name", name]
-    words.append(f"{TOP}/crates/{name}/src/{'main' if is_program else 'lib'}.rt")
+def check_words(name, kit, jobs, libraries, kept=None, folder=None):
+    """The command that proves a crate, which lies in the folder, else in this tree. The statements of the crates below are
+    where `kept` says of each, in KEPT where it is left out."""
+    words = [f"{kit}/bin/rattle", "check", "--crate-name", name]
+    words.append(f"{folder or f'{TOP}/crates/{name}'}/src/{'main' if name == PROGRAM else 'lib'}.rt")
     for it in dict.fromkeys(["core", "std", *libraries[name]]):
-        place = kept.get(it, KEPT) if it in libraries else f"{kit}/rlibs"
+        place = f"{kit}/rlibs" if it not in libraries else kept[it] if kept else KEPT
         words += ["--extern", f"{it}={place}/{it}.rlib"]
     words += ["-L", f"dependency={kit}/rlibs"]
-    for it in kept.values() if kept else [KEPT]:
+    for it in [KEPT] if kept is None else dict.fromkeys(kept.values()):
         words += ["-L", f"dependency={it}"]
     words += ["--antt-project", f"{kit}/rattle/logic/antt-project.json", "--logic-built", f"{kit}/logic_built"]
-    words += ["--links", f"{name}=", "--jobs", str(jobs)]
-    if is_program:
+    return [*words, "--links", f"{name}=", "--jobs", str(jobs)]
+
+
+def words_of(name, kit, jobs, libraries, kept=None, tools=None):
+    """The command that proves a crate and writes what is kept of it; `tools` is the folder of the compiler, else the
+    toolchain's."""
+    words = check_words(name, kit, jobs, libraries, kept)
+    words[1] = "build"
+    if name == PROGRAM:
         return [*words, "--toolchain", tools or f"{kit}/toolchain", "--backend", "llvm", "-o", f"{KEPT}/{name}.o"]
     return [*words, "--statements", "-o", f"{KEPT}/{name}.rlib"]
 
@@ -385,6 +390,15 @@ def left_by_the_gate(name, libraries):
     return places
 
 
+def places_below(name, libraries, sums):
+    """Where the statements of the crates below are: where `make run` keeps them, else where the gate left them. None where
+    they are in neither place, of those crates as they stand."""
+    names = below(name, libraries)
+    if all(Crate(it, libraries, sums[it]).is_kept() for it in names):
+        return dict.fromkeys(names, KEPT)
+    return left_by_the_gate(name, libraries)
+
+
 def end_with_signals(crates):
     """Where this script is ended, so are the provers of the crates."""
     def stop(number, _):
@@ -431,9 +445,7 @@ def make_module(asked):
     sums = sums_of(names, kit, libraries)
     if has_module(sums[PROGRAM]):
         return 0
-    if all(Crate(it, libraries, sums[it]).is_kept() for it in names[:-1]):
-        return build(asked)
-    places = left_by_the_gate(PROGRAM, libraries)
+    places = places_below(PROGRAM, libraries, sums)
     return prove_last(kit, libraries, sums[PROGRAM], places, asked) if places else build(asked)
 
 

@@ -19,12 +19,7 @@ import build
 
 def words_for(name, more, libraries, kit):
     """The command that checks a crate, with these words behind it."""
-    made = build.words_of(name, kit, 1, libraries)
-    made[made.index("build")] = "check"
-    for it in ("-o", "--toolchain", "--backend", "--statements"):
-        if it in made:
-            at = made.index(it)
-            del made[at:at + (1 if it == "--statements" else 2)]
+    made = build.check_words(name, kit, 1, libraries)
     if "--jobs" in more:
         at = made.index("--jobs")
         del made[at:at + 2]

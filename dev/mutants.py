@@ -2,17 +2,27 @@
 """Tries the mutants that stand beside the gate: each file of crates/NAME/mutants/ is an edit of that
 crate which the prover must refuse.
 
-Usage: dev/mutants.py [--check] [NAME ..]
+Usage: dev/mutants.py [--check | --due [--begun SECONDS]] [NAME ..]
 
-With names only these crates are looked at. Each edit is tried by `rt must-fail` on a copy of the tree, so
-its verdict is the one that the gate has for those of crates/NAME/must-fail/; as in the gate the crate
-itself has to be proved. The copy takes over what earlier checks kept in out/, and is taken away when this
-script ends, also by an interrupt. With --check nothing is proved: it says which edits of both folders
-can't be applied any more. A line tells what became of each edit that was tried or that failed. The last
-line is 'N refused, M failed', with --check 'N can be applied, M failed'; the status is 1 where one failed.
+With names only these crates are looked at. Each edit is made in a copy of its crate and checked over the
+statements that `make run`, or else `rt ci`, kept of the crates below; the crate itself is proved there
+first. An edit is refused where `rt must-fail` would call it so: the prover can read it, and not prove it.
+A line tells what became of each edit that was tried or that failed. The last line is 'N refused, M
+failed', with --check 'N can be applied, M failed'; the status is 1 where one failed. bench/mutants.csv
+keeps of each crate whose mutants were all refused a sum of its files and of theirs, how many there were,
+the day and the toolchain.
+
+With --check nothing is proved: it says which edits of both folders, of must-fail/ too, can't be applied any
+more. With --due, the last step of `make test`, it names the crates whose sum is another than the kept one.
+Where CI=true it tries theirs, the most changed first, for twenty minutes, and says what it left out; it
+does not begin later than 130 minutes after the second that --begun names. It keeps nothing.
 """
 import argparse
+import concurrent.futures
 import contextlib
+import csv
+import datetime
+import hashlib
 import os
 import re
 import shutil
@@ -20,17 +30,22 @@ import signal
 import subprocess
 import sys
 import tempfile
+import threading
 import time
 
+import build
+import pass_gate
+
 TOP = os.path.dirname(os.path.dirname(os.path.abspath(__file__)))
-PARTS = ('src', 'specs', 'proofs')
-KEPT = ('out/rlib', 'out/incremental')
+PARTS = build.PARTS
+RECORD, FIELDS = f'{TOP}/bench/mutants.csv', ('crate', 'sum', 'refused', 'date', 'toolchain')
 NAMED = re.compile(r'[A-Za-z0-9_-][A-Za-z0-9_.-]*\.edit')
-VERDICT = re.compile(r'rt: must-fail ([^/ ]+)/(\S+\.edit): (.*)')
-SAID = re.compile(r'(note: )?\S+:\d+:\d+: ')
+# A fault that the prover found, and in it, outside of quotes, that it could not read the text.
+FAULT = re.compile(r'(?:\./)?(\S+?):\d+:\d+: error: (?:(`[^`]*`): )?(.*)')
+UNREAD = re.compile('is not in scope|has no field|is no name|operand is missing|expected the end|cannot continue')
 REFUSED = 'refused, as it must be'
-# Of how many crates the mutants are tried side by side; what became of them is said then.
-AT_ONCE = 6
+# How long --due tries mutants, and how long after the beginning of `make test` it may begin to, in seconds.
+TRYING, LATEST = 20 * 60, 130 * 60
 ENDS = (signal.SIGINT, signal.SIGTERM, signal.SIGHUP)
 
 
@@ -51,35 +66,35 @@ def pairs_of(edit):
     return pairs
 
 
-def misfit(pairs, folder):
-    """Why these changes can't be made in the crate of this folder, each after those before it; None where
-    they can."""
+def made(pairs, folder):
+    """The texts, by path, that these changes make in the crate of this folder, each after those before it, and None; or
+    None and why they can't be made."""
     texts = {}
     for path, old, new in pairs:
         if os.path.normpath(path) != path or path.split('/')[0] not in PARTS:
-            return "a pair has no 'file:' line before it that names a file below src/, specs/ or proofs/"
+            return None, "a pair has no 'file:' line before it that names a file below src/, specs/ or proofs/"
         if not old:
-            return "a 'new:' line has no 'old:' line before it"
+            return None, "a 'new:' line has no 'old:' line before it"
         if path not in texts:
             if not os.path.isfile(f'{folder}/{path}'):
-                return f'there is no file {path}'
+                return None, f'there is no file {path}'
             with open(f'{folder}/{path}', encoding='utf-8') as file:
                 texts[path] = file.read()
         found = texts[path].count(old)
         if found != 1:
-            return f"an 'old:' text is in {path} {found} times, and not once"
+            return None, f"an 'old:' text is in {path} {found} times, and not once"
         texts[path] = texts[path].replace(old, new)
-    return None if texts else "it has no pair of an 'old:' and a 'new:' line"
+    return (texts, None) if texts else (None, "it has no pair of an 'old:' and a 'new:' line")
 
 
-def fault_of(edit, folder):
-    """Why the edit can't be applied to the crate of this folder; None where it can."""
+def edited(edit, folder):
+    """The same of an edit's file."""
     if not NAMED.fullmatch(os.path.basename(edit)) or not os.path.isfile(edit):
-        return 'it is no file whose name is of letters, digits, _, - and . and ends in .edit'
+        return None, 'it is no file whose name is of letters, digits, _, - and . and ends in .edit'
     try:
-        return misfit(pairs_of(edit), folder)
+        return made(pairs_of(edit), folder)
     except (OSError, UnicodeDecodeError) as error:
-        return f'it cannot be read ({error})'
+        return None, f'it cannot be read ({error})'
 
 
 def edits_in(folder):
@@ -94,19 +109,51 @@ def check(names):
     for name in names:
         folder = f'{TOP}/crates/{name}'
         for edit in [*edits_in(f'{folder}/must-fail'), *edits_in(f'{folder}/mutants')]:
-            fault = fault_of(edit, folder)
+            _, fault = edited(edit, folder)
             if fault:
                 print(f'{os.path.relpath(edit, TOP)}: FAILED: {fault}')
             fit, failed = fit + (not fault), failed + bool(fault)
     return fit, failed
 
 
-# ---- the copy
+# ---- the runs
+
+class Provers:
+    """The provers that run. They end at a moment, in seconds, or where this script is ended."""
+
+    def __init__(self, until=None):
+        self.until, self.running, self.lock = until, set(), threading.Lock()
+
+    def run(self, words, folder):
+        """Runs one; its exit status and the lines that it printed, or None where it was ended, or time is over."""
+        how = {'stdin': subprocess.DEVNULL, 'stdout': subprocess.PIPE, 'stderr': subprocess.STDOUT, 'text': True, 'errors': 'replace'}
+        with self.lock:
+            left = None if self.until is None else self.until - time.time()
+            if left is not None and left <= 0:
+                return None
+            prover = subprocess.Popen(words, cwd=folder, start_new_session=True, **how)
+            self.running.add(prover)
+        try:
+            said = prover.communicate(timeout=left)[0].splitlines()
+        except subprocess.TimeoutExpired:
+            self.end()
+            prover.communicate()
+        with self.lock:
+            self.running.discard(prover)
+            return None if self.until == 0 else (prover.returncode, said or ['it printed nothing'])
+
+    def end(self):
+        """Ends all, and begins no other."""
+        with self.lock:
+            self.until = 0
+            for prover in self.running:
+                with contextlib.suppress(ProcessLookupError):
+                    os.killpg(prover.pid, signal.SIGKILL)
+
 
 @contextlib.contextmanager
-def room():
-    """A temporary folder, which goes however this script is ended. What was started may still write into
-    it for a moment."""
+def room(provers):
+    """A temporary folder, which goes however this script is ended, as the provers do."""
     def end(number, _):
         sys.exit(128 + number)
 
@@ -119,139 +166,157 @@ def room():
     finally:
         for number in ENDS:
             signal.signal(number, signal.SIG_IGN)
-        for _ in range(100):
-            shutil.rmtree(folder, ignore_errors=True)
-            if not os.path.exists(folder):
-                break
-            time.sleep(0.1)
+        provers.end()
+        shutil.rmtree(folder, ignore_errors=True)
 
 
-def copy_tree(crates, below, tree):
-    """Copies what a check of these crates reads, with their mutants, and what earlier checks kept of
-    those named in `below`."""
-    os.mkdir(tree)
-    for file in ('crates.txt', 'HANDLES'):
-        shutil.copy(f'{TOP}/{file}', tree)
-    for name in crates:
-        for part in (*PARTS, 'mutants', *(KEPT if name in below else ())):
-            here, there = f'{TOP}/crates/{name}/{part}', f'{tree}/crates/{name}/{part}'
-            if not os.path.isdir(here):
-                continue
-            try:
-                shutil.copytree(here, there)
-            except shutil.Error:
-                # What is kept can be left out: a check that runs in the tree meanwhile may change it.
-                if part not in KEPT:
-                    raise
-                shutil.rmtree(there)
-
-
-# ---- the runs
-
-def run_rt(words, folder, place):
-    """Runs rt in a folder of the copy, which lies in this place; its exit status, and the lines that it
-    printed."""
-    how = {'stdin': subprocess.DEVNULL, 'stdout': subprocess.PIPE, 'stderr': subprocess.STDOUT,
-           'text': True, 'errors': 'replace', 'start_new_session': True}
-    # What rt leaves where it is ended is then in this place, too.
-    how['env'] = {**os.environ, 'TMPDIR': place}
-    with subprocess.Popen(['rt', *words], cwd=folder, **how) as rt:
-        try:
-            lines = rt.communicate()[0].splitlines()
-        except BaseException:
-            rt.kill()
-            raise
-    return rt.returncode, lines or ['it printed nothing']
-
-
-def verdicts_of(lines):
-    """What `rt must-fail` says of each edit, by its crate and its file's name. What it says in several lines is one."""
-    found, last = {}, None
+def verdict(status, lines, changed):
+    """What a check of an edited crate says of the edit, which changed these files."""
     for line in lines:
-        told = VERDICT.fullmatch(line)
-        if told:
-            last = (told[1], told[2])
-            found[last] = told[3]
-        elif last:
-            found[last] += f' {line.strip()}'
-    return found
+        at = FAULT.match(line)
+        if at and (at[1] in changed or at[1].startswith(('src/', 'specs/'))) and (
+                not at[2] or UNREAD.search(re.sub('`[^`]*`', '', at[3]))):
+            return f'the prover cannot read the edited text: {line[:200]}'
+    if status == 1 and lines[-1].startswith('logic=not-proved'):
+        return REFUSED
+    return 'NOT REFUSED: the crate is still proved with this edit' if status == 0 else f'there is no verdict: {lines[-1][:200]}'
 
 
-def begin(name, place):
-    """Why each mutant of a crate is not to be tried, by its file's name; None where it is, and then it is among the
-    crate's edits."""
-    folder = f'{place}/tree/crates/{name}'
-    told = {os.path.basename(it): fault_of(it, folder) for it in edits_in(f'{folder}/mutants')}
-    fit = [it for it in told if not told[it]]
-    print(f'{name}: {len(fit)} to try', flush=True)
-    if not fit:
+class Tried:
+    """One crate whose mutants are tried in a folder of its own."""
+
+    def __init__(self, name, words, folder, provers):
+        """`words` are those of its check, made in its own folder."""
+        self.name, self.words, self.folder, self.provers = name, words, folder, provers
+        self.own = f'{TOP}/crates/{name}'
+
+    def check(self, texts, kept):
+        """Checks the crate with these texts, by path, over what earlier checks kept in a folder."""
+        folder = f'{self.folder}/{self.name}'
+        shutil.rmtree(folder, ignore_errors=True)
+        for part in PARTS:
+            if os.path.isdir(f'{self.own}/{part}'):
+                shutil.copytree(f'{self.own}/{part}', f'{folder}/{part}')
+        for path, text in texts.items():
+            with open(f'{folder}/{path}', 'w', encoding='utf-8') as file:
+                file.write(text)
+        return self.provers.run([*self.words, '--incremental', f'{self.folder}/{kept}'], folder)
+
+    def all(self):
+        """What became of each mutant of the crate, by its file's name; None is left where time was over."""
+        told, fit = {}, {}
+        for edit in edits_in(f'{self.own}/mutants'):
+            file = os.path.basename(edit)
+            texts, told[file] = edited(edit, self.own)
+            if not told[file]:
+                fit[file] = texts
+        plain = self.check({}, f'{self.name}.kept') if fit else None
+        if plain and plain[0]:
+            return told | dict.fromkeys(fit, f'not tried, as {self.name} itself is not proved: {plain[1][-1]}')
+        for file, texts in fit.items() if plain else ():
+            # What is not refused over what was kept is tried once more, from nothing.
+            for kept in (f'{self.name}.kept', f'{self.name}.{file}'):
+                done = self.check(texts, kept)
+                told[file] = verdict(*done, texts) if done else None
+                if told[file] in (REFUSED, None):
+                    break
         return told
-    status, lines = run_rt(['check'], folder, place)
-    if status:
-        why = next((it for it in lines if SAID.match(it)), lines[-1])
-        return told | dict.fromkeys(fit, f'not tried, as {name} itself is not proved: {why}')
-    os.mkdir(f'{folder}/must-fail')
-    for it in fit:
-        shutil.copy(f'{folder}/mutants/{it}', f'{folder}/must-fail/{it}')
-    return told
 
 
-def try_crates(names, place):
-    """What became of each mutant of some crates, by its crate and its file's name. They are tried in one run of rt,
-    which has so many at once as there are processors and memory: those of one crate alone leave processors idle."""
-    told = {(name, file): why for name in names for file, why in begin(name, place).items()}
-    tried = sorted({name for (name, _), why in told.items() if why is None})
-    if tried:
-        _, lines = run_rt(['must-fail', *tried], f'{place}/tree', place)
-        verdicts = verdicts_of(lines)
-        told = {it: why or verdicts.get(it, f'rt has no verdict: {lines[-1]}') for it, why in told.items()}
-    return told
+def try_all(names, provers):
+    """Tries the mutants of these crates and says what became of each; answers how many were refused and how many
+    failed, and the crates of which some were not tried."""
+    kit, libraries = build.toolchain(), build.declared()
+    sums = build.sums_of(libraries, kit, libraries)
+    refused, failed, left = {}, 0, []
+    with room(provers) as place, concurrent.futures.ThreadPoolExecutor(build.jobs_at_once(0)) as pool:
+        running = {}
+        for name in names:
+            below = build.places_below(name, libraries, sums)
+            if below is None:
+                print(f'{name}: of what it stands on nothing is kept; `make run` proves and keeps that', flush=True)
+                left.append(name)
+                continue
+            words = build.check_words(name, kit, 1, libraries, below, '.')
+            running[pool.submit(Tried(name, words, place, provers).all)] = name
+        try:
+            for done in concurrent.futures.as_completed(running):
+                name, told = running[done], done.result()
+                for file, why in told.items():
+                    if why:
+                        print(f'crates/{name}/mutants/{file}: {"" if why == REFUSED else "FAILED: "}{why}', flush=True)
+                refused[name] = sum(why == REFUSED for why in told.values())
+                failed += sum(why not in (REFUSED, None) for why in told.values())
+                left += [name] if None in told.values() else []
+        finally:
+            provers.end()
+    return refused, failed, left
 
 
-def try_all(names, crates):
-    """Tries the mutants of these crates and says what became of each; answers how many were refused,
-    and how many failed."""
-    refused, failed = 0, 0
-    with room() as place:
-        copy_tree(crates, needed(names, crates), f'{place}/tree')
-        for first in range(0, len(names), AT_ONCE):
-            for (name, file), told in try_crates(names[first:first + AT_ONCE], place).items():
-                is_refused = told.startswith(REFUSED)
-                print(f'crates/{name}/mutants/{file}: {"" if is_refused else "FAILED: "}{told}', flush=True)
-                refused, failed = refused + is_refused, failed + (not is_refused)
-    return refused, failed
+# ---- what was tried last
+
+def sum_of(name):
+    """A sum of a crate's files and of its mutants."""
+    taken = hashlib.sha256()
+    for path in [*build.files_of(name), *edits_in(f'{TOP}/crates/{name}/mutants')]:
+        with open(path, 'rb') as file:
+            taken.update(os.path.relpath(path, TOP).encode() + b'\0' + file.read() + b'\0')
+    return taken.hexdigest()[:16]
 
 
-# ---- the crates
-
-def declared():
-    """The crates of crates.txt, lowest first, each with what it stands on."""
-    found = {}
-    with open(f'{TOP}/crates.txt', encoding='utf-8') as file:
-        for line in file:
-            head, colon, below = line.partition('#')[0].partition(':')
-            if colon:
-                found[head.split()[0]] = below.split()
-    return found
+def kept():
+    """The rows of the record, by crate."""
+    with contextlib.suppress(FileNotFoundError), open(RECORD, encoding='utf-8', newline='') as file:
+        return {row['crate']: row for row in csv.DictReader(file)}
+    return {}
 
 
-def needed(names, crates):
-    """These crates, and all of the tree that they stand on."""
-    found, left = [], list(names)
-    while left:
-        name = left.pop()
-        if name in crates and name not in found:
-            found.append(name)
-            left += crates[name]
-    return found
+def keep(refused, names):
+    """Keeps of each crate how many mutants were refused, where all were; of the others that were tried nothing is kept."""
+    rows = {name: row for name, row in kept().items() if name not in names}
+    for name in names:
+        if refused.get(name) == len(edits_in(f'{TOP}/crates/{name}/mutants')):
+            rows[name] = dict(zip(FIELDS, (name, sum_of(name), refused[name], datetime.date.today(), pass_gate.said('rt', 'version'))))
+    with open(RECORD, 'w', encoding='utf-8', newline='') as file:
+        table = csv.DictWriter(file, FIELDS, lineterminator='\n')
+        table.writeheader()
+        table.writerows(rows[name] for name in build.declared() if name in rows)
+
+
+def changed(name, row):
+    """How many lines of a crate and of its mutants changed since the day of its row; all where it has none."""
+    if not row:
+        return build.lines_of(name)
+    words = ['git', 'log', f'--since={row["date"]}T00:00', '--format=', '--numstat', '--', *(f'crates/{name}/{it}' for it in (*PARTS, 'mutants'))]
+    said = subprocess.run(words, cwd=TOP, stdin=subprocess.DEVNULL, capture_output=True, text=True, check=False).stdout
+    return sum(int(it) for line in said.splitlines() for it in line.split('\t')[:2] if it.isdigit())
+
+
+def try_due(names, begun):
+    """Names the crates whose mutants were last tried over other files. Where CI=true it tries those for which there is
+    time; answers how many failed."""
+    rows = kept()
+    due = sorted((it for it in names if rows.get(it, {}).get('sum') != sum_of(it)), key=lambda it: -changed(it, rows.get(it)))
+    print(f'mutants to try again, of {len(due)} crates (`make mutants`): {" ".join(due) or "none"}', flush=True)
+    if not due or os.environ.get('CI') != 'true':
+        return 0
+    now = time.time()
+    if begun and now - begun > LATEST:
+        print(f'none is tried: `make test` began {(now - begun) / 60:.0f} minutes ago')
+        return 0
+    refused, failed, left = try_all(due, Provers(now + TRYING))
+    print(f'{sum(refused.values())} refused, {failed} failed; left out for want of time: {" ".join(it for it in due if it in left) or "none"}')
+    return failed
 
 
 def main():
     reader = argparse.ArgumentParser(description='Tries the mutants of crates/NAME/mutants/.')
     reader.add_argument('--check', action='store_true', help='prove nothing, see that each edit can be applied')
+    reader.add_argument('--due', action='store_true', help='name the crates that were last tried as others; try them where CI=true')
+    reader.add_argument('--begun', type=int, metavar='SECONDS', help='when `make test` began, in seconds of the epoch')
     reader.add_argument('names', nargs='*', metavar='NAME', help='a crate (left out: all)')
     words = reader.parse_args()
-    crates = declared()
+    crates = build.declared()
     for name in words.names:
         if name not in crates:
             reader.error(f'crates.txt has no crate {name}')
@@ -259,13 +324,19 @@ def main():
     if words.check:
         fit, failed = check(names)
         print(f'{fit} can be applied, {failed} failed')
-    else:
-        having = [it for it in names if edits_in(f'{TOP}/crates/{it}/mutants')]
-        if not having:
-            sys.exit(f'there is nothing to try: none of {len(names)} crates has a folder mutants/ with an edit')
-        refused, failed = try_all(having, crates)
-        print(f'{refused} refused, {failed} failed')
-    sys.exit(1 if failed else 0)
+        sys.exit(1 if failed else 0)
+    having = [it for it in names if edits_in(f'{TOP}/crates/{it}/mutants')]
+    if not having:
+        sys.exit(f'there is nothing to try: none of {len(names)} crates has a folder mutants/ with an edit')
+    try:
+        if words.due:
+            sys.exit(1 if try_due(having, words.begun) else 0)
+        refused, failed, left = try_all(having, Provers())
+    except build.Refused as why:
+        sys.exit(f'nothing is tried: {why}')
+    keep(refused, having)
+    print(f'{sum(refused.values())} refused, {failed + len(left)} failed')
+    sys.exit(1 if failed or left else 0)
 
 
 if __name__ == '__main__':
