@@ -1,70 +1,129 @@
 #!/usr/bin/env python3
 """What the proof of each function of a crate costs, in seconds of one processor.
 
-    bench/functions.py [--least SECONDS] CRATE ..
+    bench/functions.py [--anew] [--least SECONDS] [CRATE ..]
 
-Each crate is checked from nothing, one function at a time, over the statements that `make run` keeps of
-those below it (crates/tcpsim/out/libs). The prover saves what it has checked module by module, and the
-times between what it saved are the cost. What belongs to no function of the crate, as the lemmas and the
-ends of values, stands under its module. Functions of fewer seconds than the least (1 if none is given) are
-left out, and their sum is told. The machine should be quiet.
+Prints what `dev/build.py --functions` counted last of each crate that is named. With none it prints the dearest
+twenty of all crates, as the table of bench/GATE.md. With --anew each crate is counted now, over the statements that
+`make run` keeps of those below it. Functions of fewer seconds than the least (1 if none is given) are left out, and
+their sum is told.
+
+The prover says when it is done with a function, and what it has used since it said so before is the cost. So a
+function has with its own what stands before it: the lemmas that it cites first, and the statements of its module.
 """
 import argparse
-import collections
+import contextlib
+import json
 import os
 import re
+import shutil
 import subprocess
 import sys
-import tempfile
 
 TOP = os.path.dirname(os.path.dirname(os.path.abspath(__file__)))
 sys.path.insert(0, f"{TOP}/dev")
 import build  # pylint: disable=wrong-import-position
 
-# The modules that the prover makes beside each function.
-MADE = re.compile(r"\.(Lts|Code|Statement|Met|Goals|Given|Kinds|Answers|Invariants|Proof)(\..*)?$")
+DONE = re.compile(r"checked (\S+), \d+ of \d+$")
+TICKS = os.sysconf("SC_CLK_TCK")
+DEAREST = 20
 
 
-def checked(crate, folder):
-    """Checks a crate, so that what is checked is saved in the folder; the time at which it began is that of
-    the first file there."""
-    kit, libraries = build.toolchain(), build.declared()
-    if crate not in libraries:
-        raise build.Refused(f"there is no crate {crate}")
-    words = build.check_words(crate, kit, 1, libraries)
-    said = subprocess.run([*words, "--incremental", folder], stdin=subprocess.DEVNULL, capture_output=True, text=True)
-    if said.returncode:
-        raise build.Refused(f"{crate} is not proved over what `make run` keeps:\n{said.stdout}{said.stderr}")
+def used(pid):
+    """The seconds of processors that a process has used."""
+    with open(f"/proc/{pid}/stat", encoding="utf-8", errors="replace") as file:
+        fields = file.read().rpartition(")")[2].split()
+    return (int(fields[11]) + int(fields[12])) / TICKS
 
 
-def seconds_of(folder):
-    """The seconds of each function, by the times between the files."""
-    saved = []
-    for at, _, names in os.walk(folder):
-        saved += [(os.stat(f"{at}/{name}").st_mtime_ns, name.removesuffix(".oantt")) for name in names]
-    saved.sort()
-    seconds = collections.Counter()
-    for (before, _), (after, name) in zip(saved, saved[1:]):
-        seconds[MADE.sub("", name)] += (after - before) / 1e9
-    return seconds
+def count(name, words):
+    """Runs the check of a crate, prints what it says, and keeps the cost of each function; answers its status."""
+    costs, before = {}, 0
+    with subprocess.Popen([*words, "--progress"], stdin=subprocess.DEVNULL, stdout=subprocess.PIPE, stderr=subprocess.STDOUT,
+                          text=True, errors="replace") as prover:
+        for line in prover.stdout:
+            done = DONE.match(line)
+            if done:
+                now = used(prover.pid)
+                function = done[1].removeprefix(f"{name}::")
+                costs[function], before = round(costs.get(function, 0) + now - before, 2), now
+            else:
+                print(line, end="", flush=True)
+        _, status, usage = os.wait4(prover.pid, 0)
+        prover.returncode = os.waitstatus_to_exitcode(status)
+    if not prover.returncode:
+        with open(f"{build.KEPT}/{name}.functions", "w", encoding="utf-8") as file:
+            json.dump({"seconds": round(usage.ru_utime + usage.ru_stime, 2), "functions": costs}, file, indent=1)
+    return prover.returncode
+
+
+def proved(name):
+    """Proves a crate and keeps its statements, as dev/build.py does without this count: by a check, and a build that takes
+    the check's verdict. Answers the status."""
+    kit, libraries, folder = build.toolchain(), build.declared(), f"{build.KEPT}/{name}.checked"
+    words = build.words_of(name, kit, 1, libraries, tools=f"{build.KEPT}/toolchain")
+    more = ["--statements"] if "--statements" in words else []
+    shutil.rmtree(folder, ignore_errors=True)
+    status = count(name, [*build.check_words(name, kit, 1, libraries), *more, "-o", folder])
+    for it in ("--logic-built", "--jobs"):
+        at = words.index(it)
+        del words[at : at + 2]
+    status = status or subprocess.run([*words, "--crate-checked", folder], stdin=subprocess.DEVNULL).returncode
+    shutil.rmtree(folder, ignore_errors=True)
+    return status
+
+
+def kept(name):
+    """What was counted last of a crate."""
+    with contextlib.suppress(FileNotFoundError), open(f"{build.KEPT}/{name}.functions", encoding="utf-8") as file:
+        return json.load(file)
+    raise build.Refused(f"{name} was not counted: dev/build.py --functions counts each crate that it proves, --anew this one")
+
+
+def tell(name, least):
+    """Prints the functions of a crate, the dearest first."""
+    found = kept(name)
+    costs = sorted(found["functions"].items(), key=lambda it: -it[1])
+    print(f"{name}: {found['seconds']:.0f} s")
+    print("".join(f"{cost:8.1f}  {function}\n" for function, cost in costs if cost >= least), end="")
+    print(f"{sum(cost for _, cost in costs if cost < least):8.1f}  all others")
+    print(f"{found['seconds'] - sum(found['functions'].values()):8.1f}  no function", flush=True)
+
+
+def tell_dearest(names):
+    """Prints the dearest functions of all crates that were counted."""
+    rows, counted = [], []
+    for name in names:
+        with contextlib.suppress(build.Refused):
+            rows += [(cost, name, function) for function, cost in kept(name)["functions"].items()]
+            counted.append(name)
+    print("| crate | function | seconds |\n|---|---|--:|")
+    for cost, name, function in sorted(rows, reverse=True)[:DEAREST]:
+        print(f"| {name} | `{function.replace('::', '.')}` | {cost:.1f} |")
+    print(f"\n{len(rows)} functions of {len(counted)} crates took {sum(it[0] for it in rows):.0f} s, {sum(it[0] for it in rows) / max(1, len(rows)):.1f} in the mean.")
 
 
 def main():
     reader = argparse.ArgumentParser(description="What the proof of each function costs, in seconds.")
-    reader.add_argument("crates", nargs="+", metavar="CRATE")
+    reader.add_argument("crates", nargs="*", metavar="CRATE")
+    reader.add_argument("--anew", action="store_true", help="count each crate now, over what `make run` keeps")
+    reader.add_argument("--keep", action="store_true", help="the same, and keep its statements: what dev/build.py --functions does")
     reader.add_argument("--least", type=float, default=1, metavar="SECONDS", help="leave cheaper functions out")
     words = reader.parse_args()
+    libraries = build.declared()
     try:
         for crate in words.crates:
-            with tempfile.TemporaryDirectory() as folder:
-                checked(crate, folder)
-                seconds = seconds_of(folder)
-            total = sum(seconds.values())
-            print(f"{crate}: {total:.0f} s")
-            for name, cost in seconds.most_common():
-                if cost >= words.least:
-                    print(f"{cost:8.1f}  {name}")
-            print(f"{sum(cost for cost in seconds.values() if cost < words.least):8.1f}  all others", flush=True)
+            if crate not in libraries:
+                raise build.Refused(f"there is no crate {crate}")
+            if words.keep:
+                status = proved(crate)
+            else:
+                status = count(crate, build.check_words(crate, build.toolchain(), 1, libraries)) if words.anew else 0
+            if status:
+                raise build.Refused(f"{crate} is not proved over what `make run` keeps")
+            tell(crate, words.least)
+        if not words.crates:
+            tell_dearest(libraries)
     except build.Refused as why:
         print(why, file=sys.stderr)
         return 1

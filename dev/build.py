@@ -1,7 +1,7 @@
 #!/usr/bin/env python3
 """Proves the program with all its libraries, and builds it.
 
-    dev/build.py [--jobs N] [--ready | --module]
+    dev/build.py [--jobs N] [--functions | --ready | --module]
 
 Each crate is proved once, by `rattle build`, the prover behind `rt`, as soon as those that it stands on
 are: as many crates side by side as there are jobs. The one for which the longest chain of others waits, by
@@ -13,7 +13,8 @@ it. The same run of the prover that makes the program keeps the LLVM module that
 crates/tcpsim/out/tcpsim.bc, with a record that names both by their sums: of that module `make page` makes
 the program for a browser. With --module it sees to it that module and record are there and fit the program,
 and proves no more than it has to: the last crate alone, over what `make run` or `rt ci` left of the others.
-Beside them NAME.cost says what each cost, for the table of bench/gate.py. With --ready it only says
+Beside them NAME.cost says what each cost, for the table of bench/gate.py. With --functions each crate is proved
+by one job, as bench/functions.py does it, which keeps what each function cost. With --ready it only says
 whether the toolchain is the one that is wanted, whether every file is in the layout that `rt fmt` gives,
 and whether a module has a library's name, as `rt ci` asks.
 """
@@ -172,7 +173,7 @@ def keep_record(stamp):
         verdicts = [line.strip() for line in log if line.startswith("logic=proved ")]
     if not verdicts:
         raise Refused("the prover gave no verdict `logic=proved` on the program")
-    found = {"verdict": verdicts[-1], "sources": stamp, "module": sum_of_file(MODULE), "program": sum_of_file(MADE)}
+    found = {"verdict": verdicts[0], "sources": stamp, "module": sum_of_file(MODULE), "program": sum_of_file(MADE)}
     with open(RECORD, "w", encoding="utf-8") as file:
         json.dump(found, file, indent=1)
 
@@ -449,8 +450,8 @@ def make_module(asked):
     return prove_last(kit, libraries, sums[PROGRAM], places, asked) if places else build(asked)
 
 
-def build(asked):
-    """Proves and builds the program; answers the status to end with."""
+def build(asked, functions=False):
+    """Proves and builds the program, and counts its functions if asked to; answers the status to end with."""
     kit, libraries = toolchain(), declared()
     names = [*below(PROGRAM, libraries), PROGRAM]
     sums = sums_of(names, kit, libraries)
@@ -463,7 +464,13 @@ def build(asked):
     jobs, tools = jobs_at_once(asked), keeping_toolchain(kit)
     print(f"Proving {left} of {len(crates)} crates; what is proved is kept for the next time.", flush=True)
     end_with_signals(crates)
-    refused = prove(crates, len(crates), jobs, lambda name, most: words_of(name, kit, most, libraries, tools=tools))
+
+    def words_for(name, most):
+        if functions:
+            return [sys.executable, f"{TOP}/bench/functions.py", "--keep", name]
+        return words_of(name, kit, most, libraries, tools=tools)
+
+    refused = prove(crates, len(crates), jobs, words_for)
     if refused:
         for it in crates:
             it.stop()
@@ -479,13 +486,14 @@ def build(asked):
 def main():
     reader = argparse.ArgumentParser(description="Proves the program with all its libraries, and builds it.")
     reader.add_argument("--jobs", type=int, default=0, help="functions at once in all (left out: one a processor)")
+    reader.add_argument("--functions", action="store_true", help="keep what each function cost, too: by one job a crate")
     reader.add_argument("--ready", action="store_true", help="only say whether the toolchain, the layout and the modules' names are right")
     reader.add_argument("--module", action="store_true", help="see that the program's module is there, and of its proof")
     words = reader.parse_args()
     try:
         if words.ready:
             return look_at_layout(toolchain()) or look_at_names()
-        return make_module(words.jobs) if words.module else build(words.jobs)
+        return make_module(words.jobs) if words.module else build(words.jobs, words.functions)
     except Refused as why:
         print(f"tcpsim cannot be built: {why}", file=sys.stderr)
         return 1

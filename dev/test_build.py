@@ -9,8 +9,10 @@ import sys
 
 import pytest
 
-sys.path.insert(0, os.path.dirname(os.path.abspath(__file__)))
+HERE = os.path.dirname(os.path.abspath(__file__))
+sys.path[:0] = [HERE, os.path.join(os.path.dirname(HERE), 'bench')]
 import build
+import functions
 
 
 @pytest.fixture
@@ -48,6 +50,42 @@ def test_what_the_longest_chain_waits_for_is_proved_first(clone):
     os.remove(crates[-1].mark())
     assert build.prove(crates, len(crates), 3, lambda name, jobs: [name, jobs]) is None
     assert begun[5:] == [('high', 3, False)]
+
+
+# A prover that is played: a check works for 0.3 seconds and then says that it is done with `one`, and at once with `two`; a
+# build takes a check's verdict.
+PROVER = f"""#!{sys.executable}
+import os, sys, time
+words = sys.argv[1:]
+if words[0] == 'check':
+    while time.process_time() < 0.3:
+        pass
+    print('checked low::one, 1 of 2', flush=True)
+    print('checked low::Two::two, 2 of 2', flush=True)
+    os.makedirs(words[words.index('-o') + 1])
+elif not os.path.isdir(words[words.index('--crate-checked') + 1]) or '--jobs' in words:
+    sys.exit('there is no check')
+print('logic=proved functions=2 sum=1')
+"""
+
+
+def test_what_each_function_costs_is_kept(clone, monkeypatch, capfd):
+    kit = clone / 'kit'
+    os.makedirs(kit / 'bin')
+    (kit / 'bin/rattle').write_text(PROVER)
+    os.chmod(kit / 'bin/rattle', 0o755)
+    monkeypatch.setattr(build, 'toolchain', lambda: str(kit))
+    monkeypatch.setattr(build, 'declared', lambda: LIBRARIES)
+    with pytest.raises(build.Refused, match='low was not counted'):
+        functions.tell('low', 1)
+    assert functions.proved('low') == 0 and not os.path.exists(f'{build.KEPT}/low.checked')
+    assert 'logic=proved' in capfd.readouterr().out
+    costs = functions.kept('low')['functions']
+    assert list(costs) == ['one', 'Two::two'] and costs['one'] > 0.2 > costs['Two::two']
+    functions.tell('low', 0.2)
+    assert capfd.readouterr().out.splitlines()[1] == f'{costs["one"]:8.1f}  one'
+    functions.tell_dearest(LIBRARIES)
+    assert capfd.readouterr().out.splitlines()[2:4] == [f'| low | `one` | {costs["one"]:.1f} |', f'| low | `Two.two` | {costs["Two::two"]:.1f} |']
 
 
 def test_the_compiler_keeps_its_module(clone):
