@@ -9,7 +9,7 @@ lines, gets the processors that the others leave, for as many functions at once,
 the others gets one and gives way to it, since a crate costs a third more by four jobs than by one. Of a library
 its statements are kept (crates/tcpsim/out/libs), so that what stands on it does not read its proofs;
 after a change the changed crate and those that stand on it are proved again. `rt ci` trusts nothing of
-it. The same run of the prover that makes the program keeps the LLVM module that it is made of, as
+it and takes it away; what it proved and left itself is kept in that place. The same run of the prover that makes the program keeps the LLVM module that it is made of, as
 crates/tcpsim/out/tcpsim.bc, with a record that names both by their sums: of that module `make page` makes
 the program for a browser. With --module it sees to it that module and record are there and fit the program,
 and proves no more than it has to: the last crate alone, over what `make run` or `rt ci` left of the others.
@@ -283,9 +283,12 @@ class Crate:
             self.prover.returncode = os.waitstatus_to_exitcode(status)
         return bool(ended)
 
-    def keep(self):
+    def mark_as_kept(self):
         with open(self.mark(), "w", encoding="utf-8") as file:
             file.write(self.stamp)
+
+    def keep(self):
+        self.mark_as_kept()
         keep_cost(self.name, "check", self.usage.ru_utime + self.usage.ru_stime, 1024 * self.usage.ru_maxrss)
 
     def stop(self):
@@ -378,13 +381,15 @@ def is_built():
     return os.path.isfile(MADE) and all(it.is_kept() for it in crates)
 
 
-def left_by_the_gate(name, libraries):
-    """Where `rt ci` left the statements of the crates below, by name; None where one is not there, or was put there before a
-    file of its crate or of one below it was changed. (What it kept of an earlier run are links to older files in a new folder.)"""
+def left_by_the_gate(names):
+    """Where `rt ci` left the statements of these crates, which come each behind those that it stands on, by name; None where
+    one is not there, or was put there before a file or a folder of its crate or of one before it was changed. (What it kept
+    of an earlier run are links to older files in a new folder.)"""
     places, newest = {}, 0
-    for it in below(name, libraries):
+    for it in names:
         places[it] = f"{TOP}/crates/{it}/out/rlib"
-        newest = max([newest, *map(os.path.getmtime, files_of(it))])
+        files = [*files_of(it)]
+        newest = max([newest, *map(os.path.getmtime, {*files, *map(os.path.dirname, files)})])
         made = f"{places[it]}/{it}.rlib"
         if not os.path.isdir(made) or not os.listdir(made) or os.path.getmtime(made) < newest:
             return None
@@ -397,7 +402,18 @@ def places_below(name, libraries, sums):
     names = below(name, libraries)
     if all(Crate(it, libraries, sums[it]).is_kept() for it in names):
         return dict.fromkeys(names, KEPT)
-    return left_by_the_gate(name, libraries)
+    return left_by_the_gate(names)
+
+
+def take_from_the_gate(crates, libraries):
+    """Keeps the statements that `rt ci` left of crates of which none are kept: it takes away what is kept. Those that another
+    command put beside the gate's have a stamp."""
+    for it in crates:
+        places = None if it.is_kept() or it.name == PROGRAM else left_by_the_gate([*below(it.name, libraries), it.name])
+        if places and not os.path.exists(f"{places[it.name]}/stamp"):
+            shutil.rmtree(f"{KEPT}/{it.name}.rlib", ignore_errors=True)
+            shutil.copytree(f"{places[it.name]}/{it.name}.rlib", f"{KEPT}/{it.name}.rlib")
+            it.mark_as_kept()
 
 
 def end_with_signals(crates):
@@ -456,10 +472,11 @@ def build(asked, functions=False):
     names = [*below(PROGRAM, libraries), PROGRAM]
     sums = sums_of(names, kit, libraries)
     crates = crates_of(names, libraries, sums)
+    os.makedirs(KEPT, exist_ok=True)
+    take_from_the_gate(crates, libraries)
     left = sum(not it.is_kept() for it in crates)
     if not left and os.path.isfile(MADE):
         return 0
-    os.makedirs(KEPT, exist_ok=True)
     forget_module()
     jobs, tools = jobs_at_once(asked), keeping_toolchain(kit)
     print(f"Proving {left} of {len(crates)} crates; what is proved is kept for the next time.", flush=True)

@@ -135,17 +135,23 @@ def test_a_record_names_what_is_there(clone):
 
 
 def test_what_the_gate_left_is_used_while_it_is_newer(clone):
-    """Statements are taken that are newer than their crate and those below it."""
-    assert build.left_by_the_gate(build.PROGRAM, LIBRARIES) is None
+    """Statements are taken that are newer than their crate and those below it, and kept where none are."""
+    names = build.below(build.PROGRAM, LIBRARIES)
+    assert build.left_by_the_gate(names) is None
     places = {it: f'{build.TOP}/crates/{it}/out/rlib' for it in ('low', 'high')}
     for name, place in places.items():
         os.makedirs(f'{place}/{name}.rlib')
         with open(f'{place}/{name}.rlib/statements', 'w', encoding='utf-8'):
             pass
-    assert build.left_by_the_gate(build.PROGRAM, LIBRARIES) == places
+    assert build.left_by_the_gate(names) == places
     words = build.words_of(build.PROGRAM, '/kit', 1, LIBRARIES, places, '/tools')
     assert f'high={places["high"]}/high.rlib' in words and f'dependency={places["low"]}' in words
     assert words[words.index('--toolchain') + 1] == '/tools' and f'dependency={build.KEPT}' not in words
+    with open(f'{places["high"]}/stamp', 'w', encoding='utf-8'):
+        pass
+    crates = build.crates_of(LIBRARIES, LIBRARIES, dict.fromkeys(LIBRARIES, 'sum'))
+    build.take_from_the_gate(crates, LIBRARIES)
+    assert [it.name for it in crates if it.is_kept()] == ['low'] and os.path.isfile(f'{build.KEPT}/low.rlib/statements')
     later = os.path.getmtime(f'{places["high"]}/high.rlib') + 5
-    os.utime(f'{build.TOP}/crates/low/src/lib.rt', (later, later))
-    assert build.left_by_the_gate(build.PROGRAM, LIBRARIES) is None
+    os.utime(f'{build.TOP}/crates/low/src', (later, later))
+    assert build.left_by_the_gate(names) is None
