@@ -68,8 +68,8 @@ pictures:
 	@'$(PYTHON)' dev/validate.py --pictures
 	@'$(PYTHON)' python/tests/test_replay.py
 
-# The prover runs where no module is kept that is of the program's proof: after `make run` it has nothing to do, after
-# `rt ci` alone the last crate.
+# The prover runs where no module is kept that is of the program's proof: after `make run` or `make test` it has nothing to
+# do, after `rt ci` alone the last crate.
 page:
 	@[ -n '$(WITH_MARKDOWN)' ] || { echo 'no python3 with markdown: apt-get install python3-markdown'; exit 1; }
 	@python3 dev/build.py --module

@@ -167,10 +167,13 @@ def forget_module():
             os.remove(it)
 
 
-def keep_record(stamp):
-    """Writes what the prover said of the run that made the program and its module, and the sums of both."""
-    with open(f"{KEPT}/{PROGRAM}.log", encoding="utf-8", errors="replace") as log:
-        verdicts = [line.strip() for line in log if line.startswith("logic=proved ")]
+def keep_record(stamp, said=()):
+    """Writes what the prover said of the run that made the program and its module, in its log if in no lines that are given,
+    and the sums of both."""
+    if not said:
+        with open(f"{KEPT}/{PROGRAM}.log", encoding="utf-8", errors="replace") as log:
+            said = log.readlines()
+    verdicts = [line.strip() for line in said if line.startswith("logic=proved ")]
     if not verdicts:
         raise Refused("the prover gave no verdict `logic=proved` on the program")
     found = {"verdict": verdicts[0], "sources": stamp, "module": sum_of_file(MODULE), "program": sum_of_file(MADE)}
@@ -261,8 +264,10 @@ class Crate:
         return f"{KEPT}/{self.name}.stamp"
 
     def is_kept(self):
+        if self.name == PROGRAM:
+            return has_module(self.stamp)
         with contextlib.suppress(FileNotFoundError), open(self.mark(), encoding="utf-8") as file:
-            return file.read() == self.stamp and (self.name != PROGRAM or has_module(self.stamp))
+            return file.read() == self.stamp
         return False
 
     def start(self, words, gives_way):

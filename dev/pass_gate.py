@@ -6,17 +6,27 @@
 What `rt ci` writes goes on to standard output as it comes, and its status is the status. out/gate.txt is taken away first,
 and written where the gate has ended by itself: the commit, the toolchain's line, a sum of all that the gate reads, and the
 gate's last line, 'N passed, M failed'.
+
+The gate makes the program of an LLVM module that it does not keep. So this looks once a second whether the compiler works
+on it, and then copies it, for the page: else dev/build.py --module proves the program's crate once more to have it.
 """
 import contextlib
 import hashlib
 import os
+import shutil
 import signal
 import subprocess
 import sys
+import threading
+
+import build
 
 TOP = os.path.dirname(os.path.dirname(os.path.abspath(__file__)))
 KEPT = os.path.join(TOP, 'out', 'gate.txt')
 READ = 'crates', 'crates.txt', 'HANDLES'
+# The copy of the module, which is moved to its place where the gate has passed.
+MODULE = os.path.join(TOP, 'out', 'gate.bc')
+LOOKS = 1       # seconds
 
 
 def said(*words):
@@ -54,14 +64,46 @@ def kept():
     return {}
 
 
+def words_of(pid):
+    """What a process was started as."""
+    with open(f'/proc/{pid}/cmdline', encoding='utf-8', errors='replace') as file:
+        return file.read().split('\0')
+
+
+def module_at_work():
+    """The module, opened, that a compiler has of the gate's prover of the program in this clone, or None."""
+    for pid in filter(str.isdigit, os.listdir('/proc')):
+        with contextlib.suppress(OSError, IndexError):
+            module = [it for it in words_of(pid) if it.endswith('.bc')][0]
+            with open(f'/proc/{pid}/stat', encoding='utf-8', errors='replace') as file:
+                prover = file.read().rpartition(')')[2].split()[1]
+            words, folder = words_of(prover), os.path.join(TOP, 'crates', build.PROGRAM)
+            if '--test' not in words and build.PROGRAM in words and os.path.samefile(f'/proc/{prover}/cwd', folder):
+                return open(os.path.join(f'/proc/{pid}/cwd', module), 'rb')
+    return None
+
+
+def watch(ended):
+    """Copies the module as soon as it is there; returns then, or where the gate has ended."""
+    while not ended.wait(LOOKS):
+        module = module_at_work()
+        if module:
+            with module, open(MODULE, 'wb') as copy:
+                shutil.copyfileobj(module, copy)
+            return
+
+
 def main():
     """Answers the gate's status."""
     os.makedirs(os.path.dirname(KEPT), exist_ok=True)
-    with contextlib.suppress(FileNotFoundError):
-        os.remove(KEPT)
+    for it in (KEPT, MODULE):
+        with contextlib.suppress(FileNotFoundError):
+            os.remove(it)
     facts = {'commit': said('git', 'rev-parse', 'HEAD') or 'none', 'toolchain': said('rt', 'version') or 'none',
              'crates': sum_of_crates()}
-    last, gates, asked = '', [], []
+    last, of, lines, gates, asked = '', '', [], [], []
+    ended = threading.Event()
+    watcher = threading.Thread(target=watch, args=[ended])
 
     def end(number, _):
         asked.append(number)
@@ -75,11 +117,21 @@ def main():
     for number in asked:
         gate.send_signal(number)
     signal.signal(signal.SIGINT, signal.SIG_IGN)        # of a terminal it comes to the gate too
+    watcher.start()
     for line in gate.stdout:
         sys.stdout.buffer.write(line)
         sys.stdout.buffer.flush()
         last = line.decode('utf-8', 'replace').strip() or last
+        of = last[3:] if last.startswith('== ') else of
+        lines += [last] if of == build.PROGRAM else []
     status = gate.wait()
+    ended.set()
+    watcher.join()
+    if status == 0 and os.path.isfile(MODULE) and sum_of_crates() == facts['crates']:
+        kit, libraries = build.toolchain(), build.declared()
+        shutil.move(MODULE, build.MODULE)
+        with contextlib.suppress(build.Refused):
+            build.keep_record(build.sums_of(libraries, kit, libraries)[build.PROGRAM], lines)
     if status >= 0 and 'passed' in last:
         with open(KEPT, 'w', encoding='utf-8') as file:
             file.write(''.join(f'{name}: {value}\n' for name, value in {**facts, 'last line': last}.items()))

@@ -30,7 +30,7 @@ EDIT = 'file: src/lib.rt\nold: 1\nnew: 2\n'
 def tree(tmp_path, put):
     """A tree of crates, of which two have a mutant, and `low` one in the gate; and what the gate left of it."""
     for folder in ('dev', 'bench', 'bin', *(f'crates/{it}/src' for it in ('low', 'high', 'bare')), 'crates/low/must-fail',
-                   'crates/low/mutants', 'crates/high/mutants', *(f'crates/{it}/out/rlib/{it}.rlib/lang' for it in ('low', 'high'))):
+                   'crates/low/mutants', 'crates/high/mutants'):
         (tmp_path / folder).mkdir(parents=True)
     for script in ('mutants', 'build', 'pass_gate'):
         shutil.copy(os.path.join(TOP, 'dev', f'{script}.py'), tmp_path / 'dev')
@@ -40,7 +40,7 @@ def tree(tmp_path, put):
     put('crates.txt', 'low: std\nhigh: low\nbare: high low\n')
     for name in ('low', 'high', 'bare'):
         put(f'crates/{name}/src/lib.rt', 'fn one() -> u64 { 1 }\n')
-        os.utime(tmp_path / f'crates/{name}/src/lib.rt', (1e9, 1e9))
+        (tmp_path / f'crates/{name}/out/rlib/{name}.rlib/lang').mkdir(parents=True)
     for edit in ('low/must-fail/guarded', 'low/mutants/two', 'high/mutants/two'):
         put(f'crates/{edit}.edit', EDIT)
     return tmp_path

@@ -1,7 +1,8 @@
 #!/usr/bin/env python3
-"""Tests of what is kept of the gate for the manifest of `make dist`: in a copy, with a gate that is played. Usage:
-dev/test_pass_gate.py, or pytest.
+"""Tests of what is kept of the gate for the manifest of `make dist` and for the page: in a copy, with a gate that is played.
+Usage: dev/test_pass_gate.py, or pytest.
 """
+import json
 import os
 import shutil
 import signal
@@ -14,9 +15,17 @@ import pytest
 TOP = os.path.dirname(os.path.dirname(os.path.abspath(__file__)))
 RT = '''#!/bin/sh
 [ "$1" = ci ] || { echo 'kit-1 logic abc'; exit 0; }
+[ -z "$PROVES" ] || (cd crates/tcpsim && exec sh -c "$PROVES" rattle build --crate-name tcpsim)
 echo first; echo "$SAID"; echo told >&2
 [ -z "$WAITS" ] || { echo $$ > waits; exec sleep 60; }
 exit "$STATUS"
+'''
+# A prover whose compiler works in a folder of its own until its module was taken; then it has made the program.
+PROVES = '''
+echo '== tcpsim'; echo 'logic=proved functions=1'; echo 'rt: tcpsim proved'; echo '== other'; echo 'logic=proved functions=2'
+mkdir out ../../room; printf BC > ../../room/module.bc
+(cd ../../room && exec sh -c 'until [ -s ../out/gate.bc ]; do sleep 0.1; done' clang -x ir module.bc)
+printf program > out/tcpsim
 '''
 KEPT = 'import pass_gate as it; print(it.kept().get("last line"), it.kept().get("crates") == it.sum_of_crates())'
 
@@ -25,7 +34,8 @@ KEPT = 'import pass_gate as it; print(it.kept().get("last line"), it.kept().get(
 def tree(tmp_path):
     """A tree with one crate, and a function that passes its gate."""
     (tmp_path / 'dev').mkdir()
-    shutil.copy(os.path.join(TOP, 'dev', 'pass_gate.py'), tmp_path / 'dev')
+    for script in ('pass_gate', 'build'):
+        shutil.copy(os.path.join(TOP, 'dev', f'{script}.py'), tmp_path / 'dev')
     (tmp_path / 'crates/one/src').mkdir(parents=True)
     (tmp_path / 'crates/one/src/lib.rt').write_text('fn one() {}\n')
     (tmp_path / 'crates.txt').write_text('one:\n')
@@ -35,10 +45,10 @@ def tree(tmp_path):
     return tmp_path
 
 
-def words(tree, said, status=0, waits=''):
+def words(tree, said, status=0, waits='', proves=''):
     path = f'{tree}/bin:{os.environ["PATH"]}'
-    return {'args': [sys.executable, tree / 'dev/pass_gate.py'], 'cwd': tree, 'stdin': subprocess.DEVNULL,
-            'env': {'PATH': path, 'SAID': said, 'STATUS': str(status), 'WAITS': waits}}
+    return {'args': [sys.executable, '-B', tree / 'dev/pass_gate.py'], 'cwd': tree, 'stdin': subprocess.DEVNULL,
+            'env': {'PATH': path, 'SAID': said, 'STATUS': str(status), 'WAITS': waits, 'PROVES': proves}}
 
 
 def kept(tree):
@@ -73,6 +83,27 @@ def test_a_gate_that_did_not_end_leaves_nothing(tree):
         time.sleep(0.05)
     process.send_signal(signal.SIGTERM)
     assert process.wait(60) == 128 + signal.SIGTERM and kept(tree) == 'None False'
+
+
+@pytest.mark.parametrize('changes', [False, True])
+def test_the_module_is_kept_of_which_the_gate_made_the_program(tree, changes):
+    """But not where a file changed meanwhile."""
+    (tree / 'crates/tcpsim/src').mkdir(parents=True)
+    (tree / 'crates/tcpsim/src/main.rt').write_text('fn main() {}\n')
+    (tree / 'crates.txt').write_text('tcpsim:\n')
+    (tree / 'README.md').write_text('`kit-1 logic abc`'.replace('kit', 'rattle-kit'))
+    (tree / 'bin/rt').write_text(RT.replace('kit-1', 'rattle-kit-1'))
+    proves = PROVES + 'echo >> src/main.rt\n' * changes
+    done = subprocess.run(**words(tree, '12 passed, 0 failed', proves=proves), capture_output=True, text=True, check=False)
+    assert (done.returncode, done.stderr) == (0, 'told\n')
+    if changes:
+        assert not (tree / 'crates/tcpsim/out/tcpsim.module').exists()
+        return
+    assert (tree / 'crates/tcpsim/out/tcpsim.bc').read_text() == 'BC'
+    assert json.loads((tree / 'crates/tcpsim/out/tcpsim.module').read_text())['verdict'] == 'logic=proved functions=1'
+    fits = 'import build as it; k, n = it.toolchain(), it.declared(); print(it.has_module(it.sums_of(n, k, n)["tcpsim"]))'
+    done = subprocess.run(**{**words(tree, ''), 'args': [sys.executable, '-Bc', fits], 'cwd': tree / 'dev'}, capture_output=True, text=True, check=False)
+    assert done.stdout == 'True\n'
 
 
 if __name__ == '__main__':
