@@ -2,6 +2,7 @@
 lacks. Importing it puts python/ on sys.path, where the packages are. What wants pytest is in conftest.py, at the top."""
 import concurrent.futures
 import functools
+import hashlib
 import os
 import shutil
 import subprocess
@@ -32,6 +33,12 @@ def read(*path):
 def read_text(*path):
     """The same as text."""
     return read(*path).decode()
+
+
+def digest(path):
+    """The first digits of a file's SHA-256, as a row of a sweep has that of its program."""
+    said = ran(path, '--version').stdout.partition(b'\n')[0] if path == MODEL else b''
+    return hashlib.sha256(read(path) + said).hexdigest()[:16]
 
 
 def paths(name):

@@ -2,6 +2,7 @@
 fail, full disks and pipes are in test_ends.py.
 """
 import csv
+import glob
 import hashlib
 import html
 import importlib.util
@@ -26,6 +27,7 @@ from tcpsim.cli import net as command
 from tcpsim.sweeps import pattern as sweep
 from tcpsim.sweeps import pool
 from tcpsim.sweeps.columns import FROM
+from tcpsim.sweeps.files import FIRST_LINE
 from tcpsim.sweeps.rows import AskedOfRun, Grid, format_of
 
 SWEEP = os.path.join(BIN, 'tcpsim-sweep')
@@ -44,7 +46,8 @@ flow f s r 1000 8 0 64000 0
 ROW = {'a.queue': 'droptail:2', 'a.queue_packets': '2', 'status': 'done', 'link': 'a', 'goodput_bit_s': f'{7000 * 8 / .012:.6f}',
        'utilization': f'{7 * 1.04 / 12:.6f}', 'wait_median_ns': str(2**20 - 1), 'wait_p99_ns': '2080000',
        'loss_percent': f'{200 / 9:.6f}', 'timeouts': '0', 'jain': '1.000000', 'from_ns': '0',
-       'scenario_sha256': hashlib.sha256(BY_HAND.replace('droptail 7 ', 'droptail 2').encode()).hexdigest()[:16]}
+       'scenario_sha256': hashlib.sha256(BY_HAND.replace('droptail 7 ', 'droptail 2').encode()).hexdigest()[:16],
+       'options': '--link a', 'program_sha256': clone.digest(PROGRAM)}
 
 
 def path(name, text=None):
@@ -85,7 +88,7 @@ def test_by_hand():
     assert len(done.stderr.splitlines()) == 1
     assert done.stderr.startswith('1 of 1 runs'), done.stderr
     done = tool(path('hand.txt', BY_HAND), '--set', 'a.queue=droptail:2', '--csv', '--exact')
-    assert rows_of(done.stdout) == [{**ROW, 'wait_median_ns': '1040000'}]
+    assert rows_of(done.stdout) == [{**ROW, 'wait_median_ns': '1040000', 'options': '--link a --exact'}]
 
 
 def grid_of(text, sets):
@@ -137,7 +140,7 @@ def test_refused():
                                                        'refused E5 line 1']
     assert {key: rows[0][key] for key in ROW} == ROW
     digest = rows[1].pop('scenario_sha256')
-    assert (len(digest), set(rows[1].values())) == (16, {'droptail:2', '2', '0', 'refused E5 line 1', ''})
+    assert (len(digest), set(rows[1].values())) == (16, {'droptail:2', '2', '0', 'refused E5 line 1', '', '--link a', ROW['program_sha256']})
     assert done.returncode == 0
     assert '4 of 4 runs, 3 without figures' in done.stderr
     table = tool(path('hand.txt', BY_HAND), '--set', 'a.queue=droptail:2,0').stdout
@@ -159,7 +162,7 @@ def test_busiest_link_and_links_by_name():
 def test_image(put):
     image = clone.outcome(['asm'], BY_HAND.encode())[2]
     done = tool(put('hand.tcb', image), '--set', 'l0.queue=droptail:2', '--csv')
-    assert list(rows_of(done.stdout)[0].values())[4:-1] == list(ROW.values())[4:-1]
+    assert list(rows_of(done.stdout)[0].values())[4:-3] == list(ROW.values())[4:-3]
     done = tool(put('hand.tcb', image[:-1]), '--set', 'l0.queue=droptail:2')
     assert (done.returncode, done.stdout, len(done.stderr.splitlines())) == (2, '', 1)
     assert 'refused L1' in done.stderr
@@ -180,7 +183,7 @@ class TestTables:
             for name in ('wait_median_ns', 'wait_p99_ns'):
                 one, other = int(got.pop(name)), int(wanted.pop(name))
                 assert other <= one <= other * 33 / 32, (name, one, other)
-            assert got == wanted
+            assert got == {**wanted, 'options': '--link pq'}
 
     def test_loss_where_acknowledgements_are_dropped_too(self):
         """Acknowledgements alone at b are no segments; where both are dropped at one link it is not told."""
@@ -363,25 +366,28 @@ class TestWrongWords:
             assert (done.returncode, done.stdout, len(done.stderr.splitlines())) == (1, '', 1)
 
     def test_interruption(self):
-        """Ctrl-C ends all at once, and what stood in the file stays, with the rows that were there in a part beside it; a pipe
-        has them too."""
+        """Ctrl-C ends all at once, and what stood in the file stays, with the rows that were there in a journal beside it; a
+        pipe has them too."""
         program = path('sleeps', f'#!/bin/sh\nif grep -q "droptail 2 " > /dev/null\nthen exec "{PROGRAM}" "$1" < "$0.txt"\n'
                        'else exec sleep 60\nfi\n')
         path('sleeps.txt', BY_HAND.replace('droptail 7', 'droptail 2'))
         os.chmod(program, stat.S_IRWXU)
-        rows = path('interrupted.csv', 'as it was')
+        rows, journals = path('interrupted.csv', 'as it was'), []
         for jobs in '12':
             process = subprocess.Popen([sys.executable, SWEEP, path('hand.txt', BY_HAND), '--set', 'a.queue=droptail:2,3,4',
                                         '-j', jobs, '-o', rows, '--program', program], stdout=subprocess.PIPE,
                                        stderr=subprocess.PIPE, start_new_session=True,
                                        preexec_fn=lambda: signal.signal(signal.SIGINT, signal.SIG_DFL))
-            process.stderr.readline()       # the progress of the first run
-            time.sleep(.1)
+            said = [process.stderr.readline() for _ in range(1 + len(journals))]
+            assert said[-1].startswith(b'1 of 3 runs') and (not journals or b'--resume goes on with them' in said[0])
             os.killpg(process.pid, signal.SIGINT)
             output, note = process.communicate(timeout=20)
             assert (process.returncode, output, note) == (130, b'', b'')
             assert read_text(rows) == 'as it was'
-            assert rows_of(read_text(rows + '.part')) == [ROW]
+            journal, = set(glob.glob(f'{rows}.*.part')) - set(journals)
+            journals.append(journal)
+            assert read_text(journal).startswith(FIRST_LINE)
+            assert rows_of(read_text(journal).removeprefix(FIRST_LINE)) == [{**ROW, 'program_sha256': clone.digest(program)}]
         self.piped(program)
 
     def piped(self, program):
@@ -394,7 +400,7 @@ class TestWrongWords:
         time.sleep(.1)
         process.terminate()
         with open(read, encoding='utf-8') as file:
-            assert list(csv.DictReader(file)) == [ROW]
+            assert list(csv.DictReader(file)) == [{**ROW, 'program_sha256': clone.digest(program)}]
         process.communicate(timeout=20)
         assert process.returncode == 143
 

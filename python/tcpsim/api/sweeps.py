@@ -18,7 +18,7 @@ from tcpsim.program import NoProgram, check_time
 from tcpsim.sweeps.files import csv_text
 from tcpsim.sweeps.means import PARTS, Averaged, averaged, pair_of, pairs, titles
 from tcpsim.sweeps.pool import run_all
-from tcpsim.sweeps.rows import Grid
+from tcpsim.sweeps.rows import QUESTION, Grid
 from tcpsim.sweeps.shown import mean_table, table
 
 if TYPE_CHECKING:
@@ -84,7 +84,7 @@ class Sweep:
     @property
     def rows(self) -> list[dict[str, object]]:
         """A row for each run, in the grid's order, with the columns of docs/SWEEPS.md."""
-        words = {'status', 'link', 'scenario_sha256', *(each.key for each in self._grid.settings)}
+        words = {'status', 'link', *QUESTION} - {'from_ns'} | {each.key for each in self._grid.settings}
         return [{name: value if name in words else number(value) for name in self._grid.columns() for value in [row.get(name, '')]}
                 for row in self._rows]
 
@@ -137,7 +137,8 @@ class Sweep:
     def _repr_html_(self) -> str:
         shown = self._means if self._grid.over else []
         if not shown:
-            return html_table([self._grid.columns()[:-2], *([row.get(name, '') for name in self._grid.columns()[:-2]] for row in self._rows)])
+            names = self._grid.columns()[:-len(QUESTION)]
+            return html_table([names, *([row.get(name, '') for name in names] for row in self._rows)])
         names = [name for name in titles(self._grid) if not name.endswith(f'_{PARTS[2]}')]
         return html_table([names, *(['' if (value := row.get(name)) is None else f'{value:.6g}' if isinstance(value, float) else str(value)
                                      for name in names] for row in [*self.means, *self.pairs])])

@@ -19,11 +19,11 @@ from tcpsim.program import find_program, found, is_program
 from tcpsim.scenario import units
 from tcpsim.sweeps import jobs
 from tcpsim.sweeps.columns import columns_of
-from tcpsim.sweeps.files import csv_text, is_answered, journal_of, rows_there
+from tcpsim.sweeps.files import csv_text, has_rows, is_answered, journal_of, rows_there
 from tcpsim.sweeps.means import Averaged, averaged, pair_of, pairs, titles
 from tcpsim.sweeps.pattern import WHERE, Pattern, settings_of
 from tcpsim.sweeps.pool import Runner, here, run_all
-from tcpsim.sweeps.rows import AskedOfRun, Grid, format_of, version_of
+from tcpsim.sweeps.rows import AskedOfRun, Grid, digest_of, format_of, version_of
 from tcpsim.sweeps.shown import along, mean_table, table
 from tcpsim.whole_trace import IMAGE_BEGINS, ProgramFailed, inputs_of, scenario_bytes, scenario_text
 
@@ -91,7 +91,7 @@ def grid_of(given: argparse.Namespace, text: str, program: str, number: int | No
     if number is None:
         matters = (given.skip or any(column.figure.since > 1 for column in columns)) and not given.exact
         number = format_of(program) if matters else 1
-    asked = AskedOfRun(program, link, given.skip, columns, given.exact, number)
+    asked = AskedOfRun(program, link, given.skip, columns, given.exact, number, digest_of(program))
     asked.check()
     if given.engine and asked.wants_trace():
         raise Wrong(f'--engine reads no trace, and {asked.wants_trace()[0]} wants one{" from this moment on" if given.skip else ""}: leave '
@@ -131,9 +131,9 @@ def engine_of(given: argparse.Namespace) -> Runner:
     if not given.on:
         return here(count)
     if name == 'slurm' and not rest:
-        return jobs.by_slurm(given.jobs, given.folder, given.program)
+        return jobs.by_slurm(given)
     if name == 'parallel':
-        return jobs.by_parallel(count, rest or None, given.folder, given.program)
+        return jobs.by_parallel(given, count, rest or None)
     if name == 'dask':
         from tcpsim.sweeps.on_dask import by_dask
         return by_dask(rest)
@@ -163,15 +163,22 @@ def check_all(rows: list) -> None:
 
 
 def written_rows(grid: Grid, engine: Runner, given: argparse.Namespace, inputs: list, progress: bool = True) -> list[dict]:
-    """Every row, in the file too that is named; what ends it early leaves the rows that were there in its part."""
+    """Every row, in the file too that is named; what ends it early leaves the rows that were there in its journal."""
     path = given.resume or given.output
     if not path:
         return run_all(grid, engine, progress=progress)
-    there = rows_there(path, grid) if given.resume else {}
-    if there:
-        note(f'{len(there)} of {len(grid.points)} runs have their row in {output.printable(path)}')
-    journal, done = journal_of(path, grid.columns(), there.values()), False
+    journal, there, done = None, {}, False
     try:
+        journal = journal_of(path, grid)
+        ended = journal.ended if journal else []
+        if given.resume:
+            there = rows_there(path, ended, grid)
+            if journal:
+                journal.take(there.values())
+        for each in [] if given.resume else filter(has_rows, ended):
+            note(f'{tool()}: {output.printable(each)} has the rows of a sweep that was ended: --resume goes on with them')
+        if there:
+            note(f'{len(there)} of {len(grid.points)} runs have their row in {output.printable(path)}')
         with output.written(path, inputs) as file:
             rows = run_all(grid, engine, file, journal, there, progress)
         done = True
@@ -186,9 +193,8 @@ def sweep(given: argparse.Namespace) -> None:
     engine_of(given)            # refuses what is none
     text = text_of(given.scenario, given.program)
     if given.print:
-        path = given.program if given.program not in (None, MODEL) else found()
+        path = find_program(MODEL) if given.program == MODEL else given.program or found()
         grid = grid_of(given, text, path, None if is_program(path) else FORMATS['figures'])
-        given.folder = given.print
         printed = jobs.print_jobs(grid, given)
         with output.opened() as file:
             file.write(f'{len(grid.points)} scenarios and {output.printable(printed)}\n')
@@ -254,11 +260,10 @@ def drawing_of(grid: Grid, given: argparse.Namespace, inputs: list[str]) -> Call
 
 def gather(given: argparse.Namespace) -> None:
     """Writes the rows of jobs that are done."""
-    kept = jobs.kept_words(given.gather)
-    if given.pair:
-        kept.pair = given.pair
-    given.pair, text = kept.pair, kept.scenario
-    grid = grid_of(kept, text, '', kept.format)
+    kept = argparse.Namespace(**jobs.kept_of(given.gather))
+    given.pair = kept.pair = given.pair or kept.pair
+    grid = grid_of(kept, kept.scenario, '', kept.format)
+    grid.asked = grid.asked._replace(digest=kept.program_sha256 or jobs.first_program(given.gather, grid))
     inputs = [entry.path for entry in os.scandir(given.gather) if entry.name.endswith(('.csv', '.json'))]
     finish(grid, jobs.gathered(given.gather), given, inputs, progress=False)
 

@@ -1,6 +1,6 @@
 """A sweep's runs as jobs: their scenarios and commands in a folder that all machines see, and their rows, gathered.
 
-`--print` writes the folder. `--on slurm` and `--on parallel` have an engine run it: a job array of Slurm's, or GNU parallel,
+`--print` writes the folder, and keeps in it of which sweep it is. `--on slurm` and `--on parallel` have an engine run it: a job array of Slurm's, or GNU parallel,
 which choose the machines, and take again what one of them lost.
 """
 from __future__ import annotations
@@ -10,6 +10,7 @@ import contextlib
 import csv
 import json
 import os
+import re
 import shlex
 import shutil
 import signal
@@ -17,16 +18,16 @@ import subprocess
 import sys
 import tempfile
 import time
-from collections.abc import Callable, Iterator, Sequence
+from collections.abc import Callable, Iterable, Iterator, Sequence
 from typing import BinaryIO
 
 from tcpsim import output
 from tcpsim.command_line import MODEL, Refused, Wrong
 from tcpsim.program import TOP, beside, is_program
 from tcpsim.scenario.units import spelled_time
-from tcpsim.sweeps.files import read_csv
+from tcpsim.sweeps.files import difference, fault_of, is_answered, plain_text, read_csv
 from tcpsim.sweeps.pool import Runner
-from tcpsim.sweeps.rows import Grid
+from tcpsim.sweeps.rows import QUESTION, Grid
 from tcpsim.whole_trace import inputs_of
 
 PATIENCE = 10               # seconds in which a scheduler answers
@@ -36,7 +37,15 @@ LONGEST = 600               # seconds for which a scheduler may not answer while
 MOST_TASKS = 1_000          # of a job array; Slurm's own bound is 1,001 where its MaxArraySize is left out
 RETRIES = 3                 # how often GNU parallel tries a job whose machine fails
 SWEEP, COMMAND = 'sweep.json', 'tcpsim-sweep'
-WORDS = 'sets', 'over', 'show', 'pair', 'link', 'skip', 'exact', 'engine'       # what the folder keeps of the command line
+# What a folder keeps of its sweep: each value's sort, and how it is told from another sweep's, where its rows depend on it.
+TEXT, WORD, LIST, FLAG, NUMBER = 'a text', 'a word or null', 'a list of words', 'true or false', 'a whole number from 0 to 2^64'
+KEPT = {'scenario': (TEXT, 'scenario'), 'program_sha256': (TEXT, 'program'), 'format': (NUMBER, 'format of figures'),
+        'sets': (LIST, '--set'), 'over': (LIST, '--over'), 'show': (WORD, '--show'), 'link': (WORD, '--link'), 'skip': (NUMBER, '--skip'),
+        'exact': (FLAG, '--exact'), 'engine': (FLAG, None), 'pair': (WORD, None)}
+IS_OF = {TEXT: lambda it: isinstance(it, str) and all(character < '\u0100' for character in it),       # each a byte
+         WORD: lambda it: it is None or isinstance(it, str), FLAG: lambda it: isinstance(it, bool),
+         LIST: lambda it: isinstance(it, list) and all(isinstance(word, str) for word in it),
+         NUMBER: lambda it: type(it) is int and 0 <= it < 1 << 64}
 
 
 # ---- the folder
@@ -71,16 +80,18 @@ def job_of(grid: Grid, path: str, program: str | None) -> str:
             f' > /dev/null 2> {shlex.quote(path + ".log")}\n')
 
 
-def write_jobs(grid: Grid, numbers: Sequence[int], folder: str, program: str | None, inputs: Sequence[str | None]) -> str:
-    """Writes these scenarios, and `jobs` with a command a line; answers the path of that."""
-    folder = os.path.abspath(folder)
+def write_jobs(grid: Grid, numbers: Sequence[int], given: argparse.Namespace, folder: str) -> str:
+    """Writes these scenarios, and `jobs` with a command a line, beside the question that the folder is of; answers the path of
+    `jobs`. What another sweep has left in the folder is not touched."""
+    inputs = inputs_of(given)
     paths = [os.path.join(folder, grid.name(number)) for number in numbers]
-    lines = [job_of(grid, path, program) for path in paths]
-    for line in lines:
-        if '\n' in line[:-1] or output.printable(line) != line:
-            raise Wrong(f'--print {folder!r}: jobs are lines of text, and this name has a line feed or is no text')
+    lines = [job_of(grid, path, given.program) for path in paths]
+    check_lines(lines, given, folder)
     os.makedirs(folder, exist_ok=True)
+    claim(folder, {**vars(given), 'scenario': '\n'.join(grid.pattern.lines), 'format': grid.asked.format, 'link': grid.asked.link,
+                   'program_sha256': grid.asked.digest}, [*(path + '.txt' for path in paths), *(path + '.csv' for path in paths)])
     for number, path in zip(numbers, paths):
+        check_row_before(folder, grid, number)
         with output.written(path + '.txt', inputs) as file:
             file.write(grid.text(number).encode('latin-1'))
     with output.written(os.path.join(folder, 'jobs'), inputs) as file:
@@ -88,31 +99,71 @@ def write_jobs(grid: Grid, numbers: Sequence[int], folder: str, program: str | N
     return os.path.join(folder, 'jobs')
 
 
+def check_row_before(folder: str, grid: Grid, number: int) -> None:
+    """Takes away a row that says why there are no figures, so that its run is run again; Wrong where a row is no row of this
+    sweep."""
+    row, path = row_in(folder, grid, number), os.path.join(folder, grid.name(number) + '.csv')
+    if row and len(row) == 1:
+        raise Wrong(f'{path}: {row["status"]}: name another folder')
+    if row and not is_answered(row):
+        os.unlink(path)
+
+
+def check_lines(lines: list[str], given: argparse.Namespace, folder: str) -> None:
+    """Wrong where a job is no line of text, with what makes it none."""
+    if not all(is_line(line[:-1]) for line in lines):
+        named = {f'{option} ': vars(given).get(option[2:]) for option in ('--print', '--folder', '--program')}
+        named = {**named, 'the current folder, ': folder, 'the path of ': call_of_this()[-1]}
+        what, name = next((what, name) for what, name in named.items() if name and not is_line(name))
+        raise Wrong(f'{what}{name!r}: jobs are lines of text, and this name has a line feed or is no text' +
+                    '; --folder names another folder' * (name == folder and given.folder is None))
+
+
+def is_line(name: str) -> bool:
+    """Whether a name can stand in a line of text."""
+    return '\n' not in name and output.printable(name) == name
+
+
+def claim(folder: str, kept: dict[str, object], paths: Iterable[str]) -> None:
+    """Has a folder be that of a sweep; Wrong where it is another's."""
+    kept = {word: kept[word] for word in KEPT}
+    path = os.path.join(folder, SWEEP)
+    if os.path.lexists(path):
+        there = kept_of(folder)
+        for word, (_, name) in KEPT.items():
+            if name and there[word] != kept[word]:
+                both = '' if word == 'scenario' else f', {there[word]!r} and not {kept[word]!r}'
+                raise Wrong(f'{folder} is of a sweep with another {name}{both}: name another folder')
+    elif left := next(filter(os.path.lexists, paths), None):
+        raise Wrong(f'{left} is there, and no {SWEEP} says of which sweep: name another folder')
+    with output.written(path) as file:
+        file.write(json.dumps(kept, indent=1) + '\n')
+
+
 def print_jobs(grid: Grid, given: argparse.Namespace) -> str:
-    """Writes a folder of all the grid's jobs: beside them `grid.csv`, which names each point's values, and the sweep itself, by
-    which --gather knows them."""
-    inputs = inputs_of(given)
-    jobs = write_jobs(grid, range(len(grid.points)), given.folder, given.program, inputs)
-    with output.written(os.path.join(given.folder, 'grid.csv'), inputs) as file:
+    """Writes a folder of all the grid's jobs, and `grid.csv`, which names each point's values."""
+    jobs = write_jobs(grid, range(len(grid.points)), given, os.path.abspath(given.print))
+    with output.written(os.path.join(given.print, 'grid.csv'), inputs_of(given)) as file:
         out = csv.writer(file, lineterminator='\n')
         out.writerow(['scenario', *(each.key for each in grid.settings)])
         for number in range(len(grid.points)):
             out.writerow([grid.name(number), *grid.labels(number).values()])
-    with output.written(os.path.join(given.folder, SWEEP), inputs) as file:
-        file.write(json.dumps({'scenario': '\n'.join(grid.pattern.lines), 'format': grid.asked.format,
-                               **{word: getattr(given, word) for word in WORDS}}, indent=1) + '\n')
     return jobs
 
 
-def kept_words(folder: str) -> argparse.Namespace:
-    """What a folder keeps of the command line that wrote it, and its scenario."""
+def kept_of(folder: str) -> dict[str, object]:
+    """What a folder keeps of the sweep that wrote it, each value of its sort."""
     path = os.path.join(folder, SWEEP)
     try:
-        with open(path, encoding='utf-8') as file:
-            kept = json.load(file)
-        return argparse.Namespace(**{word: kept[word] for word in (*WORDS, 'scenario', 'format')})
-    except (ValueError, KeyError, TypeError) as wrong:
-        raise Wrong(f'{path} is none of --print: write the folder again, by --print {folder}') from wrong
+        kept = json.loads(plain_text(path))
+    except (ValueError, RecursionError) as wrong:
+        raise Wrong(f'{path} is none of --print, as it is no JSON: {wrong}') from wrong
+    if not isinstance(kept, dict):
+        raise Wrong(f'{path} is none of --print, as it is no object of JSON')
+    for word, (sort, _) in KEPT.items():
+        if word not in kept or not IS_OF[sort](kept[word]):
+            raise Wrong(f'{path} is none of --print, as {word!r} is not {sort}')
+    return kept
 
 
 def row_in(folder: str, grid: Grid, number: int) -> dict[str, str] | None:
@@ -123,13 +174,21 @@ def row_in(folder: str, grid: Grid, number: int) -> dict[str, str] | None:
         return None
     if not rows:
         return None
-    row, wanted = rows[0], {'status', *grid.link(), *grid.figures(), 'from_ns', 'scenario_sha256'}
-    if not (wanted <= set(row) and None not in row.values()):
-        return {'status': 'its row is cut'}
-    begin = {name: str(value) for name, value in grid.begin_of(number).items()}
-    if any(row[name] != begin[name] for name in ('from_ns', 'scenario_sha256')):
-        return {'status': 'its row is of another run'}
-    return {name: row[name] for name in ('status', *grid.link(), *grid.figures())}
+    titles = ['status', *grid.link(), *grid.figures(), *QUESTION]
+    if fault := fault_of(rows[0], grid, titles):
+        return {'status': f'its row {fault}'}
+    if fault := difference(rows[0], grid.begin_of(number)):
+        return {'status': f'its row is {fault}'}
+    return {name: rows[0][name] for name in titles[:-len(QUESTION)]}
+
+
+def first_program(folder: str, grid: Grid) -> str:
+    """Of which program the first row of a folder is, where none was there yet when it was written."""
+    for number in range(len(grid.points)):
+        with contextlib.suppress(FileNotFoundError):
+            for row in read_csv(os.path.join(folder, grid.name(number) + '.csv'))[:1]:
+                return (re.fullmatch('[0-9a-f]{16}', row.get('program_sha256') or '') or [''])[0]
+    return ''
 
 
 def why_none(folder: str, grid: Grid, number: int, says: str = '') -> dict[str, str]:
@@ -197,13 +256,13 @@ def answer_of(words: list[str], package: str, patience: int = PATIENCE) -> str:
     return done.stdout
 
 
-def by_slurm(tasks: int | None, folder: str | None, program: str | None) -> Runner:
-    """Runs points as a job array of Slurm's, of at most so many tasks."""
+def by_slurm(given: argparse.Namespace) -> Runner:
+    """Runs points as a job array of Slurm's, of at most as many tasks as are named."""
     def rows(grid: Grid, numbers: Sequence[int]) -> Iterator[tuple[int, dict]]:
         answer_of(['scontrol', 'ping'], 'slurm-client')
-        with job_folder(folder) as place:
-            jobs = write_jobs(grid, numbers, place, program, ())
-            count = min(len(numbers), tasks or MOST_TASKS)
+        with job_folder(given.folder) as place:
+            jobs = write_jobs(grid, numbers, given, place)
+            count = min(len(numbers), given.jobs or MOST_TASKS)
             script = os.path.join(place, 'job.sh')
             with output.written(script) as file:
                 file.write(slurm_script(place, jobs, count))
@@ -251,13 +310,13 @@ def state_of(number: str, task: int) -> str:
     return 'slurm has forgotten it'
 
 
-def by_parallel(jobs: int, hosts: str | None, folder: str | None, program: str | None) -> Runner:
+def by_parallel(given: argparse.Namespace, jobs: int, hosts: str | None) -> Runner:
     """Runs points by GNU parallel, so many side by side on each machine: this one, or those of an --sshlogin."""
     def rows(grid: Grid, numbers: Sequence[int]) -> Iterator[tuple[int, dict]]:
         logins = ['--sshlogin', hosts] if hosts else []
         compare_versions(grid, hosts)
-        with job_folder(folder) as place, tempfile.TemporaryFile() as said:
-            path = write_jobs(grid, numbers, place, program, ())
+        with job_folder(given.folder) as place, tempfile.TemporaryFile() as said:
+            path = write_jobs(grid, numbers, given, place)
             words = ['parallel', '--will-cite', '-j', str(jobs), '--retries', str(RETRIES), *logins, '-a', path]
             with subprocess.Popen(words, stdin=subprocess.DEVNULL, stdout=said, stderr=said, start_new_session=True) as process:
                 try:

@@ -16,6 +16,7 @@ from typing import NamedTuple
 from tcpsim.command_line import Refused, Wrong
 from tcpsim.engine import BUSY, LAST_ROW, EngineRun, written_table
 from tcpsim.figures import Figures
+from tcpsim.program import is_model
 from tcpsim.scenario.text import Scenario, Unreadable
 from tcpsim.scenario.units import BITS_NS, spelled_time
 from tcpsim.sweeps.columns import FROM, LINK, RUN, ShownFigure, table_loss
@@ -25,8 +26,10 @@ from tcpsim.whole_trace import BLOCK, ProgramFailed, Rest, Running, blocks, runn
 # The figures of a row where none are named. The first four are of one link, or of the whole run.
 FIGURES = ('goodput_bit_s', 'utilization', 'wait_median_ns', 'wait_p99_ns', 'loss_percent', 'timeouts', 'jain')
 OF_THE_LINK = FIGURES[1:4]
-LAST = ['from_ns', 'scenario_sha256']           # what each row ends with: from when its figures are, and of which text
-DIGITS = 16                                     # of the text's SHA-256, in hexadecimal
+# What each row ends with: the question that it answers, and how a row of another one is told from it.
+QUESTION = {'from_ns': 'from another moment on', 'scenario_sha256': 'of another scenario', 'options': 'by other options',
+            'program_sha256': 'of another program'}
+DIGITS = 16                                     # of a SHA-256, in hexadecimal
 S = 10**9
 
 
@@ -40,7 +43,16 @@ class AskedOfRun(NamedTuple):
     columns: tuple[ShownFigure, ...]
     exact: bool = False
     format: int = 1             # the number of the program's figures
+    digest: str = ''            # of the program's file
     version: str | None = None
+
+    def options(self) -> str:
+        """The options on which a row depends and of which no other column tells."""
+        return ' '.join([*(['--link', self.link] if self.link else []), *(['--exact'] if self.exact else [])])
+
+    def is_elsewhere(self) -> bool:
+        """Whether the program is another one on this machine than where the sweep began."""
+        return self.version is not None and (version_of(self.program), digest_of(self.program)) != (self.version, self.digest)
 
     def by_table(self, column: ShownFigure) -> bool:
         """Whether a column is of the table."""
@@ -76,6 +88,17 @@ def version_of(program: str) -> str:
     return done.stdout.decode('utf-8', 'replace').strip().partition('\n')[0]
 
 
+@functools.lru_cache(maxsize=None)
+def digest_of(program: str) -> str:
+    """The first digits of the SHA-256 of a program's file; of the model, which has many, with its version."""
+    try:
+        with open(program, 'rb') as file:
+            contents = file.read()
+    except OSError:
+        return ''
+    return digest(contents + version_of(program).encode() if is_model(program) else contents)
+
+
 def format_of(program: str) -> int:
     """The number of the format of a program's figures; 1 where it says none."""
     found = re.search(r'\bfigures (\d{1,6})\b', version_of(program))
@@ -106,9 +129,9 @@ class RunFrom(EngineRun):
 def row_of(text: str, asked: AskedOfRun) -> dict[str, object]:
     """The row of one run: its figures, or in `status` why there are none."""
     try:
-        if asked.version is not None and version_of(asked.program) != asked.version:
+        if asked.is_elsewhere():
             return {'status': f'{asked.program} is another here: {version_of(asked.program) or "it says no version"!r} and not '
-                              f'{asked.version!r}'}
+                              f'{asked.version!r}, {digest_of(asked.program)} and not {asked.digest}'}
         row = {'status': 'done'}
         if asked.wants_table():
             words = [asked.program, 'figures', *(['--from', spelled_time(asked.skip)] if asked.skip else [])]
@@ -209,7 +232,7 @@ class Grid:
 
     def columns(self) -> list[str]:
         """The titles of a row as CSV."""
-        return [*self.value_titles(self.settings), 'status', *self.link(), *self.figures(), *LAST]
+        return [*self.value_titles(self.settings), 'status', *self.link(), *self.figures(), *QUESTION]
 
     def value_titles(self, settings: Iterable[Setting]) -> list[str]:
         """The titles of the settings' values: the word, and behind it its numbers."""
@@ -221,16 +244,16 @@ class Grid:
         for each, value in zip(self.settings, self.points[number]):
             row[each.key] = each.label(value)
             row.update(each.numbers(value, text))
-        return {**row, 'from_ns': self.asked.skip, 'scenario_sha256': digest(text)}
+        return {**row, **dict(zip(QUESTION, (self.asked.skip, digest(text.encode('latin-1')), self.asked.options(), self.asked.digest)))}
 
     def row(self, number: int, figures: dict[str, object]) -> dict[str, str]:
         """A run's row, each value as CSV has it."""
         return {name: as_csv(value) for name, value in {**self.begin_of(number), **figures}.items()}
 
 
-def digest(text: str) -> str:
-    """The first digits of a text's SHA-256."""
-    return hashlib.sha256(text.encode('latin-1')).hexdigest()[:DIGITS]
+def digest(contents: bytes) -> str:
+    """The first digits of a SHA-256."""
+    return hashlib.sha256(contents).hexdigest()[:DIGITS]
 
 
 def as_csv(value: object) -> str:
