@@ -187,6 +187,16 @@ def test_slurm(slurm, tmp_path):
 
 
 @needs_slurm
+def test_slurm_in_folders_that_look_like_patterns(slurm, tmp_path):
+    """sbatch has % and a backslash in the names of its outputs mean something; here they are a folder's, or the current one's."""
+    for name in ('100% a%b%j', 'a\\b', "'a\\%a"):
+        folder = tmp_path / name
+        folder.mkdir()
+        is_the_same(sweep_of(folder, '--on', 'slurm', '-o', 'rows.csv', '-j', '2', env=slurm), folder)
+        is_the_same(sweep_of(tmp_path, '--on', 'slurm', '-o', 'rows.csv', '-j', '2', '--folder', folder, env=slurm), tmp_path)
+
+
+@needs_slurm
 def test_slurm_interrupted(slurm, tmp_path):
     """Ctrl-C takes the array out of the queue."""
     program = put(tmp_path, 'sleeps', f'#!/bin/sh\n[ "$1" = --version ] && exec "{PROGRAM}" --version\nexec sleep 300\n')

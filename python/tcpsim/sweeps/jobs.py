@@ -294,9 +294,11 @@ class Queued:
 
 
 def slurm_script(folder: str, jobs: str, tasks: int) -> str:
-    """The text that sbatch takes: each task of the array has every so-manieth line of `jobs`."""
+    """The text that sbatch takes: each task of the array has every so-manieth line of `jobs`. The shell names its output, since
+    sbatch reads % and a backslash in a name as a pattern."""
+    log = shlex.quote(os.path.join(folder, 'task_'))
     return ('#!/bin/sh\n#SBATCH --job-name=tcpsim-sweep\n'
-            f'#SBATCH --array=1-{tasks}\n#SBATCH --requeue\n#SBATCH --output={shlex.quote(os.path.join(folder, "task_%a.log"))}\n'
+            f'#SBATCH --array=1-{tasks}\n#SBATCH --requeue\n#SBATCH --output=/dev/null\nexec > {log}"$SLURM_ARRAY_TASK_ID".log 2>&1\n'
             f'sed -n "${{SLURM_ARRAY_TASK_ID}}~{tasks}p" {shlex.quote(jobs)} | sh\n')
 
 
