@@ -113,15 +113,15 @@ def answer_of(out: bytes, err: bytes) -> Answer:
     return Answer(*(bytes(part).decode('utf-8', 'replace') for part in (out, err)))
 
 
-def ends_with_parent() -> Callable[[], None] | None:
-    """What a process does before it becomes the program: it asks to be killed when this process ends, however that ends.
+def ends_with_parent(number: int = signal.SIGKILL) -> Callable[[], None] | None:
+    """What a process does before it becomes the program: it asks for a signal when this process ends, however that ends.
     None in a thread, with which it would end, and where the system has no such request."""
     parent, prctl = os.getpid(), getattr(ctypes.CDLL(None), 'prctl', None)
     if prctl is None or threading.current_thread() is not threading.main_thread():
         return None
 
     def ask():
-        prctl(SET_PARENT_DEATH_SIGNAL, signal.SIGKILL)
+        prctl(SET_PARENT_DEATH_SIGNAL, number)
         if os.getppid() != parent:
             os.kill(os.getpid(), signal.SIGKILL)
     return ask

@@ -1,5 +1,6 @@
 """Tests of sweeps by engines that others wrote: Slurm, dask and GNU parallel, each started on this machine and ended again. The rows
 are those of a sweep without them, none twice and none missing."""
+import contextlib
 import csv
 import functools
 import io
@@ -333,19 +334,45 @@ def test_parallel_over_hosts(tmp_path):
 
 
 @needs_parallel
-def test_parallel_interrupted(tmp_path):
-    """Ctrl-C ends its jobs too."""
+@pytest.mark.parametrize('number', [signal.SIGINT, signal.SIGKILL])
+def test_parallel_ends_with_the_sweep(number, tmp_path):
+    """Ctrl-C ends its jobs too, and so does KILL, which the sweep cannot hear."""
     program = put(tmp_path, 'sleeps', f'#!/bin/sh\n[ "$1" = --version ] && exec "{PROGRAM}" --version\necho $$ >> "$0.who"\nexec sleep 300\n')
     sweep_of(tmp_path, '--print', 'unused')
     process = subprocess.Popen([sys.executable, SWEEP, 'hand.txt', *GRID, '--program', program, '--on', 'parallel', '-j', '2'], cwd=tmp_path,
                                stdout=subprocess.PIPE, stderr=subprocess.PIPE,
                                preexec_fn=lambda: signal.signal(signal.SIGINT, signal.default_int_handler))
     until(lambda: os.path.exists(tmp_path / 'sleeps.who') and (tmp_path / 'sleeps.who').read_text().count('\n') == 2, 'no two run')
-    process.send_signal(signal.SIGINT)
+    assert len(in_folder(tmp_path)) > 4         # the sweep, GNU parallel, two jobs and what they run
+    process.send_signal(number)
     process.communicate(timeout=SOON)
-    assert process.returncode == 130
-    until(lambda: not any(os.path.exists(f'/proc/{each}') for each in (tmp_path / 'sleeps.who').read_text().split()), 'jobs run on', 20)
-    assert [name for name in os.listdir(tmp_path) if name.startswith('tcpsim-sweep-')] == []
+    assert process.returncode == (130 if number == signal.SIGINT else -number)
+    until(lambda: not in_folder(tmp_path), 'something runs on', 60)
+    assert number == signal.SIGKILL or [name for name in os.listdir(tmp_path) if name.startswith('tcpsim-sweep-')] == []
+
+
+def in_folder(folder):
+    """The processes whose current folder this is, but for those that have ended and are not yet waited for."""
+    found = []
+    for number in filter(str.isdigit, os.listdir('/proc')):
+        with contextlib.suppress(OSError):
+            if os.readlink(f'/proc/{number}/cwd') == str(folder):
+                found.append(number)
+    return found
+
+
+@needs_parallel
+def test_a_folder_that_is_no_line(tmp_path):
+    """A line feed in the current folder's name, or in that of --folder."""
+    folder = tmp_path / 'a\nb'
+    folder.mkdir()
+    done = sweep_of(folder, '--on', 'parallel')
+    assert (done.returncode, done.stdout, done.stderr.count('\n')) == (2, '', 1)
+    assert done.stderr.startswith("tcpsim-sweep: the current folder, '") and done.stderr.endswith('; --folder names another folder\n')
+    done = sweep_of(tmp_path, '--on', 'parallel', '--folder', 'a\nb')
+    assert done.returncode == 2 and done.stderr.startswith("tcpsim-sweep: --folder 'a\\nb': jobs are lines of text")
+    assert os.listdir(folder) == ['hand.txt']
+    is_the_same(sweep_of(folder, '--on', 'parallel', '--folder', tmp_path / 'd', '-o', 'rows.csv'), folder)
 
 
 # ---- words

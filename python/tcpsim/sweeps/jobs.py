@@ -24,6 +24,7 @@ from typing import BinaryIO
 from tcpsim import output
 from tcpsim.command_line import MODEL, Refused, Wrong
 from tcpsim.program import TOP, beside, is_program
+from tcpsim.prompt import ends_with_parent
 from tcpsim.scenario.units import spelled_time
 from tcpsim.sweeps.files import difference, fault_of, is_answered, plain_text, read_csv
 from tcpsim.sweeps.pool import Runner
@@ -320,7 +321,8 @@ def by_parallel(given: argparse.Namespace, jobs: int, hosts: str | None) -> Runn
         with job_folder(given.folder) as place, tempfile.TemporaryFile() as said:
             path = write_jobs(grid, numbers, given, place)
             words = ['parallel', '--will-cite', '-j', str(jobs), '--retries', str(RETRIES), *logins, '-a', path]
-            with subprocess.Popen(words, stdin=subprocess.DEVNULL, stdout=said, stderr=said, start_new_session=True) as process:
+            with subprocess.Popen(words, stdin=subprocess.DEVNULL, stdout=said, stderr=said, start_new_session=True,
+                                  preexec_fn=ends_with_parent(signal.SIGINT)) as process:
                 try:
                     yield from come(grid, numbers, place, lambda: process.poll() is None, lambda _: last_said(said, process))
                 finally:
