@@ -4,7 +4,7 @@ import subprocess
 
 from tcpsim.cli.net import scenario
 from tcpsim.engine import WAITED, EngineRun
-from tcpsim.figures import jain
+from tcpsim.fairness import jain
 from tcpsim.scenario.text import Scenario
 from tcpsim.scenario.units import spelled_time
 

@@ -8,7 +8,7 @@ from collections import namedtuple
 
 from tcpsim.cli.net import scenario
 from tcpsim.engine import WAITED, EngineRun
-from tcpsim.figures import jain
+from tcpsim.fairness import jain
 from tcpsim.scenario.net import Net, RECEIVER, SENDER
 from tcpsim.scenario.text import Scenario
 from tcpsim.scenario.units import Queue

@@ -111,6 +111,10 @@ class EngineRun:
         until = self.end if completed is None else completed
         return self.flows[number]['delivered', 'bytes'] * BITS_NS / (until - start) if start < until else None
 
+    def completed(self, number: int) -> int | None:
+        """When a flow was complete; None where it was not."""
+        return self.flows[number]['completed', 'ns']
+
     def dropped(self, number: int) -> int:
         """Packets that a link dropped."""
         return sum(value for (figure, _), value in self.links[number].items() if figure.startswith('dropped '))

@@ -14,6 +14,7 @@ from itertools import islice
 from tcpsim.cycle import Cycle, cycle_of
 from tcpsim.cycle import figures_of as cycle_figures
 from tcpsim.engine import BUSY, REASONS, WAITED, EngineRun
+from tcpsim.fairness import Goodputs, compared, jain
 from tcpsim.samples import Sample
 from tcpsim.scenario.text import Flow, Link, Scenario, Unreadable
 from tcpsim.scenario.units import BITS_NS
@@ -22,12 +23,7 @@ from tcpsim.trace import ACK, DATA, NEVER, FlowState, LinkState, Reader, Stream
 S = 10**9
 HELD = 1 << 19          # numbers that all samples together hold in memory
 PORTION = 1 << 16       # lines between two looks at how many are held
-
-
-def jain(shares: Sequence[float]) -> float | None:
-    """Jain's index of fairness: 1 where all are equal, 1/n where one has all; None where all are zero."""
-    squares = sum(share * share for share in shares)
-    return sum(shares)**2 / (len(shares) * squares) if squares else None
+COMPARED = 'compared flows', 'mice', 'flows limited by their window', 'ended flows'      # those of `fairness.Compared`
 
 
 # ---- what is counted while a trace is read
@@ -199,6 +195,16 @@ class Figures(Reader):
         self._start()
         return self._stop
 
+    # What it has of a flow, as an `EngineRun` has.
+
+    def goodput(self, number: int) -> float | None:
+        """A flow's goodput in the span, in bit/s."""
+        return self.flows[number].goodput(self.begin, self.end)
+
+    def completed(self, number: int) -> int | None:
+        """When a flow was complete; None where it was not by the span's end."""
+        return self.flows[number].completed
+
     def _start(self):
         self._started = True
         for flow in self.flows:
@@ -269,12 +275,18 @@ def figures(run: Figures, only_busy: bool = False) -> list[tuple]:
     rows = [('flow', flow.flow.name, *row) for flow in run.flows for row in flow_figures(run, flow.number, used)]
     rows += [('link', link.link.name, *row) for link in run.links if link.is_busy() or not only_busy
              for row in link_figures(run, link.number, used)]
-    shares = [flow.goodput(run.begin, run.end) for flow in run.flows]
-    rows.append(('run', '', 'Jain\'s index of goodput', 'part', jain([n for n in shares if n is not None])))
+    rows += index_figures(run)
     if run.begin != run.first:
         rows.append(('run', '', 'begin', 'ns', run.begin))
     rows.append(('run', '', 'span', 'ns', span))
     return rows
+
+
+def index_figures(run: Goodputs, chosen: Sequence[int] | None = None) -> list[tuple]:
+    """Jain's index, of how many flows it is, and which flows it leaves out."""
+    flows = compared(run, chosen)
+    return [('run', '', 'Jain\'s index of goodput', 'part', jain([run.goodput(number) for number in flows.flows])),
+            *(('run', '', title, 'flows', len(numbers)) for title, numbers in zip(COMPARED, flows))]
 
 
 # ---- with no trace
@@ -323,7 +335,6 @@ def engine_figures(run: EngineRun, only_busy: bool = False) -> list[tuple]:
             for row in engine_flow_figures(run, number, used)]
     rows += [('link', link.name, *row) for number, link in enumerate(run.scenario.links)
              if run.is_busy(number) or not only_busy for row in engine_link_figures(run, number, used)]
-    shares = [run.goodput(number) for number in range(len(run.flows))]
-    rows.append(('run', '', 'Jain\'s index of goodput', 'part', jain([n for n in shares if n is not None])))
+    rows += index_figures(run)
     rows.append(('run', '', 'span', 'ns', run.end - run.begin))
     return rows

@@ -205,7 +205,7 @@ def test_figures_are_those_of_tcpsim_flows(name, engine):
             assert ('' if found is None else f'{found:.6f}' if isinstance(found, float) else str(found)) == value, (of, figure)
             compared += 1
     assert compared > 20
-    assert f'{figures.jain:.6f}' == wanted['run', '', "Jain's index of goodput"]
+    assert ('' if figures.jain is None else f'{figures.jain:.6f}') == wanted['run', '', "Jain's index of goodput"]
 
 
 def test_records_say_what_the_lines_say(engine):
@@ -292,7 +292,7 @@ def test_frames():
 
 def test_tables_are_shown():
     figures = tcpsim.run(example('one_segment'), engine='model').figures
-    assert repr(figures).splitlines()[-1] == "5 events, span 0.003080 s, Jain's index 1.0000"
+    assert repr(figures).splitlines()[-1] == '5 events, span 0.003080 s'
     assert figures._repr_html_().count('<tr>') == 5
 
 

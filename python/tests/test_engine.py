@@ -146,7 +146,7 @@ class TestCommand(Files):
         assert lines[1].split() == 'f 10,000 0.027 a 17 2 0 7 3.080 3.080 3.080 3.080 3.015440 3.015440'.split()
         assert lines[3].split()[-7:] == 'dropped as lost as full by CoDel loss %'.split()[-7:]
         assert lines[4].split() == 'a 0.4 3 0.00 1.049 3.120 3.120 5 5 0 0 29.41'.split()
-        assert lines[-2:] == ['Jain\'s index of goodput: 1.0000', 'span: 3.017520 s']
+        assert lines[-2:] == ['Jain\'s index of goodput: -, of none of 1 flow (without 1 that ended)', 'span: 3.017520 s']
 
     def test_texts_images_and_standard_input(self):
         with open(self.scenario, encoding='ascii') as file:

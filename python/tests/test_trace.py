@@ -36,7 +36,8 @@ import pytest
 from clone import BIN, TOP, Folder
 
 from tcpsim.cli.flows import table
-from tcpsim.figures import Figures, jain
+from tcpsim.fairness import jain
+from tcpsim.figures import Figures
 from tcpsim.samples import percentile
 from tcpsim.figures import figures as trace_figures
 from tcpsim.curves import Run

@@ -12,7 +12,8 @@ from typing import TYPE_CHECKING, Generic, TypeVar
 
 from tcpsim.api.errors import wanted
 from tcpsim.engine import BUSY, WAITED, EngineRun
-from tcpsim.figures import jain
+from tcpsim.fairness import compared, jain
+from tcpsim.fairness import in_words as of_flows
 from tcpsim.output import aligned
 
 if TYPE_CHECKING:
@@ -152,11 +153,13 @@ class Results:
     """
 
     def __init__(self, run: EngineRun):
-        self._run = run
         used = [run.over_span(number, BUSY) for number in range(len(run.links))]
         self.flows: Table[FlowResult] = Table([flow_result(run, n, used) for n in range(len(run.flows))], FLOW_COLUMNS)
         links = [link_result(run, n, used) for n in range(len(run.links))]
         self.links: Table[LinkResult] = Table(links, (*LINK_COLUMNS, *drop_columns(links)))
+        flows = compared(run)
+        self._counts = [len(numbers) for numbers in flows]
+        self.compared, self.mice, self.limited, self.ended = (tuple(self.flows[number].name for number in numbers) for numbers in flows)
         self.events: int = run.events
         self.begin_ns: int = run.begin
         self.end_ns: int = run.end
@@ -168,8 +171,12 @@ class Results:
 
     @property
     def jain(self) -> float | None:
-        """Jain's index of the flows' goodputs: 1 where all are equal, 1/n where one of n has all."""
-        return jain([flow.goodput for flow in self.flows.values() if flow.goodput is not None])
+        """Jain's index of the goodputs of the flows that are `compared`: 1 where all are equal, 1/n where one of n has all."""
+        return self.jain_of(*self.compared)
+
+    def jain_of(self, *names: str) -> float | None:
+        """Jain's index of these flows, whichever they are."""
+        return jain([goodput for name in names if (goodput := self.flows[name].goodput) is not None])
 
     def to_pandas(self) -> DataFrame:
         """A pandas DataFrame with a row for each figure: what (flow, link or run), name, figure, value. The frames of
@@ -180,7 +187,7 @@ class Results:
         return wanted('pandas').DataFrame(rows, columns=['what', 'name', 'figure', 'value'])
 
     def _last_line(self) -> str:
-        fair = '' if self.jain is None else f', Jain\'s index {self.jain:.4f}'
+        fair = '' if self.jain is None else f', Jain\'s index {self.jain:.4f}, {of_flows(self._counts)}'
         return f'{self.events:,} events, span {self.span_ns / 1e9:.6f} s{fair}'
 
     def __repr__(self) -> str:

@@ -21,6 +21,7 @@ from tcpsim import output
 from tcpsim.command_line import Words, as_type
 from tcpsim.cycle import words_of as words_of_cycle
 from tcpsim.engine import engine_run
+from tcpsim.fairness import in_words as of_flows
 from tcpsim.figures import S, Figures, cycles, engine_figures, figures
 from tcpsim.output import Output, aligned
 from tcpsim.scenario import units
@@ -76,10 +77,10 @@ def table(rows: list, columns_of: dict[str, tuple] = TRACE_COLUMNS) -> list[str]
     losses = [[name, figure, f'{value:,}'] for what, name, figure, _, value in rows
               if what == 'flow' and ' dropped as ' in figure]
     lines += (aligned([['flow', 'lost', 'packets']] + losses) + ['']) if losses else []
-    for what, _, figure, unit, value in rows:
-        if what == 'run':
-            lines.append(f'{figure}: {value / S:.6f} s' if unit == 'ns' else f'{figure}: {shown("{:.4f}", 1, value)}')
-    return lines
+    of_run = {figure: (unit, value) for what, _, figure, unit, value in rows if what == 'run'}
+    counts = [value for unit, value in of_run.values() if unit == 'flows']
+    lines += [f'{figure}: {shown("{:.4f}", 1, value)}, {of_flows(counts)}' for figure, (unit, value) in of_run.items() if unit == 'part']
+    return lines + [f'{figure}: {value / S:.6f} s' for figure, (unit, value) in of_run.items() if unit == 'ns']
 
 
 def write_csv(rows: list, file: Output) -> None:

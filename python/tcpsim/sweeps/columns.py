@@ -10,7 +10,8 @@ from typing import NamedTuple, Optional
 
 from tcpsim.command_line import Wrong
 from tcpsim.engine import BUSY, WAITED, EngineRun
-from tcpsim.figures import Figures, jain, part
+from tcpsim.fairness import compared, index, jain
+from tcpsim.figures import Figures, part
 from tcpsim.scenario.text import Scenario
 from tcpsim.scenario.units import BITS_NS
 from tcpsim.sweeps.pattern import Pattern
@@ -21,18 +22,18 @@ FROM = 3                # the number of the figures' format from which on they a
 # How a table for people shows a unit: its title, what it is divided by, and the digits of a value and of a mean.
 SHOWN = {'bit_s': ('Mbit/s', 1e6, 3, 3), 'percent': ('%', 1, 2, 2), 'ns': ('ms', 1e6, 1, 1), 'bytes': ('kB', 1e3, 1, 1),
          'packets': ('', 1, 0, 1), 'segments': ('', 1, 0, 1), 'times': ('', 1, 0, 1), 'events': ('', 1, 0, 0),
-         'mean_packets': ('', 1, 1, 1), 'index': ('', 1, 3, 3)}
-WORDLESS = 'times', 'events', 'index', 'packets', 'segments', 'mean_packets'       # units that a column's title leaves out
+         'mean_packets': ('', 1, 1, 1), 'index': ('', 1, 3, 3), 'flows': ('', 1, 0, 1)}
+WORDLESS = 'times', 'events', 'index', 'packets', 'segments', 'mean_packets', 'flows'      # units that a column's title leaves out
 
 
 class Quantity(NamedTuple):
     """A figure of a flow, a link or the run. It is read from the program's table, of whose format it wants this number, or
-    from a trace; None where one of them lacks it. A figure that `adds` can be summed over flows or links."""
+    from a trace; None where one of them lacks it. `joins` gives that of several flows or links, as a sum."""
 
     unit: str
     table: Callable[[EngineRun, int], Count] | None
     trace: Callable[[Figures, int], Count] | None
-    adds: bool = False
+    joins: Callable[[list], Count] | None = None
     since: int = 1
 
 
@@ -90,14 +91,15 @@ def took(start: int, completed: int | None) -> int | None:
 
 
 FLOW = {
-    'goodput': Quantity('bit_s', lambda run, n: run.goodput(n), lambda run, n: run.flows[n].goodput(run.begin, run.end), True),
-    'delivered': Quantity('bytes', of_flow(('delivered', 'bytes')), lambda run, n: run.flows[n].delivered(), True),
-    'sent': Quantity('segments', of_flow(('sent', 'segments')), lambda run, n: run.flows[n].sent(), True),
+    'goodput': Quantity('bit_s', lambda run, n: run.goodput(n), lambda run, n: run.goodput(n), sum),
+    'jain': Quantity('index', lambda run, n: run.goodput(n), lambda run, n: run.goodput(n), jain),
+    'delivered': Quantity('bytes', of_flow(('delivered', 'bytes')), lambda run, n: run.flows[n].delivered(), sum),
+    'sent': Quantity('segments', of_flow(('sent', 'segments')), lambda run, n: run.flows[n].sent(), sum),
     'fast_retransmits': Quantity('segments', of_flow(('sent again by fast retransmit', 'segments')),
-                               lambda run, n: run.flows[n].by_fast_retransmit, True),
+                               lambda run, n: run.flows[n].by_fast_retransmit, sum),
     'timeout_retransmits': Quantity('segments', of_flow(('sent again by timeout', 'segments')),
-                                  lambda run, n: run.flows[n].by_timeout, True),
-    'timeouts': Quantity('times', of_flow(('timeouts', 'times')), lambda run, n: run.flows[n].timeouts, True),
+                                  lambda run, n: run.flows[n].by_timeout, sum),
+    'timeouts': Quantity('times', of_flow(('timeouts', 'times')), lambda run, n: run.flows[n].timeouts, sum),
     'took': Quantity('ns', lambda run, n: took(run.flows[n]['start', 'ns'], run.flows[n]['completed', 'ns']),
                    lambda run, n: took(run.flows[n].flow.start, run.flows[n].completed)),
     'completed': Quantity('ns', of_flow(('completed', 'ns')), lambda run, n: run.flows[n].completed),
@@ -122,23 +124,23 @@ LINK = {
     'queue_mean': Quantity('mean_packets', lambda run, n: run.over_span(n, WAITED),
                          lambda run, n: run.links[n].mean_queue(run.begin, run.end)),
     'queue_max': Quantity('packets', of_link(('greatest queue', 'packets')), lambda run, n: run.links[n].greatest),
-    'sent': Quantity('packets', of_link(('sent packets', 'packets'), ('sent', 'packets')), lambda run, n: run.links[n].sent(), True),
+    'sent': Quantity('packets', of_link(('sent packets', 'packets'), ('sent', 'packets')), lambda run, n: run.links[n].sent(), sum),
     'bytes': Quantity('bytes', of_link(('sent bytes', 'bytes'), ('sent', 'bytes')),
-                    lambda run, n: sum(count * stream.size for stream, count in run.links[n].count.items()), True),
-    'dropped': Quantity('packets', lambda run, n: run.dropped(n), lambda run, n: run.links[n].drops, True),
-    'lost': Quantity('packets', of_link(('dropped as lost', 'packets')), dropped_for('lost'), True),
-    'full': Quantity('packets', of_link(('dropped as full', 'packets')), dropped_for('full'), True),
-    'codel': Quantity('packets', of_link(('dropped by CoDel', 'packets')), dropped_for('codel'), True),
+                    lambda run, n: sum(count * stream.size for stream, count in run.links[n].count.items()), sum),
+    'dropped': Quantity('packets', lambda run, n: run.dropped(n), lambda run, n: run.links[n].drops, sum),
+    'lost': Quantity('packets', of_link(('dropped as lost', 'packets')), dropped_for('lost'), sum),
+    'full': Quantity('packets', of_link(('dropped as full', 'packets')), dropped_for('full'), sum),
+    'codel': Quantity('packets', of_link(('dropped by CoDel', 'packets')), dropped_for('codel'), sum),
     'loss': Quantity('percent', lambda run, n: percent(part(run.dropped(n), run.dropped(n) + FIGURE_SENT(run, n))),
                    lambda run, n: percent(part(run.links[n].drops, run.links[n].drops + run.links[n].sent()))),
 }
 FIGURE_SENT = LINK['sent'].table
 
 
-def shares(run: EngineRun | Figures) -> list[float]:
-    """The flows' goodputs, of those that were under way."""
-    every = [run.flows[n].goodput(run.begin, run.end) if isinstance(run, Figures) else run.goodput(n) for n in range(len(run.flows))]
-    return [each for each in every if each is not None]
+def timeouts(run: EngineRun | Figures, of_mice: bool) -> int:
+    """The timeouts of all mice, or of all other flows."""
+    read, mice = FLOW['timeouts'].trace if isinstance(run, Figures) else FLOW['timeouts'].table, compared(run).mice
+    return sum(read(run, number) for number in range(len(run.flows)) if (number in mice) == of_mice)
 
 
 def table_loss(run: EngineRun, _number: int) -> Count:
@@ -150,9 +152,10 @@ def table_loss(run: EngineRun, _number: int) -> Count:
 RUN = {
     'goodput': Quantity('bit_s', lambda run, _: sum(flow['delivered', 'bytes'] for flow in run.flows) * BITS_NS / (run.end - run.begin),
                       lambda run, _: sum(flow.delivered() for flow in run.flows) * BITS_NS / (run.end - run.begin)),
-    'jain': Quantity('index', lambda run, _: jain(shares(run)), lambda run, _: jain(shares(run))),
-    'timeouts': Quantity('times', lambda run, _: sum(flow['timeouts', 'times'] for flow in run.flows),
-                       lambda run, _: sum(flow.timeouts for flow in run.flows)),
+    'jain': Quantity('index', lambda run, _: index(run), lambda run, _: index(run)),
+    'jain_flows': Quantity('flows', lambda run, _: len(compared(run).flows), lambda run, _: len(compared(run).flows)),
+    'timeouts': Quantity('times', lambda run, _: timeouts(run, False), lambda run, _: timeouts(run, False)),
+    'mice_timeouts': Quantity('times', lambda run, _: timeouts(run, True), lambda run, _: timeouts(run, True)),
     'loss': Quantity('percent', None, lambda run, _: percent(part(sum(data_lost(run, n) for n in range(len(run.flows))),
                                                                 sum(flow.sent() for flow in run.flows)))),
     'events': Quantity('events', lambda run, _: run.events, None),
@@ -194,7 +197,7 @@ class ShownFigure(NamedTuple):
             return read(run, 0)
         there = [each.name for each in (scenario.flows if self.sort == 'flow' else scenario.links)]
         values = [read(run, there.index(name)) for name in self.names]
-        return None if None in values else sum(values)
+        return None if None in values else self.figure.joins(values) if self.figure.joins else values[0]
 
 
 def columns_of(words: str, pattern: Pattern) -> list[ShownFigure]:
@@ -210,6 +213,9 @@ def named(word: str, pattern: Pattern) -> Iterator[ShownFigure]:
     of, dot, figure = word.rpartition('.')
     if not dot or not of or not figure:
         raise Wrong(f'--show {word!r}: write FLOW.FIGURE, LINK.FIGURE or run.FIGURE, as {example(pattern)}')
+    if word == '*.jain':
+        yield ShownFigure(word, 'flow', tuple(pattern.named('flow')))
+        return
     if of == '*':
         there = [(sort, name) for sort in ('flow', 'link') if figure in SORTS[sort] for name in pattern.named(sort)]
         if not there:
@@ -227,9 +233,9 @@ def named(word: str, pattern: Pattern) -> Iterator[ShownFigure]:
     sort, = sorts
     if figure not in SORTS[sort]:
         raise Wrong(f'--show {word!r}: there is no figure {figure!r}; {offered(sort)}')
-    if len(names) > 1 and not SORTS[sort][figure].adds:
+    if len(names) > 1 and not SORTS[sort][figure].joins:
         raise Wrong(f'--show {word!r}: {figure} does not add up; sums are of '
-                    f'{", ".join(key for key, its in SORTS[sort].items() if its.adds)}, as {example(pattern, 2)}')
+                    f'{", ".join(key for key, its in SORTS[sort].items() if its.joins is sum)}, as {example(pattern, 2)}')
     yield ShownFigure(word, sort, names)
 
 
