@@ -5,8 +5,11 @@ nanoseconds, all sizes bytes.
 """
 from __future__ import annotations
 
+from collections.abc import Callable
+from functools import partial
+
 from tcpsim.command_line import MODEL
-from tcpsim.program import find_program
+from tcpsim.program import find_program, is_model
 from tcpsim.scenario.text import Scenario, Unreadable
 from tcpsim.scenario.units import BITS_NS, HEADER_BYTES
 from tcpsim.whole_trace import BLOCK, ProgramFailed, Running, naming, running, scenario_bytes, scenario_text
@@ -15,6 +18,7 @@ LONGEST_TABLE = 1 << 26         # bytes
 HEADING = 'what,number,figure,unit,value'
 BUSY, WAITED = ('busy', 'ns'), ('waited', 'packet-ns')
 LAST_ROW = 'run,,end,ns,'
+PORTIONS = 30           # of a run's span, for each of which it is told what each flow delivered
 # The figures that a table has (docs/FORMATS.md), and whether there may be none.
 OF_A_FLOW = {('start', 'ns'): False, ('delivered', 'bytes'): False, ('completed', 'ns'): True, ('sent', 'segments'): False,
              ('sent again by fast retransmit', 'segments'): False, ('sent again by timeout', 'segments'): False,
@@ -30,9 +34,8 @@ OF_THE_RUN = {('events', 'events'): False, ('end', 'ns'): False}
 REASONS = ('dropped as lost', 'dropped as full', 'dropped by CoDel')
 
 
-def table_of(source: bytes, program: str | None = None) -> str:
-    """The table of a scenario's bytes, as the program writes it."""
-    path = find_program(program, lambda: [scenario_text(source, 'the scenario', MODEL)])
+def table_of(source: bytes, path: str) -> str:
+    """The table of a scenario's bytes, as the program of this path writes it."""
     try:
         with running([path, 'figures'], source) as process:
             return written_table(process)
@@ -54,6 +57,25 @@ def written_table(process: Running) -> str:
     if not blocks:
         raise Unreadable('the program wrote nothing: no table of figures')
     return b''.join(blocks).decode('ascii', 'replace')
+
+
+def portions_of(path: str, source: bytes, first: Callable[[], None] | None, run: EngineRun) -> list[list[int]]:
+    """What each flow delivers in each of the PORTIONS of a run's span, of a further run by the program of this path, whose process
+    does `first` before; none where the program is older than its option, or the span too short."""
+    step, found = (run.end - run.begin) // PORTIONS, [[0] * len(run.flows) for _ in range(PORTIONS)]
+    if not step:
+        return []
+    try:
+        with running([path, 'figures', f'--from={run.begin}', f'--every={step}', '--series'], source, first) as process:
+            rest = b''
+            while block := process.read(BLOCK):
+                *lines, rest = (rest + block).split(b'\n')
+                for time, _, number, _, _, value in (line.split(b',') for line in lines if b',delivered,' in line):
+                    found[min((int(time) - run.begin) // step, PORTIONS - 1)][int(number)] += int(value)
+            process.check()
+    except ProgramFailed:
+        return []
+    return found
 
 
 def read_table(table: str) -> dict:
@@ -90,7 +112,8 @@ class EngineRun:
     The span is that of figures.py: from the first flow's start to the last event where every flow is complete, else to
     the scenario's end."""
 
-    def __init__(self, scenario: Scenario, table: str):
+    def __init__(self, scenario: Scenario, table: str, portions: Callable[[EngineRun], list[list[int]]] | None = None):
+        self._portions = portions
         values = read_table(table)
         self.flows = [figures_of(values, ('flow', str(n)), OF_A_FLOW) for n in range(len(scenario.flows))]
         self.links = [figures_of(values, ('link', str(n)), OF_A_LINK) for n in range(len(scenario.links))]
@@ -114,6 +137,10 @@ class EngineRun:
     def completed(self, number: int) -> int | None:
         """When a flow was complete; None where it was not."""
         return self.flows[number]['completed', 'ns']
+
+    def portions(self) -> list[list[int]]:
+        """What each flow delivered in each of the span's PORTIONS; none where it is not told."""
+        return self._portions(self) if self._portions else []
 
     def dropped(self, number: int) -> int:
         """Packets that a link dropped."""
@@ -153,5 +180,7 @@ def engine_run(path: str, program: str | None = None) -> EngineRun:
     """The figures of a scenario's file, a text or an image (`-`: standard input)."""
     source = scenario_bytes(path)
     with naming(path, source=source):
+        program = find_program(program, lambda: [scenario_text(source, 'the scenario', MODEL)])
         table = table_of(source, program)
-        return EngineRun(Scenario(scenario_text(source, path, program)), table)
+        portions = None if is_model(program) else partial(portions_of, program, source, None)
+        return EngineRun(Scenario(scenario_text(source, path, program)), table, portions)

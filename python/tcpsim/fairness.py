@@ -92,11 +92,15 @@ def can_fill(scenario: Scenario, flows: Iterable[int]) -> list[int]:
 
 def asked(scenario: Scenario, number: int) -> float:
     """The most that a flow asks for, with headers: its receiver's window in each least round trip."""
+    return window(scenario, number) * (scenario.flows[number].mss + HEADER_BYTES) * BITS_NS / least_trip(scenario, number)
+
+
+def least_trip(scenario: Scenario, number: int) -> int:
+    """The round trip of a flow's segment and its acknowledgement where no packet waits, in ns."""
     (there, back), links = scenario.ways[number], scenario.links
     packet = scenario.flows[number].mss + HEADER_BYTES
-    trip = sum(links[link].delay - -size * BITS_NS // links[link].rate
+    return sum(links[link].delay - -size * BITS_NS // links[link].rate
                for way, size in ((there, packet), (back, HEADER_BYTES)) for link in way)
-    return window(scenario, number) * packet * BITS_NS / trip
 
 
 def window(scenario: Scenario, number: int) -> int:

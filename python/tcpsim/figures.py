@@ -13,7 +13,7 @@ from itertools import islice
 
 from tcpsim.cycle import Cycle, cycle_of
 from tcpsim.cycle import figures_of as cycle_figures
-from tcpsim.engine import BUSY, REASONS, WAITED, EngineRun
+from tcpsim.engine import BUSY, PORTIONS, REASONS, WAITED, EngineRun
 from tcpsim.fairness import Goodputs, compared, jain
 from tcpsim.samples import Sample
 from tcpsim.scenario.text import Flow, Link, Scenario, Unreadable
@@ -155,6 +155,7 @@ class Figures(Reader):
         self.begin, self.end = self.first if begin is None else begin, end
         self._stop = NEVER if end is None else end
         self._due, self._started = self.begin, False
+        self._delivered: list[list[int]] = []       # by each flow, up to the end of each portion but the last
         self._read_all(lines)
 
     def _read_all(self, lines):
@@ -191,9 +192,22 @@ class Figures(Reader):
         return self._due
 
     def _passed(self, _moment):
-        """Begins the span; answers the next moment."""
-        self._start()
-        return self._stop
+        """Begins the span, or ends a portion; answers the next moment."""
+        if self._started:
+            self._delivered.append([flow.delivered() for flow in self.flows])
+        else:
+            self._start()
+        ended = len(self._delivered) + 1
+        return self._stop if ended == PORTIONS else min(self._stop, self.begin + ended * (self._last_moment() - self.begin) // PORTIONS)
+
+    def _last_moment(self):
+        """The span's end where flows go on to it."""
+        return min(self._stop, self.scenario.end)
+
+    def portions(self) -> list[list[int]]:
+        """What each flow delivered in each of the span's PORTIONS; of a span that ends with the last flow less."""
+        sums = [[0] * len(self.flows), *self._delivered, [flow.delivered() for flow in self.flows]]
+        return [[after - before for before, after in zip(*both)] for both in zip(sums, sums[1:])]
 
     # What it has of a flow, as an `EngineRun` has.
 

@@ -273,8 +273,8 @@ def test_outputs_and_pictures():
     shown = [(command, output) for command, output in zip(blocks, blocks[1:])
              if command.startswith('bin/tcpsim-sweep ') and ' Mbit/s' in output]
     assert len(shown) >= 2
-    net, = (block for block in blocks if block.startswith('bin/tcpsim-net '))
-    subprocess.run(['sh', '-c', net.replace('/tmp/', DIR.name + '/')], cwd=TOP, check=True)
+    for net in (block for block in blocks if block.startswith('bin/tcpsim-net ')):
+        subprocess.run(['sh', '-c', net.replace('/tmp/', DIR.name + '/')], cwd=TOP, check=True)
     pictures = []
     for line, output in shown:
         words = shlex.split(line.replace('\\\n', '').replace('/tmp/', DIR.name + '/'))[1:]

@@ -8,7 +8,7 @@ from dataclasses import dataclass
 
 from tcpsim.api.errors import Error, as_raised, refusal
 from tcpsim.command_line import MODEL, Wrong
-from tcpsim.engine import written_table
+from tcpsim.engine import EngineRun, portions_of, written_table
 from tcpsim.program import NoProgram, check_time, find_program, found, is_model, is_program
 from tcpsim.prompt import ends_with_parent
 from tcpsim.scenario.text import Scenario
@@ -37,6 +37,10 @@ class Engine:
                 return written_table(process)
         except ProgramFailed as wrong:
             raise as_raised(wrong) from None
+
+    def portions(self, text: str, run: EngineRun) -> list[list[int]]:
+        """What each flow of a scenario's run delivered in each of the portions of its span."""
+        return portions_of(self.path, text.encode(), ends_with_parent(), run)
 
     @contextlib.contextmanager
     def trace(self, text: str, scenario: Scenario, keep: Callable = lambda read: read) -> Iterator[Iterator[list[str]]]:

@@ -5,6 +5,7 @@ above the exact ones, and round trips are those that the sender timed (RFC 6298 
 """
 from __future__ import annotations
 
+import functools
 import html
 from collections.abc import Callable, Iterator, Mapping
 from dataclasses import dataclass, fields
@@ -15,6 +16,7 @@ from tcpsim.engine import BUSY, WAITED, EngineRun
 from tcpsim.fairness import compared, jain
 from tcpsim.fairness import in_words as of_flows
 from tcpsim.output import aligned
+from tcpsim.settled import too_short
 
 if TYPE_CHECKING:
     from pandas import DataFrame
@@ -157,12 +159,17 @@ class Results:
         self.flows: Table[FlowResult] = Table([flow_result(run, n, used) for n in range(len(run.flows))], FLOW_COLUMNS)
         links = [link_result(run, n, used) for n in range(len(run.links))]
         self.links: Table[LinkResult] = Table(links, (*LINK_COLUMNS, *drop_columns(links)))
-        flows = compared(run)
+        self._run, flows = run, compared(run)
         self._counts = [len(numbers) for numbers in flows]
         self.compared, self.mice, self.limited, self.ended = (tuple(self.flows[number].name for number in numbers) for numbers in flows)
         self.events: int = run.events
         self.begin_ns: int = run.begin
         self.end_ns: int = run.end
+
+    @functools.cached_property
+    def too_short(self) -> tuple[str, ...]:
+        """Why the run is too short for its figures, and what would do; empty where it is not. The program runs a second time."""
+        return tuple(too_short(self._run))
 
     @property
     def span_ns(self) -> int:
@@ -186,16 +193,16 @@ class Results:
         rows += [('run', '', figure, getattr(self, figure)) for figure in ('events', 'begin_ns', 'end_ns', 'jain')]
         return wanted('pandas').DataFrame(rows, columns=['what', 'name', 'figure', 'value'])
 
-    def _last_line(self) -> str:
+    def _last_lines(self) -> list[str]:
         fair = '' if self.jain is None else f', Jain\'s index {self.jain:.4f}, {of_flows(self._counts)}'
-        return f'{self.events:,} events, span {self.span_ns / 1e9:.6f} s{fair}'
+        return [f'{self.events:,} events, span {self.span_ns / 1e9:.6f} s{fair}', *self.too_short]
 
     def __repr__(self) -> str:
         links = self.links.shown(is_used)
-        return '\n'.join([repr(self.flows), *aligned(links), self._last_line()])
+        return '\n'.join([repr(self.flows), *aligned(links), *self._last_lines()])
 
     def _repr_html_(self) -> str:
-        return f'{self.flows._repr_html_()}{html_table(self.links.shown(is_used))}<p>{html.escape(self._last_line())}</p>'
+        return f'{self.flows._repr_html_()}{html_table(self.links.shown(is_used))}<p>{html.escape(" ".join(self._last_lines()))}</p>'
 
 
 class Stalls(list):

@@ -133,7 +133,8 @@ class Simulation:
     def figures(self) -> Results:
         """The figures of each flow, each link and the run."""
         table = self._own.table() if self._own else self._engine.table(self.scenario.text)
-        return Results(EngineRun(self._parsed(), table))
+        portions = functools.partial(self._engine.portions, self.scenario.text) if self.engine == 'program' else None
+        return Results(EngineRun(self._parsed(), table, portions))
 
     def series(self, step: str | int, begin: str | int | None = None, end: str | int | None = None) -> TimeSeries:
         """The run by time, a row for each step, as '10ms', from `begin` to `end`: each flow's window and goodput, each

@@ -26,6 +26,7 @@ from tcpsim.figures import S, Figures, cycles, engine_figures, figures
 from tcpsim.output import Output, aligned
 from tcpsim.scenario import units
 from tcpsim.series import Rows
+from tcpsim.settled import too_short
 from tcpsim.whole_trace import inputs_of, opened_run
 
 TRACE_COLUMNS = {
@@ -146,14 +147,14 @@ def write(given: argparse.Namespace, file: Output) -> None:
     if given.series is not None:
         write_series(run_of(given), file, given.busy)
         return
-    run = None if given.engine else run_of(given)
-    rows = figures(run, given.busy) if run else engine_figures(engine_run(given.scenario, given.program), given.busy)
+    run = engine_run(given.scenario, given.program) if given.engine else run_of(given)
+    rows = (engine_figures if given.engine else figures)(run, given.busy)
     if given.csv:
         write_csv(rows, file)
     else:
         print('\n'.join(table(rows, ENGINE_COLUMNS if given.engine else TRACE_COLUMNS)), file=file)
-        for cycle in cycles(run) if run else ():
-            print(words_of_cycle(cycle), file=file)
+        for words in [*map(words_of_cycle, [] if given.engine else cycles(run)), *too_short(run)]:
+            print(words, file=file)
 
 
 def main() -> None:

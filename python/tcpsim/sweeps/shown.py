@@ -3,7 +3,10 @@ from __future__ import annotations
 
 from collections.abc import Sequence
 
+from tcpsim.fairness import can_fill
 from tcpsim.output import aligned
+from tcpsim.scenario.text import Scenario
+from tcpsim.settled import can_end, has_long_tooth, longest_tooth
 from tcpsim.sweeps.columns import SHOWN
 from tcpsim.sweeps.means import Averaged, Mean
 from tcpsim.sweeps.pattern import Setting
@@ -50,7 +53,25 @@ def table(grid: Grid, rows: list) -> list[str]:
     if not keys:
         titles, lines = ['run', *titles], [['1', *words] for words in lines]
     head = fixed + heads(grid, links)
-    return [', '.join(head)] * bool(head) + aligned([titles, *lines]) + refused
+    return [', '.join(head)] * bool(head) + aligned([titles, *lines]) + refused + too_short(grid)
+
+
+def too_short(grid: Grid) -> list[str]:
+    """A sentence on the choice of values whose run is shortest beside a tooth of its flows' sawtooth, where any is too short. Of
+    flows that can end in their run no teeth are told."""
+    found, choices = [], range(0, len(grid.points), grid.replicates)
+    for number in choices:
+        scenario = Scenario(grid.text(number))
+        begin = max(grid.asked.skip, min(flow.start for flow in scenario.flows))
+        on = [at for at, flow in enumerate(scenario.flows) if not can_end(scenario, at)]
+        flows = can_fill(scenario, on)
+        if begin < scenario.end and (words := has_long_tooth(scenario, begin, scenario.end, flows)):
+            found.append((longest_tooth(scenario, flows)[0] / (scenario.end - begin), number, words))
+    if not found:
+        return []
+    _, number, words = max(found)
+    chosen = ' '.join(f'{each.key}={grid.labels(number)[each.key]}' for each in grid.chosen)
+    return [words + f' {len(found)} of {len(choices)} settings are too short, most of all {chosen}.' * (len(choices) > 1)]
 
 
 def in_words(value: str | None, scale: float, digits: int) -> str:
@@ -75,7 +96,7 @@ def mean_table(grid: Grid, means: Sequence[Averaged], pairs: Sequence[Averaged] 
     said = [' '.join(f'{key}={each.values[key]}' for key in keys) + f': {each.status}' for each in every if each.status != 'done']
     links = {each.link for each in means if each.link}
     head = [*fixed, *heads(grid, links), *([f'means over {over}, ± 95 %'] if over else [])]
-    return [', '.join(head)] * bool(head) + aligned([titles, *lines]) + said
+    return [', '.join(head)] * bool(head) + aligned([titles, *lines]) + said + (too_short(grid) if means else [])
 
 
 def mean_in_words(mean: Mean, runs: int, scale: float, digits: int) -> str:

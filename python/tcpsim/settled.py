@@ -1,0 +1,86 @@
+"""Whether a run is too short for its figures, and what would do (docs/SWEEPS.md, "Runs that are too short").
+
+Nothing but Python's standard library. All times are nanoseconds, rates bit/s.
+"""
+from __future__ import annotations
+
+import statistics
+from collections.abc import Sequence
+
+from tcpsim.engine import PORTIONS, EngineRun
+from tcpsim.fairness import compared, least_trip, window
+from tcpsim.figures import Figures
+from tcpsim.scenario.text import Scenario
+from tcpsim.scenario.units import BITS_NS, HEADER_BYTES, spelled_time
+from tcpsim.sweeps.means import student
+
+LEAST = .02             # a difference of less than this part of the goodput is none
+TEETH = 5               # so many make a mean
+THIRD = PORTIONS // 3
+
+
+def tooth(scenario: Scenario, number: int, flows: Sequence[int]) -> float:
+    """How long a tooth of a flow's sawtooth takes, beside these flows; 0 where its receiver's window cuts the teeth off.
+
+    In congestion avoidance the window grows by a segment in a round trip, or in two where acknowledgements are delayed, from half
+    of what the flow's part of the path and the queue holds to all of it (RFC 5681 section 3.1). CoDel's queue holds what waits for
+    the target. The round trip grows with the queue: its mean is that of both ends. One more is that of the recovery.
+    """
+    flow, (there, _), links = scenario.flows[number], scenario.ways[number], scenario.links
+    beside = {link: sum(link in scenario.ways[other][0] for other in flows) for link in there}
+    slowest = min(there, key=lambda link: links[link].rate / beside[link])
+    link, trip = links[slowest], least_trip(scenario, number)
+    duration = (flow.mss + HEADER_BYTES) * BITS_NS / link.rate
+    most = (trip + (link.target if link.queue == 'codel' else link.capacity * duration)) / duration / beside[slowest]
+    if window(scenario, number) < most:
+        return 0
+    trips = [max(trip, beside[slowest] * segments * duration) for segments in (most / 2, most)]
+    return ((2 if flow.delack else 1) * most / 2 + 1) * statistics.fmean(trips)
+
+
+def longest_tooth(scenario: Scenario, flows: Sequence[int]) -> tuple[float, str]:
+    """The longest tooth of these flows, and whose it is."""
+    return max(((tooth(scenario, number, flows), scenario.flows[number].name) for number in flows), default=(0, ''))
+
+
+def rounded(time: float) -> str:
+    """A time in words, up to two digits and upwards."""
+    step = 10**max(0, len(str(int(time))) - 2)
+    return spelled_time(int(-(-time // step)) * step)
+
+
+def can_end(scenario: Scenario, number: int) -> bool:
+    """Whether a flow can be complete before the scenario's end, at the rate of its slowest link."""
+    flow, rate = scenario.flows[number], min(scenario.links[link].rate for link in scenario.ways[number][0])
+    return flow.segments * (flow.mss + HEADER_BYTES) * BITS_NS < rate * (scenario.end - flow.start)
+
+
+def has_long_tooth(scenario: Scenario, begin: int, end: int, flows: Sequence[int]) -> str | None:
+    """A sentence on these flows' longest tooth, where a run from `begin` to `end` is shorter."""
+    length, name = longest_tooth(scenario, flows)
+    if length <= end - begin:
+        return None
+    return (f'Too short: a tooth of {name}\'s sawtooth takes about {rounded(length)}, and figures are of {spelled_time(end - begin)}. '
+            f'For {TEETH} teeth count from {rounded(begin + length)} on, to an end of {rounded(begin + (1 + TEETH) * length)}.')
+
+
+def has_changed(run: Figures | EngineRun, flows: Sequence[int]) -> str | None:
+    """A sentence on the goodput of these flows, where that of the span's last third differs from the first's by more than the 95 %
+    interval of the difference."""
+    span, portions = run.end - run.begin, run.portions() if flows else ()
+    if len(portions) < PORTIONS:
+        return None
+    goodputs = [sum(portion[number] for number in flows) * PORTIONS * BITS_NS / span for portion in portions]
+    first, last = goodputs[:THIRD], goodputs[-THIRD:]
+    before, after = statistics.fmean(first), statistics.fmean(last)
+    half = student(2 * THIRD - 2) * ((statistics.variance(first) + statistics.variance(last)) / THIRD)**.5
+    if abs(after - before) <= max(half, LEAST * statistics.fmean(goodputs)):
+        return None
+    return (f'Not settled: goodput is {before / 1e6:.3f} Mbit/s in the first third and {after / 1e6:.3f} in the last, ±{half / 1e6:.3f}. '
+            f'Count from {rounded(run.begin + span / 3)} on, or take an end of {rounded(run.begin + 3 * span)}.')
+
+
+def too_short(run: Figures | EngineRun) -> list[str]:
+    """Sentences that say why a run is too short for its figures, and what would do; none where it is not."""
+    flows = compared(run).flows
+    return [*filter(None, (has_long_tooth(run.scenario, run.begin, run.end, flows), has_changed(run, flows)))]

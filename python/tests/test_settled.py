@@ -1,0 +1,157 @@
+#!/usr/bin/env python3
+"""Tests of tcpsim/settled.py: runs that are too short for their figures, by tools, sweeps and Python. Usage:
+python/tests/test_settled.py, or pytest."""
+import sys
+
+import pytest
+
+import tcpsim
+from clone import PROGRAM, tool
+from tcpsim.engine import PORTIONS, EngineRun
+from tcpsim.figures import Figures
+from tcpsim.scenario.text import Scenario
+from tcpsim.settled import can_end, has_changed, has_long_tooth, rounded, tooth
+from tcpsim_model.figures import figures
+from tcpsim_model.simulate import trace
+from tcpsim_model.text import assemble
+
+# One flow whose packets of 1,000 bytes take 10 ms on a, and their acknowledgements 0.4 ms on b: an idle way, of 100 ms, holds ten of
+# them, and the queue ten more.
+ONE = '''sim {end}
+node s sender
+node r receiver
+link a s r 800000 44800000 {queue}
+link b r s 800000 44800000 droptail 50
+flow f s r 960 {segments} 0 {rwnd} {delack}
+'''
+
+
+def one(end=60, queue='droptail 10', segments=1000000, rwnd=960000, delack=0):
+    return Scenario(ONE.format(end=end * 10**9, queue=queue, segments=segments, rwnd=rwnd, delack=delack))
+
+
+def test_a_tooth_by_hand():
+    """Ten round trips from 10 segments to 20, of 100 to 200 ms, so 150 in the mean, and one for the recovery. Delayed acknowledgements
+    take twenty. CoDel's target of 50 ms is five packets more: 7.5 round trips of 100 to 150 ms. A window of 19 segments fills no
+    queue."""
+    for more, seconds in (({}, 1.65), ({'delack': 10**7}, 3.15), ({'queue': 'codel 99 50000000 100000000 1000'}, 8.5 * .125),
+                          ({'rwnd': 960 * 19}, 0), ({'rwnd': 960 * 20}, 1.65)):
+        assert tooth(one(**more), 0, [0]) == pytest.approx(seconds * 1e9), more
+
+
+def test_a_tooth_is_that_of_the_run():
+    """The last tooth of the trace, from one fast retransmit to the next, is within three tenths of the formula's."""
+    text = one(segments=10**9).text
+    lines = [line for line in ''.join(trace(assemble(text.encode()))).splitlines() if ' phase=' in line]
+    losses = [int(line.split()[1]) for before, line in zip(lines, lines[1:]) if ' phase=fr' in line and ' phase=fr' not in before]
+    assert losses[-1] - losses[-2] == pytest.approx(tooth(Scenario(text), 0, [0]), rel=.3)
+
+
+def test_flows_share_a_tooth():
+    """Each of two has half of the window, and half of the tooth's length but for its recovery."""
+    text = tcpsim.dumbbell(flows=2, rate='10M', rtt='100ms', queue='droptail:BDP', rwnd='1M').text
+    scenario = Scenario(text)
+    assert tooth(scenario, 0, [0, 1]) == pytest.approx(tooth(scenario, 0, [0]) / 2, rel=.02)
+
+
+def test_what_would_do():
+    assert has_long_tooth(one(), 0, 1_650_000_000, [0]) is None
+    assert has_long_tooth(one(), 0, 1_649_999_999, []) is None
+    assert has_long_tooth(one(), 10**9, 2 * 10**9, [0]) == (
+        "Too short: a tooth of f's sawtooth takes about 1.7s, and figures are of 1s. For 5 teeth count from 2.7s on, to an end of 11s.")
+
+
+@pytest.mark.parametrize('time, words', [(1.5e9, '1.5s'), (1501e6, '1.6s'), (500e9, '500s'), (1, '1ns'), (2.01e11, '210s')])
+def test_times_are_rounded_upwards(time, words):
+    assert rounded(time) == words
+
+
+def test_which_flows_can_end():
+    """A packet takes 10 ms, so 6,000 take a minute."""
+    assert [can_end(one(segments=count), 0) for count in (5999, 6000)] == [True, False]
+
+
+class Told:
+    """A run whose portions are told."""
+
+    begin, end = 0, 30 * 10**9
+
+    def __init__(self, *portions):
+        self._portions = portions
+
+    def portions(self):
+        return [[count, 10**9] for count in self._portions]
+
+
+def test_the_last_third_beside_the_first():
+    """Ten portions of 1 and 2 Mbit/s by turns have the variance 10/36, so the interval is 2.1009220 * sqrt(2 * 10/36 / 10) = 0.495:
+    in the last third 0.49 more is within it, and 0.5 is beyond. Without variance a difference of 2 % is none."""
+    first = [125_000, 250_000] * 5
+    for more, changed in ((61_250, False), (62_500, True), (-62_500, True)):
+        said = has_changed(Told(*first, *first, *(count + more for count in first)), [0])
+        assert bool(said) == changed
+    assert said == ('Not settled: goodput is 1.500 Mbit/s in the first third and 1.000 in the last, ±0.495. Count from 10s on, or take '
+                    'an end of 90s.')
+    for last, changed in ((101_000, False), (104_000, True)):
+        assert bool(has_changed(Told(*[100_000] * 20, *[last] * 10), [0])) == changed
+    assert has_changed(Told(*first), [0]) is None
+    assert has_changed(Told(*[1] * 20, *[9] * 10), []) is None
+
+
+def test_portions_of_traces_and_of_the_program(put):
+    """Each flow's are the same, and sum to what it delivered, also from a moment on."""
+    net = tcpsim.dumbbell(flows=2, rate='2M', rtt='40ms', start=['50ms', '300ms'], end='4s')
+    traced = Figures(net.parsed, ''.join(trace(assemble(net.text.encode()))).splitlines())
+    portions = traced.portions()
+    assert len(portions) == PORTIONS
+    assert [sum(column) for column in zip(*portions)] == [flow.delivered() for flow in traced.flows]
+    later = Figures(net.parsed, ''.join(trace(assemble(net.text.encode()))).splitlines(), 10**9, 3 * 10**9)
+    assert len(later.portions()) == PORTIONS
+    assert [sum(column) for column in zip(*later.portions())] == [flow.delivered() for flow in later.flows]
+    assert EngineRun(net.parsed, figures(assemble(net.text.encode()))).portions() == []
+    run = tcpsim.run(net, engine=PROGRAM).figures
+    if run._run.portions():
+        assert [sum(column) for column in zip(*run._run.portions())] == [flow.delivered_bytes for flow in run.flows.values()]
+
+
+# ---- tools, sweeps and Python
+
+@pytest.fixture(scope='module')
+def short(tmp_path_factory):
+    """A flow that is in its first rise, and its file."""
+    net = tcpsim.dumbbell(flows=1, rate='4M', rtt='200ms', queue='droptail:BDP', end='12s')
+    path = tmp_path_factory.mktemp('short') / 'short.txt'
+    net.save(path)
+    return net, str(path)
+
+
+LONG = "Too short: a tooth of f0's sawtooth takes about"
+
+
+def test_tools_say_it(short):
+    for words in ((), ('--engine',)):
+        lines = tool('flows', short[1], *words, '--program', PROGRAM).stdout.decode().splitlines()
+        assert [line for line in lines if line.startswith(LONG)] and not lines[-3].startswith(LONG)
+    lines = tool('flows', short[1], '--program', PROGRAM).stdout.decode().splitlines()
+    assert lines[-1].startswith('Not settled: goodput is ')
+    assert 'short' not in tool('flows', short[1], '--csv', '--program', PROGRAM).stdout.decode()
+
+
+def test_python_says_it(short):
+    run = tcpsim.run(short[0], engine='model').figures
+    assert run.too_short[0].startswith(LONG) and repr(run).endswith(run.too_short[-1])
+    assert LONG.replace("'", '&#x27;') in run._repr_html_()
+    assert tcpsim.run(tcpsim.dumbbell(flows=1, rate='1M', rtt='20ms', queue='codel:12ms:100ms', end='10s'), engine='model').figures.too_short == ()
+
+
+def test_sweeps_say_it(short):
+    words = short[1], '--set', 'pq.queue=droptail:5,BDP', '--program', PROGRAM
+    for more in ((), ('--over', 'f0.start=0,10ms'), ('--show', 'f0.goodput')):
+        last = tool('sweep', *words, *more).stdout.decode().splitlines()[-1]
+        assert last.startswith(LONG) and last.endswith('2 of 2 settings are too short, most of all pq.queue=droptail:BDP.')
+    assert LONG not in tool('sweep', *words, '--csv').stdout.decode()
+    assert LONG not in tool('sweep', *words, '--set', 'f0.segments=20').stdout.decode()
+
+
+if __name__ == '__main__':
+    sys.exit(pytest.main([__file__, '-q', '-rs', *sys.argv[1:]]))
