@@ -5,7 +5,7 @@ import csv
 import io
 import re
 
-
+import tcpsim
 from clone import NAMES, PROGRAM, Folder, example, outcome, paths, read_text, tool
 from tcpsim import causes, follow, stalls
 from tcpsim.cli import follow as cli_follow, stalls as cli_stalls
@@ -279,12 +279,15 @@ def test_the_debugger_shows_the_span():
         text, lines = example(name)
         first = {span[1]: span[3] for span in spans(text, lines)}
         for row in rows_of(text, lines):
-            session = text + '---\n' + ''.join(f'{command}\n' for command in cli_stalls.commands(row.positions))
-            told = outcome(['debug'], session.encode())[2].decode()
-            at, una = (list(map(int, re.findall(words, told, re.MULTILINE)))
-                       for words in (r'^at (\d+)$', r'^node \d+ sender 0 una=(\d+) '))
-            assert at == row.positions, name
-            inside = una[at.index(first[row.begin]):-1]
+            commands, una = cli_stalls.commands(row.positions), []
+            with tcpsim.debug(text, engine=PROGRAM) as at:
+                for command, position in zip([*commands, *reversed(commands)], [*row.positions, *reversed(row.positions)]):
+                    at.ask(command)
+                    assert at.state.position == position, name
+                    una.append(at.state.senders['f'].una)
+            assert una[len(commands):] == una[:len(commands)][::-1]
+            del una[len(commands):]
+            inside = una[row.positions.index(first[row.begin]):-1]
             assert set(inside) == {inside[0]}, name
             assert una[-1] > inside[0], name
 
@@ -413,10 +416,10 @@ class TestCommands(Files):
     TABLE = '''flow            from s              to s          long s  cause
 f          0.000000000       1.011080000     1.011080000  a loss was left to the timer
         segment 0 was dropped (lost) and 0 duplicates came: 3 of 3 segments behind it were lost too; the timer ended after 1 s
-        debug: step 1, step 1, step 4
+        debug: goto 1, goto 2, goto 6
 f          1.023200000       3.034280000     2.011080000  the timer had doubled
         acknowledgement 4000 was dropped (lost), and the timer had doubled to 2 s
-        debug: step 15, step 1, step 1, step 4
+        debug: goto 15, goto 16, goto 17, goto 21
 2 stalls longer than 200 ms
 '''
 
@@ -447,7 +450,7 @@ f          1.023200000       3.034280000     2.011080000  the timer had doubled
         assert rows[0] == ['flow', 'from', 'to', 'ns', 'cause', 'found', 'commands']
         assert rows[2] == ['f', '1023200000', '3034280000', '2011080000', 'the timer had doubled',
                                    'acknowledgement 4000 was dropped (lost), and the timer had doubled to 2 s',
-                                   'step 15; step 1; step 1; step 4']
+                                   'goto 15; goto 16; goto 17; goto 21']
         assert len(rows) == 3
 
     def test_csv_has_the_rows_of_the_table(self):

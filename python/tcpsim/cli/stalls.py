@@ -32,8 +32,8 @@ SHORT = {'a loss was left to the timer': 'left to the timer', 'fast retransmit t
 
 
 def commands(positions: list[int]) -> list[str]:
-    """The debugger's commands that go from its start to each position."""
-    return [f'step {to - since}' for since, to in zip([0, *positions], positions)]
+    """The commands of the debugger's prompt that go to each position, from wherever it is."""
+    return [f'goto {position}' for position in positions]
 
 
 def write_csv(rows: list, file: Output) -> None:
