@@ -45,7 +45,7 @@ class Watch:
 class Packet:
     """A segment or an acknowledgement on its way."""
     __slots__ = ('flow', 'sort', 'number', 'word', 'text', 'offered', 'line', 'why', 'of', 'since', 'hop',
-                 'due', 'count', 'fate', 'ended', 'ended_line', 'waited', 'asked', 'watch')
+                 'due', 'count', 'fate', 'ended', 'ended_line', 'waited', 'asked', 'watch', 'cause', 'sent_line')
 
     def __init__(self, flow: FlowState, sort: int, number: int, offered: int, line: int, why: str | None):
         self.flow, self.sort, self.number = flow, sort, number  # the flow's state; DATA or ACK
@@ -99,12 +99,13 @@ class FlowState:
         self.alarms = {'start': [sender, '0', '0'], 'rto': [sender, '0', '1'], 'delack': [receiver, '0', '2']}
         # the sender
         self.una = self.nxt = self.high = self.dups = 0
-        self.recovering = False
+        self.recovering, self.phase = False, None   # `phase`: the word of the sender's last line
         self.recover = None             # NewReno's: the greatest nxt when it last noticed a loss; None before
         self.partial = False            # this recovery had a partial acknowledgement
         self.timing = self.srtt = self.deadline = None
         self.rttvar, self.rto = 0, SECOND
         self.doubled = False            # the timer was doubled and not measured since
+        self.timer_sets = 0             # how often the timer was set, at first or anew
         # the receiver
         self.next, self.above = 0, set()
         self.waits = self.waits_since = None    # the segment whose answer waits, since when
@@ -129,8 +130,15 @@ class FlowState:
             self.timing = None
         self.una, self.dups = ack, 0
         if not (partial and self.partial):
-            self.deadline = time + self.rto if ack < self.nxt else None
+            self.deadline = None
+            if ack < self.nxt:
+                self.set_timer(time)
         self.partial = partial
+
+    def set_timer(self, time: int) -> None:
+        """The timer begins to run, or begins anew (RFC 6298 section 5)."""
+        self.deadline = time + self.rto
+        self.timer_sets += 1
 
     def notice_loss(self) -> None:
         """A recovery begins, or the timer ends."""
@@ -144,7 +152,7 @@ class FlowState:
         expired = self.rto, self.doubled
         self.dups, self.timing = 0, None
         self.rto, self.doubled = min(2 * self.rto, MOST_RTO), True
-        self.deadline = time + self.rto
+        self.set_timer(time)
         return expired
 
     def receive(self, packet: Packet, time: int) -> bool:

@@ -30,21 +30,48 @@ class Place:
         return self.packets > 1 or self.packets == 1 and (sending is None or sending.flow is not self.flow)
 
 
-class Watched(Watch):
-    """What is known of a flow: its segments from una on, its acknowledgements that were dropped, the present
-    span (None before the start and after the end), and where its packets are. Of each port at which all of
+class Sendings(Watch):
+    """What is known of a flow: its segments from una on, its acknowledgements that were dropped, and the present
+    span (None before the start and after the end). `queued` is that of `Watched`."""
+
+    def __init__(self, walk: Walk, _flow: FlowState):
+        self.walk, self.copies, self.acks_dropped, self.span = walk, {}, [], None
+        self.flights = []       # bytes in flight at each first timeout of a span
+        self.queued = {}
+
+    def sent(self, packet: Packet) -> None:
+        """A segment is sent, or sent again."""
+        self.copies.setdefault(packet.number, []).append(packet)
+
+    def dropped(self, packet: Packet, port: Port) -> None:
+        """A packet was dropped."""
+        if packet.sort == ACK:
+            self.acks_dropped.append(packet)
+
+    def begin(self, span: Span) -> None:
+        """A span begins, or none."""
+        self.span = span
+
+    def forget(self, flow: FlowState, before: int) -> None:
+        """What is acknowledged is no longer of interest."""
+        for number in range(before, flow.una, flow.mss):
+            self.copies.pop(number, None)
+        if self.acks_dropped:
+            self.acks_dropped = [ack for ack in self.acks_dropped if ack.number >= flow.una]
+
+
+class Watched(Sendings):
+    """What is known of a flow, and where its packets are. Of each port at which all of
     them waited `queued` has for how long they did in the present span, the longest time of that, and the
     line in which it began."""
 
     def __init__(self, walk: Walk, flow: FlowState):
-        self.walk, self.copies, self.acks_dropped, self.span = walk, {}, [], None
+        super().__init__(walk, flow)
         places = {}
         for hop in flow.hops():
             hop.place = places.setdefault(hop.port, Place(flow, hop.port))
-        self.flights = []       # bytes in flight at each first timeout of a span
         self.places, self.flying = set(), 0         # where some of its packets are; how many are under way
         self.at, self.since, self.line = None, 0, 0     # the place where all wait, since when
-        self.queued = {}
 
     def entered(self, packet: Packet, port: Port) -> None:
         """A packet waits."""
@@ -77,8 +104,7 @@ class Watched(Watch):
         """A packet was dropped."""
         if packet.waited:
             self.leave(packet.hop.place)
-        if packet.sort == ACK:
-            self.acks_dropped.append(packet)
+        super().dropped(packet, port)
         if not self.flying:
             self.look()
 
@@ -110,14 +136,8 @@ class Watched(Watch):
 
     def begin(self, span: Span) -> None:
         """A span begins, or none: what came before it doesn't count."""
-        self.since, self.line, self.span, self.queued = self.walk.time, self.walk.line, span, {}
-
-    def forget(self, flow: FlowState, before: int) -> None:
-        """What is acknowledged is no longer of interest."""
-        for number in range(before, flow.una, flow.mss):
-            self.copies.pop(number, None)
-        if self.acks_dropped:
-            self.acks_dropped = [ack for ack in self.acks_dropped if ack.number >= flow.una]
+        super().begin(span)
+        self.since, self.line, self.queued = self.walk.time, self.walk.line, {}
 
 
 class Span:
@@ -166,23 +186,21 @@ class Stall:
                 for packet in packets if packet.asked in (None, self.una)]
 
 
-class Stalls(Walk):
-    """Finds the stalls of a run while it is read; `rows` has them in the order in which they ended."""
+class Spans(Walk):
+    """Goes by spans through a run: at each new acknowledgement of a flow one ends and the next begins. `watched` has what is
+    known of each flow; spans that are no longer than `longer` are of no interest."""
 
-    def __init__(self, scenario: Scenario, longer: int):
+    kind, longer = Sendings, 0
+
+    def __init__(self, scenario: Scenario):
         super().__init__(scenario)
-        self.longer, self.rows = longer, []
-        self.watched = [Watched(self, flow) for flow in self.flows]
+        self.watched = [self.kind(self, flow) for flow in self.flows]
 
     def born(self, packet: Packet) -> None:
         """Watches a packet."""
         packet.watch = watched = self.watched[packet.flow.number]
         if packet.sort == DATA:
-            copies = watched.copies
-            if packet.number in copies:
-                copies[packet.number].append(packet)
-            else:
-                copies[packet.number] = [packet]
+            watched.sent(packet)
 
     def at_sender(self, flow: FlowState, kind: str, packet: Packet, before: int) -> None:
         """Ends a span at a new acknowledgement, and begins the next."""
@@ -208,6 +226,19 @@ class Stalls(Walk):
         self.watched[flow.number].begin(Span(flow, self.time, self.line) if flow.una < flow.total else None)
 
     def close(self, flow: FlowState, ack: Packet | None) -> None:
+        """Told that a span ends, if there is one: by an acknowledgement, or (None) with the run."""
+
+
+class Stalls(Spans):
+    """Finds the stalls of a run while it is read; `rows` has them in the order in which they ended."""
+
+    kind = Watched
+
+    def __init__(self, scenario: Scenario, longer: int):
+        super().__init__(scenario)
+        self.longer, self.rows = longer, []
+
+    def close(self, flow: FlowState, ack: Packet | None) -> None:
         """Ends a span, and keeps it where it was longer than asked for."""
         watched = self.watched[flow.number]
         if watched.span is not None and self.time - watched.span.begin > self.longer:
@@ -229,7 +260,6 @@ class Stalls(Walk):
             self.close(flow, None)
         order = {flow.flow.name: flow.number for flow in self.flows}
         return sorted(self.rows, key=lambda row: (order[row.flow], row.begin))
-
 
     def cycles(self) -> list[Cycle]:
         """The flows that are in a cycle of timeouts; a timeout that follows another with nothing acknowledged is none more."""

@@ -250,7 +250,7 @@ class Walk:
                 or not (una < nxt <= flow.total or una == nxt == flow.total):
             raise ValueError('the sender\'s una or nxt is another')
         numbers, why = self._sends(flow, kind, packet, una, nxt, recovering)
-        flow.nxt, flow.recovering = nxt, recovering
+        flow.nxt, flow.recovering, flow.phase = nxt, recovering, words[at + 4]
         at += 5
         for number in numbers:
             at = self._offer(self._segment(flow, number, why), words, at)
@@ -294,7 +294,7 @@ class Walk:
             if flow.timing is None:
                 flow.timing = flow.high, self.time
         if flow.deadline is None:
-            flow.deadline = self.time + flow.rto
+            flow.set_timer(self.time)
         packet = Packet(flow, DATA, number, self.time, self.line, why)
         self.born(packet)
         return packet
