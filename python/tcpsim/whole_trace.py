@@ -54,6 +54,14 @@ def opened_run(scenario_path: str, trace_path: str | None = None, program: str |
 
 
 @contextlib.contextmanager
+def lines_of_text(text: str, program: str | None = None) -> Iterator[Iterator[str]]:
+    """The trace's lines of a scenario's text, one by one, as the program prints them, which is ended where not all are wanted."""
+    path = find_program(program, lambda: [text])
+    with running([path, 'run'], text.encode()) as process:
+        yield itertools.chain.from_iterable(blocks(process.read, f'the trace of {path}', Scenario(text), ended=process.check))
+
+
+@contextlib.contextmanager
 def naming(scenario: str, trace: str = '', source: bytes = b'') -> Iterator[None]:
     """Puts the name of its file before what is wrong in a line of a scenario or of a trace, and behind what the program
     refuses the line of the source."""

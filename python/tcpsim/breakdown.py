@@ -1,0 +1,108 @@
+"""The parts of a flow's completion time as rows and in words, beside those of the same flow alone on its ways."""
+from __future__ import annotations
+
+from collections import namedtuple
+from collections.abc import Callable, Iterable
+from contextlib import AbstractContextManager
+
+from tcpsim.causes import counted, seconds
+from tcpsim.critical_path import (DELAY, PROPAGATION, QUEUE, SERIALIZATION, TIMER, TRIPS, CriticalPaths, Part, Path, Timeout,
+                                  critical_paths)
+from tcpsim.scenario.text import Scenario
+
+# A part: how many ns, which share of the whole, how many ns it is alone (None where that is not known).
+Row = namedtuple('Row', 'part ns share alone')
+# Runs the text of a scenario: its trace's lines.
+Lines = Callable[[str], AbstractContextManager[Iterable[str]]]
+
+
+class Breakdown:
+    """A flow's path and its parts. `alone` is the path to the same byte where the flow has its ways for itself, or None; `awaits`
+    says what the flow waits for where the trace ends, if it is not complete."""
+
+    def __init__(self, walk: CriticalPaths, flow: int, alone: Path | None = None):
+        self.path, self.alone = walk.path(flow), alone
+        self.name = self.path.name
+        self.total = walk.flows[flow].total
+        self.flows = {each.name: number for number, each in enumerate(walk.scenario.flows)}    # of the scenario, for their colours
+        self.awaits = '' if self.path.is_whole else walk.awaited(flow)
+
+    def rows(self) -> list[Row]:
+        """The parts, the greatest first; behind them those that there are alone only."""
+        parts, whole = self.path.parts(), self.path.time
+        alone = {} if self.alone is None else self.alone.parts()
+        return [Row(part, ns, ns / whole if whole else 0., None if self.alone is None else alone.get(part, 0))
+                for part, ns in {**parts, **{part: 0 for part in alone if part not in parts}}.items()]
+
+    def trips(self) -> str:
+        """Its round trips in words."""
+        kinds = [f'{self.path.trips[kind]} {"" if kind.startswith("after") else "in "}{kind}' for kind in TRIPS if self.path.trips[kind]]
+        return f'{counted(sum(self.path.trips.values()), "round trip")}: {", ".join(kinds)}'
+
+    def against_alone(self) -> str:
+        """How long it takes alone and here, and behind whose packets it waits longest."""
+        waits = [row for row in self.rows() if row.part.kind == QUEUE and row.part.behind != self.name and row.ns]
+        words = f'alone {self.alone.time / 1e9:.6f} s, here {self.path.time / 1e9:.6f} s'
+        if waits:
+            words += f'; {waits[0].ns / 1e9:.6f} s of it behind packets of {waits[0].part.behind} in the queue of {waits[0].part.at}'
+        return words
+
+    def unfinished(self) -> str:
+        """Of a flow that is not complete how far it is and what it waits for."""
+        return f'{self.name}: {self.path.acknowledged} of {self.total} bytes acknowledged; it waits for {self.awaits}'
+
+
+def words_of(part: Part, flow: str) -> str:
+    """A part of a flow's path in words."""
+    if part.kind == QUEUE:
+        return f'queue of {part.at}, behind {"its own packets" if part.behind == flow else f"packets of {part.behind}"}'
+    return {SERIALIZATION: f'serialization on {part.at}', PROPAGATION: f'propagation on {part.at}',
+            DELAY: f'delayed acknowledgement at {part.at}', TIMER: f'retransmission timer of {part.at}, {times(part.doubled)}'}[part.kind]
+
+
+def times(doubled: int | None) -> str:
+    """How often a timer was doubled."""
+    return {0: 'not doubled', 1: 'doubled once', 2: 'doubled twice'}.get(doubled, f'doubled {doubled} times')
+
+
+def words_of_timeout(timeout: Timeout) -> list[str]:
+    """A timeout in two lines: the timer and the loss, and why fast retransmit did not mend it."""
+    loss = timeout.loss
+    what = f'{loss.packet} was dropped at {loss.link} in line {loss.line} ({loss.reason})' if loss else 'nothing was lost'
+    return [f'timeout in line {timeout.line}, {seconds(timeout.end - timeout.begin)} after line {timeout.set_line} set the timer, '
+            f'{times(timeout.doubled)}: {what}', f'  {timeout.cause}: {timeout.found}']
+
+
+def text_alone(scenario: Scenario, flow: int) -> str:
+    """The scenario's text with this flow alone: its ways, their routes and losses, and nothing else."""
+    links = {number for way in scenario.ways[flow] for number in way}
+    nodes = {node for number in links for node in (scenario.links[number].source, scenario.links[number].to)}
+    names = {scenario.nodes[node].name for node in nodes} | {scenario.links[number].name for number in links} | {scenario.flows[flow].name}
+    kept = []
+    for line in scenario.text.split('\n'):
+        words = line.partition('#')[0].split()
+        named = {'sim': 0, 'lose': 1, 'route': 3}.get(words[0], 1) if words else None
+        if named is not None and names.issuperset(words[1:1 + named]):
+            kept.append(line)
+    return '\n'.join(kept) + '\n'
+
+
+def path_alone(scenario: Scenario, flow: int, path: Path, lines_of: Lines) -> Path | None:
+    """The path of the flow alone, up to the byte that its path here acknowledged last; None where that has none, or is not
+    acknowledged alone."""
+    if not path.acknowledged:
+        return None
+    text = text_alone(scenario, flow)
+    with lines_of(text) as lines:
+        walk = critical_paths(Scenario(text), lines, to=path.acknowledged - 1, stops=True)
+    found = walk.path(0)
+    return found if found.is_whole else None
+
+
+def breakdowns(walk: CriticalPaths, wanted: Iterable[int], lines_of: Lines | None) -> list[Breakdown]:
+    """Of each of these flows its parts, where `lines_of` is given beside those of the flow alone."""
+    found = []
+    for flow in wanted:
+        alone = None if lines_of is None else path_alone(walk.scenario, flow, walk.path(flow), lines_of)
+        found.append(Breakdown(walk, flow, alone))
+    return found
