@@ -8,6 +8,10 @@ import sys
 
 from clone import TOP
 from tcpsim import plot
+from tcpsim.breakdown import Breakdown
+from tcpsim.critical_path import critical_paths
+from tcpsim.plot import bars
+from tcpsim.whole_trace import opened_run
 
 EXAMPLES, FOLDER = os.path.join(TOP, 'examples'), os.path.join(TOP, 'docs', 'pictures')
 # Of each picture of one run the panels that show its lesson.
@@ -48,6 +52,10 @@ PICTURES['reno_and_newreno'] = [
     '--panels', 'window,sequence', '--names', 'Reno,NewReno', '--title', '150 kB, of which three segments of one window are lost']
 
 
+# Bars of a flow's time, beside the panels: a run of each of these names, and the flow.
+BARS = {'where_the_time_went': ({'drop-tail': 'bufferbloat', 'CoDel': 'bufferbloat_with_codel'}, 'g')}
+
+
 def file_of(name):
     return os.path.join(FOLDER, name + '.svg')
 
@@ -56,15 +64,25 @@ def figure_of(name):
     return plot.figure_of(plot.words_of([*PICTURES[name], '-o', file_of(name)]))
 
 
+def bars_of(name):
+    runs, flow = BARS[name]
+    found = []
+    for label, example in runs.items():
+        with opened_run(*run_of(example)) as (scenario, lines):
+            number = [each.name for each in scenario.flows].index(flow)
+            found.append((label, [Breakdown(critical_paths(scenario, lines, [number]), number)]))
+    return bars.draw(found)
+
+
 def main():
-    names = sys.argv[1:] or list(PICTURES)
-    unknown = [name for name in names if name not in PICTURES]
+    names = sys.argv[1:] or [*PICTURES, *BARS]
+    unknown = [name for name in names if name not in PICTURES and name not in BARS]
     if unknown:
         print(f'pictures.py: no picture is named {unknown[0]}', file=sys.stderr)
         return 2
     os.makedirs(FOLDER, exist_ok=True)
     for name in names:
-        figure = figure_of(name)
+        figure = bars_of(name) if name in BARS else figure_of(name)
         plot.save(figure, file_of(name))
         print(os.path.relpath(file_of(name), TOP))
     return 0

@@ -1,4 +1,4 @@
-"""The seven tools as tests call them: each command line, a folder with a run, and what is written of it."""
+"""The tools as tests call them: each command line, a folder with a run, and what is written of it."""
 import functools
 import os
 import pathlib
@@ -15,9 +15,9 @@ from clone import BIN, PROGRAM, TOP
 EXAMPLE = pathlib.Path(TOP, 'examples', 'two_timeouts_in_a_row')
 OLD = 'what stood here before\n'
 PATIENCE = 60               # seconds in which a tool that is not waited for ends
-MODULES = {name: f'tcpsim.cli.{name}' for name in ('plot', 'flows', 'net', 'sweep', 'follow', 'stalls', 'replay')}
+MODULES = {name: f'tcpsim.cli.{name}' for name in ('plot', 'flows', 'net', 'sweep', 'follow', 'stalls', 'time', 'replay')}
 TOOLS = tuple(MODULES)
-READERS = 'plot', 'flows', 'replay', 'stalls', 'follow'
+READERS = 'plot', 'flows', 'replay', 'stalls', 'time', 'follow'
 ENDINGS = {'plot': '.svg', 'replay': '.html', 'sweep': '.csv'}
 
 

@@ -16,7 +16,7 @@ from clone import BIN, PROGRAM, TOP, Folder, read_text  # noqa: E402
 
 COMPLETIONS = os.path.join(TOP, 'completions')
 SUBCOMMANDS = ('asm', 'debug', 'dis', 'explain', 'figures', 'run')
-TOOLS = ('run', 'debug', 'model', 'flows', 'plot', 'net', 'sweep', 'follow', 'stalls', 'replay')
+TOOLS = ('run', 'debug', 'model', 'flows', 'plot', 'net', 'sweep', 'follow', 'stalls', 'time', 'replay')
 MARK = '@ready@'
 PATIENCE = 60           # seconds for one answer, on a machine that is busy
 # A line up to the cursor, and behind the stroke what its last word gets, completed. `scenario one.txt`, `scenario_two.txt` and
@@ -33,7 +33,8 @@ LINES = [(line.partition('|')[0], line.replace('|', '')) for line in (
     'tcpsim-flows scenario_two.txt --ser|ies ', 'tcpsim-flows --program shelf/in|ner.txt ',
     'tcpsim-follow scenario_|two.txt ', 'tcpsim-follow scenario_two.txt --by|te ',
     'tcpsim-follow scenario_two.txt shelf/in|ner.txt ', 'tcpsim-stalls scenario_|two.txt ',
-    'tcpsim-stalls scenario_two.txt --lon|ger ', 'tcpsim-stalls --ca|uses ', 'tcpsim-debug --work|ers ', 'tcpsim-debug scenario_|two.txt ', 'tcpsim-net dumb|bell ',
+    'tcpsim-stalls scenario_two.txt --lon|ger ', 'tcpsim-stalls --ca|uses ',
+    'tcpsim-time scenario_|two.txt ', 'tcpsim-time scenario_two.txt --pat|h ', 'tcpsim-debug --work|ers ', 'tcpsim-debug scenario_|two.txt ', 'tcpsim-net dumb|bell ',
     'tcpsim-net dumbbell --acc|ess', 'tcpsim-net dumbbell --que|ue ')]
 
 
@@ -190,6 +191,7 @@ class TestCompgen(Shelf):
             assert set(options) - set(self.compgen('_tcpsim_tool', f'tcpsim-{tool}', '--')) == set()
         for tool, options in (('flows', {'--series', '--from', '--to', '--busy', '--csv', '--program'}),
                               ('follow', {'--flow', '--byte', '--csv', '--program', '--help'}),
+                              ('time', {'--flow', '--to', '--path', '--csv', '--alone', '--no-alone', '--plot', '--program'}),
                               ('stalls', {'--longer', '--flow', '--csv', '--program', '--causes', '--help'})):
             assert options <= set(self.compgen('_tcpsim_tool', f'tcpsim-{tool}', 'a.txt', '--')), tool
 
@@ -244,5 +246,6 @@ class TestFish(Shelf):
                              ('tcpsim-flows scenario_', ['scenario_two.txt']), ('tcpsim-flows --ser', ['--series']),
                              ('tcpsim-follow scenario_', ['scenario_two.txt']), ('tcpsim-follow --by', ['--byte']),
                              ('tcpsim-stalls scenario_', ['scenario_two.txt']), ('tcpsim-stalls --lon', ['--longer']),
-                             ('tcpsim-stalls --ca', ['--causes']), ('tcpsim-net dumb', ['dumbbell'])):
+                             ('tcpsim-stalls --ca', ['--causes']), ('tcpsim-time --pat', ['--path']),
+                             ('tcpsim-net dumb', ['dumbbell'])):
             assert self.fish(line) == answer

@@ -1,6 +1,6 @@
-"""How the seven tools end, whatever they write to and whatever they read: by pytest, `pytest python/tests/test_ends.py`.
+"""How the tools end, whatever they write to and whatever they read: by pytest, `pytest python/tests/test_ends.py`.
 
-The table is seven tools times what `-o` names, what standard output is, what fails, and which signal comes. In each
+The table is the tools times what `-o` names, what standard output is, what fails, and which signal comes. In each
 row a tool has written all and ends with 0, or says one sentence and leaves what was there. Then come whole traces and
 the programs that write them. test_inputs.py has traces and scenarios that are cut, changed or another's.
 """
@@ -271,7 +271,7 @@ def test_reader_that_has_seen_enough(tool, place):
     assert not [line for line in done.stderr.decode().splitlines() if not re.match(r'\d of \d runs', line)]
 
 
-@pytest.mark.parametrize('tool, more', [('flows', '--csv'), ('flows', '--series=1ms'), ('stalls', '--longer=0'), ('follow', '--csv')])
+@pytest.mark.parametrize('tool, more', [('flows', '--csv'), ('flows', '--series=1ms'), ('stalls', '--longer=0'), ('time', '--csv'), ('follow', '--csv')])
 def test_reader_that_reads_a_line(tool, more, place):
     done = subprocess.run(['bash', '-c', '"$@" | head -n 1; exit "${PIPESTATUS[0]}"', 'bash', *call(tool), *words(tool), more], cwd=place,
                           check=False, capture_output=True, timeout=PATIENCE)
@@ -473,14 +473,14 @@ def test_files_that_are_none(tool, place):
     for given, says in ((words(tool, 'nothing', 's.trace'), 'No such file'), (words(tool, 's.txt', 'nothing'), 'No such file'),
                         (words(tool, 'out'), 'directory'), (words(tool, 's.txt', 'out'), 'directory'), (words(tool, 'ff'), 'not ASCII'),
                         (words(tool, 'words'), 'line 1'), (words(tool, 's.trace'), 's.trace: line 1: '), (words(tool, 'back'), 'way'),
-                        (words(tool, 'itself'), 'itself' if tool in ('stalls', 'follow') else 'line '),
+                        (words(tool, 'itself'), 'itself' if tool in ('stalls', 'time', 'follow') else 'line '),
                         ([*words(tool, trace=None), '--program', 'out'], 'no program'),
                         ([*words(tool, '01', None), '--program', PROGRAM], 'refused E4 line')):
         is_told(run(tool, *given, '-o', target(place, tool), cwd=place), 1, says)
     assert os.listdir(place / 'out') == []
 
 
-@pytest.mark.parametrize('tool', ['flows', 'stalls', 'follow'])
+@pytest.mark.parametrize('tool', ['flows', 'stalls', 'time', 'follow'])
 def test_pipes(tool, place):
     """Both files can be pipes, which are read once, and the scenario standard input."""
     _, _, *more = words(tool)

@@ -29,7 +29,8 @@ NUMBERS = st.sampled_from(['0', '1', '-1', '9' * 25, '', 'x', '1.5', '1_0', '9' 
 OPTIONS = {
     'flows': [(), ('--csv',), ('--series', '500ms'), ('--from', '1s'), ('--to', '1500ms'), ('--partial',)],
     'plot': [(), ('--log',), ('--partial',)], 'replay': [(), ('--to', '2s'), ('--partial',)],
-    'stalls': [(), ('--csv',), ('--longer', '100ms'), ('--partial',)], 'follow': [(), ('--csv',), ('--partial',)]}
+    'stalls': [(), ('--csv',), ('--longer', '100ms'), ('--partial',)], 'follow': [(), ('--csv',), ('--partial',)],
+    'time': [(), ('--csv',), ('--path',), ('--flow', '0'), ('--to', '0'), ('--partial',)]}
 # Faults that are no line's: of a file that is cut, or lacks what it has to have.
 OF_NO_LINE = re.compile(r's\.trace has no "end": cut behind event \d+|s\.txt: the scenario has |s\.txt is no scenario: its byte \d+ '
                         r'|s\.txt: the program ended with status 1: refused (L\d|E10) line 0|s\.trace: the trace has no line'
@@ -169,7 +170,7 @@ def test_inputs(case, data, place, monkeypatch):
             if not options:
                 assert kind != 'another' or name == other
                 # Only who follows the timers knows that one of them was still to end.
-                assert kind != 'ended too early' or other == 'rto' and tool not in ('stalls', 'follow')
+                assert kind != 'ended too early' or other == 'rto' and tool not in ('stalls', 'time', 'follow')
         path.unlink()
 
 

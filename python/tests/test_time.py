@@ -1,0 +1,160 @@
+"""Tests of tcpsim-time: its tables, its CSV, its paths and what it refuses. The paths themselves are in test_critical_path.py; files
+that are no scenarios or traces are in test_ends.py and test_inputs.py."""
+import csv
+import io
+import re
+
+import pytest
+
+from clone import NAMES, PROGRAM, example, paths, tool
+
+HEAD = 'flow,part,at,behind,doubled,ns,percent,alone'.split(',')
+PATH_HEAD = 'flow,line,time,event,number,at,part,part at,behind,ns'.split(',')
+
+
+def told(*words):
+    """What the tool writes; its status is 0, and it says nothing else."""
+    done = tool('time', *words)
+    assert (done.returncode, done.stderr) == (0, b''), done.stderr
+    return done.stdout.decode()
+
+
+def rows(*words):
+    """The rows of its CSV."""
+    return list(csv.DictReader(io.StringIO(told(*words, '--csv'))))
+
+
+def refused(*words):
+    """The status and the sentence with which it is refused."""
+    done = tool('time', *words)
+    assert done.stdout == b'' and done.stderr.count(b'\n') == 1
+    return done.returncode, done.stderr.decode().removeprefix('tcpsim-time: ').rstrip()
+
+
+def test_bufferbloat_is_told():
+    text = told(paths('bufferbloat')[0], '--flow', 'g', '--program', PROGRAM)
+    lines = text.splitlines()
+    assert lines[0] == ('flow g: 3.012038400 s, from its start in line 4955 at 3.000000000 s to line 8583 at 6.012038400 s, where 10000 of '
+                        '10000 bytes are acknowledged')
+    assert [line.split(None, 3) for line in lines[1:7]] == [
+        ['seconds', '%', 'alone', 'part'],
+        ['2.839449600', '94.27', '0.000000000', 'queue of a, behind packets of f'],
+        ['0.054000000', '1.79', '0.036000000', 'propagation on a'],
+        ['0.054000000', '1.79', '0.036000000', 'propagation on b'],
+        ['0.026067200', '0.87', '0.041350400', 'queue of a, behind its own packets'],
+        ['0.024960000', '0.83', '0.016640000', 'serialization on a']]
+    assert lines[-3].split(None, 3) == ['3.012038400', '100.00', '0.139225600', 'in all']
+    assert lines[-2:] == ['3 round trips: 1 in slow start, 1 in fast recovery, 1 after a timeout',
+                          'alone 0.139226 s, here 3.012038 s; 2.839450 s of it behind packets of f in the queue of a']
+
+
+def test_two_timeouts_take_nearly_all():
+    found = rows(*paths('two_timeouts_in_a_row'))
+    timers = {row['doubled']: int(row['ns']) for row in found if row['part'] == 'retransmission timer'}
+    assert timers == {'0': 10**9, '1': 2 * 10**9} and sum(timers.values()) / int(found[-1]['ns']) > .994
+    text = told(*paths('two_timeouts_in_a_row'))
+    assert 'timeout in line 26, 1 s after line 18 set the timer, not doubled: segment 4000 was dropped at a in line 6 (lost)\n' in text
+    assert 'timeout in line 27, 2 s after line 26 set the timer, doubled once: segment 4000 was dropped at a in line 26 (lost)\n' in text
+    assert '2 duplicates came: 3 of 5 segments behind it were lost too\n' in text and 'alone' not in text
+
+
+@pytest.mark.parametrize('name', NAMES)
+def test_tables_are_the_csv(name):
+    """The parts of the CSV sum to the whole, and its percents to 100; the table of all flows and that of each part have the same
+    seconds, the greatest first."""
+    found, flows = rows(*paths(name)), {}
+    assert list(found[0]) == HEAD and {row['alone'] for row in found} == {''}
+    for row in found:
+        flows.setdefault(row['flow'], []).append(row)
+    assert list(flows) == re.findall(r'^flow (\S+)', example(name)[0], re.M)
+    names = list(flows)
+    tables = told(*paths(name), '--flow', ','.join(names)).split('\n\n')
+    table = told(*paths(name)).splitlines() if len(names) > 1 else None
+    for place, (flow, own) in enumerate(flows.items()):
+        *parts, whole = own
+        assert whole['part'] == 'whole' and sum(int(row['ns']) for row in parts) == int(whole['ns'])
+        if not parts:
+            assert tables[place].startswith(f'flow {flow}: 0 of ')
+            continue
+        assert sum(float(row['percent']) for row in parts) == pytest.approx(100, abs=1e-4)
+        assert [int(row['ns']) for row in parts] == sorted((int(row['ns']) for row in parts), reverse=True)
+        lines = tables[place].splitlines()
+        assert [line.split()[0] for line in lines[2:3 + len(parts)]] == [f'{int(row["ns"]) / 1e9:.9f}' for row in own]
+        if table:
+            seconds = [float(word) for word in table[1 + place].split()[1:8]]
+            assert table[1 + place].split()[0] == flow and seconds[0] == pytest.approx(int(whole['ns']) / 1e9, abs=1e-6)
+            assert sum(seconds[1:]) == pytest.approx(seconds[0], abs=1e-5)
+
+
+@pytest.mark.parametrize('name', [name for name in NAMES if len(example(name)[1]) < 3000])
+def test_a_path_has_the_lines_of_the_trace(name):
+    """Each event is the trace's line of its number: its time, its kind, its number; `tx` is an act of it. The spans of an event last
+    from the one before it."""
+    lines = example(name)[1]
+    found = list(csv.DictReader(io.StringIO(told(*paths(name), '--path', '--csv'))))
+    assert list(found[0]) == PATH_HEAD
+    at = {}
+    for row in found:
+        words, flow = lines[int(row['line']) - 1].split(), row['flow']
+        assert words[:2] == [row['line'], row['time']]
+        kind = row['event'].removeprefix('tx ')
+        if kind == row['event']:
+            assert words[5] == kind and (kind not in ('data', 'ack') or words[7] == row['number'])
+        else:
+            assert any(re.fullmatch(rf'tx=\d+:\d+:{row["number"]}', word) for word in words)
+        if row['event'] == 'start':
+            at[flow] = int(row['time'])
+        elif row['ns']:
+            at[flow] += int(row['ns'])
+            assert at[flow] <= int(row['time'])
+    assert at == {flow: int(row['time']) for flow in at for row in found if row['flow'] == flow}
+    text = told(*paths(name), '--path')
+    assert [word for word in re.findall(r'^goto (\d+)', text, re.M)] == [row['line'] for place, row in enumerate(found)
+                                                                       if place == 0 or row['line'] != found[place - 1]['line']]
+
+
+def test_a_byte_and_several_flows():
+    whole, part = (rows(*paths('bufferbloat'), '--flow', 'g,0', *more) for more in ((), ('--to', '999')))
+    assert [row['flow'] for row in whole if row['part'] == 'whole'] == ['g', 'f']
+    ends = [[int(row['ns']) for row in found if row['part'] == 'whole'] for found in (whole, part)]
+    assert all(early < late for early, late in zip(*ends[::-1]))
+
+
+def test_a_flow_that_is_not_complete_says_what_it_waits_for(tmp_path):
+    cut = tmp_path / 'cut.trace'
+    lines = example('two_timeouts_in_a_row')[1]
+    for count, says in ((30, 'f: 4000 of 10000 bytes acknowledged; it waits for '), (1, 'flow f: 0 of 10000 bytes acknowledged; it waits for '
+                                                                                        'segment 0, sent by a')):
+        cut.write_text('\n'.join(lines[:count]) + '\n')
+        assert says in told(paths('two_timeouts_in_a_row')[0], str(cut), '--partial')
+    assert told(paths('two_timeouts_in_a_row')[0], str(cut), '--partial', '--path').splitlines()[2].startswith('goto 1 ')
+    assert rows(paths('two_timeouts_in_a_row')[0], str(cut), '--partial')[0]['ns'] == '0'
+
+
+def test_alone_is_run_where_it_is_asked_for(tmp_path):
+    """Nothing is run where a trace is given, or a row is for each flow, unless it is asked for."""
+    none = tmp_path / 'none'
+    none.write_text('#!/bin/sh\nexit 7\n')
+    none.chmod(0o755)
+    words = [*paths('bufferbloat'), '--flow', 'g']
+    assert ' alone ' not in told(*words, '--program', str(none))
+    assert refused(*words, '--alone', '--program', str(none)) == (1, f'the program ended with status 7')
+    asked = rows(*words, '--alone', '--program', PROGRAM)
+    assert asked == rows(words[0], '--flow', 'g', '--program', PROGRAM) and asked[-1]['alone'] == '139225600'
+    assert {row['alone'] for row in rows(words[0], '--flow', 'g', '--no-alone', '--program', PROGRAM)} == {''}
+    assert ' alone ' in told(words[0], '--alone', '--program', PROGRAM).splitlines()[0]
+    assert ' alone ' not in told(words[0], '--program', PROGRAM).splitlines()[0]
+
+
+def test_refusals():
+    scenario, trace = paths('bufferbloat')
+    other = paths('one_segment')[0]
+    assert refused(scenario, trace, '--flow', 'x') == (1, 'the scenario has no flow x; it has f, g')
+    assert refused(scenario, trace, '--flow', 'g', '--to', '10000') == (1, 'flow g has the bytes 0 to 9999, and not 10000')
+    assert refused(scenario, trace, '--to', '-1')[0] == 2
+    assert refused(other, trace)[0] == 1 and refused(scenario, other)[0] == 1
+    assert refused(scenario, trace, other) == (2, 'one SCENARIO and its TRACE at most; with --plot several')
+    assert refused(scenario, '--plot', 'a.gif') == (2, '--plot a.gif: the name ends with .png, .svg or .pdf')
+    assert refused(scenario, '--plot', 'a.png', '--csv') == (2, '--plot draws a picture alone: it goes without -o, --csv, --path and --alone')
+    assert refused('-', '-', '--plot', 'a.png')[0] == 2
+    assert refused() == (2, 'the following arguments are required: SCENARIO [TRACE]')
