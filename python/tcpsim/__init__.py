@@ -19,6 +19,7 @@ if TYPE_CHECKING:
     from tcpsim.api.session import DebugSession, debug
     from tcpsim.api.simulation import Simulation, run
     from tcpsim.api.sweeps import Sweep, sweep
+    from tcpsim.api.times import FlowTime, TimePart
 
 __version__ = '0.2.0'
 FORMATS = {'trace': 1, 'image': 2, 'figures': 4, 'prompt': 14}
@@ -32,10 +33,12 @@ _MODULES = {
     'Sent': 'events', 'Drop': 'events', 'Trace': 'events', 'TimeSeries': 'series', 'Results': 'results', 'FlowResult': 'results',
     'LinkResult': 'results', 'Error': 'errors', 'Refused': 'errors', 'Wrong': 'errors', 'WrongQueue': 'errors',
     'NotInstalled': 'errors', 'NoProgram': 'errors', 'sweep': 'sweeps', 'Sweep': 'sweeps',
+    'FlowTime': 'times', 'TimePart': 'times',
 }
 __all__ = ['__version__', 'dumbbell', 'chain', 'parking_lot', 'tree', 'access_line', 'asymmetric', 'islands', 'read', 'from_text',
            'ScenarioText', 'run', 'Simulation', 'debug', 'DebugSession', 'Event', 'Sent', 'Drop', 'Trace', 'TimeSeries', 'Results',
-           'FlowResult', 'LinkResult', 'Error', 'Refused', 'Wrong', 'WrongQueue', 'NotInstalled', 'NoProgram', 'sweep', 'Sweep']
+           'FlowResult', 'LinkResult', 'Error', 'Refused', 'Wrong', 'WrongQueue', 'NotInstalled', 'NoProgram', 'sweep', 'Sweep',
+           'FlowTime', 'TimePart']
 
 
 def __getattr__(name: str) -> object:

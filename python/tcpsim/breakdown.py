@@ -47,9 +47,40 @@ class Breakdown:
             words += f'; {waits[0].ns / 1e9:.6f} s of it behind packets of {waits[0].part.behind} in the queue of {waits[0].part.at}'
         return words
 
+    def table(self) -> list[tuple[str, ...]]:
+        """Its parts in words, titles first and the whole last: seconds, percent, the seconds alone where they are known, the part."""
+        rows = [('seconds', '%', 'alone', 'part'),
+                *((in_seconds(row.ns), f'{100 * row.share:.2f}', in_seconds(row.alone), words_of(row.part, self.name)) for row in self.rows()),
+                (in_seconds(self.path.time), '100.00', in_seconds(self.alone and self.alone.time), 'in all')]
+        return rows if self.alone else [(*row[:2], row[3]) for row in rows]
+
+    def heading(self) -> str:
+        """How long it took, from which line to which."""
+        path = self.path
+        if not path.acknowledged:
+            return f'flow {self.unfinished()}'
+        first, last = path.events[0], path.events[-1]
+        return (f'flow {self.name}: {in_seconds(path.time)} s, from its start in line {first.line} at {in_seconds(first.time)} s to line {last.line} '
+                f'at {in_seconds(last.time)} s, where {path.acknowledged} of {self.total} bytes are acknowledged')
+
+    def lines(self) -> list[str]:
+        """All that is told of it: its table, round trips and timeouts, and what it waits for."""
+        if not self.path.acknowledged:
+            return [self.heading()]
+        rows = self.table()
+        widths = [max(map(len, column)) for column in zip(*rows)]
+        lines = ['  '.join([*(word.rjust(width) for word, width in zip(row[:-1], widths)), row[-1]]) for row in rows]
+        return [self.heading(), *lines, self.trips(), *[self.against_alone()] * bool(self.alone),
+                *(line for timeout in self.path.timeouts for line in words_of_timeout(timeout)), *[self.unfinished()] * (not self.path.is_whole)]
+
     def unfinished(self) -> str:
         """Of a flow that is not complete how far it is and what it waits for."""
         return f'{self.name}: {self.path.acknowledged} of {self.total} bytes acknowledged; it waits for {self.awaits}'
+
+
+def in_seconds(ns: int | None) -> str:
+    """Nanoseconds as seconds, to the nanosecond."""
+    return '-' if ns is None else f'{ns / 10**9:.9f}'
 
 
 def words_of(part: Part, flow: str) -> str:

@@ -267,6 +267,59 @@ def test_series_are_those_of_tcpsim_flows(engine):
     assert all(0 < mean <= 64000 for mean in series.flows['f'].cwnd)
 
 
+def test_time_is_that_of_tcpsim_time():
+    run = tcpsim.run(example('bufferbloat'), engine='model')
+    went = run.time('g')
+    table = ran(os.path.join(BIN, 'tcpsim-time'), example('bufferbloat'), '--flow', 'g', '--csv', '--model')
+    assert [[went.flow, part.kind, part.at, part.behind or '', '', str(part.ns), f'{100 * part.share:.6f}', str(part.alone_ns)]
+            for part in went.parts] == [line.split(',') for line in table.splitlines()[1:-1]]
+    assert (went.time_ns, went.alone_ns, went.begin_ns, went.end_ns) == (3012038400, 139225600, 3 * 10**9, 6012038400)
+    assert sum(part.ns for part in went.parts) == went.time_ns and went.complete and went.acknowledged_bytes == 10_000 and went.awaits == ''
+    assert (went.events[0].kind, went.events[-1].line, sum(went.round_trips.values())) == ('start', 8583, 3)
+    assert repr(went) == ran(os.path.join(BIN, 'tcpsim-time'), example('bufferbloat'), '--flow', 'g', '--model').rstrip()
+    assert went._repr_html_().count('<tr>') == len(went.parts) + 2
+    early = run.time(1, to=0, alone=False)
+    assert early.time_ns < went.time_ns and early.alone_ns is None and {part.alone_ns for part in early.parts} == {None}
+    timers = tcpsim.run(example('two_timeouts_in_a_row'), engine='model').time('f')
+    assert [(timeout.end - timeout.begin, timeout.loss.line) for timeout in timers.timeouts] == [(10**9, 6), (2 * 10**9, 26)]
+    assert timers.alone_ns is None
+    for wrong, says in ((lambda: run.time('zz'), 'the scenario has no flow zz; it has f, g'),
+                        (lambda: run.time('g', to=10_000), 'flow g has the bytes 0 to 9999, and not 10000')):
+        with pytest.raises(tcpsim.Error, match=says):
+            wrong()
+
+
+def test_a_frame_and_a_picture_of_the_time():
+    pytest.importorskip('pandas')
+    went = tcpsim.run(example('bufferbloat'), engine='model').time('g', alone=False)
+    frame = went.frame()
+    assert frame['ns'].sum() == went.time_ns and list(frame['kind']) == [part.kind for part in went.parts]
+    pytest.importorskip('matplotlib')
+    axes, = went.plot().figure.get_axes()
+    keys = [text.get_text() for text in axes.get_legend().get_texts()]
+    assert keys == ['queue, behind packets of f', 'queue, behind packets of g', 'serialization', 'propagation']
+
+
+def test_time_with_a_queue_of_ones_own():
+    """Alone it has the same queue."""
+    class Shortest:
+        """Gives what waits in the order of its numbers."""
+
+        def __init__(self):
+            self.waiting = []
+
+        def offer(self, packet, now, drop):
+            self.waiting.append(packet)
+
+        def take(self, now, drop):
+            return self.waiting.pop(self.waiting.index(min(self.waiting, key=lambda packet: packet.number))) if self.waiting else None
+
+    run = tcpsim.run(example('bufferbloat'), queues={'a': Shortest})
+    went = run.time('g')
+    assert sum(part.ns for part in went.parts) == went.time_ns < 3 * 10**9
+    assert went.alone_ns == tcpsim.run(example('bufferbloat')).time('g').alone_ns
+
+
 def test_stalls_are_those_of_tcpsim_stalls():
     stalls = tcpsim.run(example('two_stalls_of_different_causes'), engine='model').stalls('100ms')
     table = ran(os.path.join(BIN, 'tcpsim-stalls'), example('two_stalls_of_different_causes'), '--longer', '100ms', '--csv', '--model')

@@ -16,6 +16,9 @@ from tcpsim.api.results import Results, Stalls
 from tcpsim.api.scenarios import ScenarioText, as_word, scenario_of
 from tcpsim.api.series import TimeSeries
 from tcpsim.api.shown import PlottedRun, ReplayPage
+from tcpsim.api.times import FlowTime
+from tcpsim.breakdown import breakdowns
+from tcpsim.critical_path import critical_paths
 from tcpsim.engine import EngineRun
 from tcpsim.scenario import units
 from tcpsim.scenario.text import Scenario
@@ -58,12 +61,12 @@ def run(scenario: ScenarioText | str | os.PathLike, engine: str | None = None,
 
 
 class Simulation:
-    """A run of a scenario: `figures`, `trace`, `series`, `stalls`, `plot`, `replay`. `scenario` is what is run, and `engine`
+    """A run of a scenario: `figures`, `trace`, `series`, `stalls`, `time`, `plot`, `replay`. `scenario` is what is run, and `engine`
     what runs it: 'program' or 'model'. The same scenario gives the same run, always."""
 
     def __init__(self, scenario: ScenarioText, engine: str | None = None,
                  queues: Mapping[str, Callable[..., object]] | None = None):
-        self.scenario = scenario
+        self.scenario, self._queues = scenario, queues or {}
         self._own = None
         if check_queues(queues):
             from tcpsim.api.by_model import OwnQueueRun
@@ -166,6 +169,26 @@ class Simulation:
             only = None if flow is None else parsed.flows[flow_named(parsed, str(flow))].name
             with self._lines() as lines:
                 return Stalls(row for row in stalls_of(parsed, lines, longer) if only in (None, row.flow))
+
+    def time(self, flow: str | int, to: int | None = None, alone: bool = True) -> FlowTime:
+        """Where the time of a flow went, to its last new acknowledgement or to that of the byte `to`: `parts`, `events`, `timeouts`,
+        `frame()` and `plot()`. With `alone` the flow is run alone on its ways too, where the scenario has others."""
+        parsed = self._parsed()
+        with as_api():
+            number = flow_named(parsed, str(flow))
+            with self._lines() as lines:
+                walk = critical_paths(parsed, lines, [number], to)
+            found, = breakdowns(walk, [number], self._lines_alone if alone and len(parsed.flows) > 1 else None)
+        return FlowTime(found)
+
+    @contextlib.contextmanager
+    def _lines_alone(self, text):
+        """The trace's lines of a part of the scenario, by the same engine and with the same queues."""
+        links = {link.name for link in Scenario(text).links}
+        queues = {name: queue for name, queue in self._queues.items() if name in links}
+        engine = 'model' if self._own else self._engine.path
+        with Simulation(ScenarioText(text), engine, queues)._lines() as lines:
+            yield lines
 
     # ---- pictures and pages
 

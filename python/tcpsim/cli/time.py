@@ -17,7 +17,7 @@ import os
 from collections.abc import Iterable
 
 from tcpsim import output
-from tcpsim.breakdown import Breakdown, breakdowns, times, words_of, words_of_timeout
+from tcpsim.breakdown import Breakdown, breakdowns, in_seconds, times, words_of
 from tcpsim.causes import counted, seconds
 from tcpsim.command_line import Refused, Words, Wrong, as_type
 from tcpsim.critical_path import DELAY, PROPAGATION, QUEUE, SERIALIZATION, TIMER, Event, critical_paths
@@ -94,36 +94,6 @@ def breakdowns_of(given: argparse.Namespace, scenario_path: str, trace: str | No
 
 
 # ---- tables
-
-def in_seconds(ns: int | None) -> str:
-    """Nanoseconds as seconds, to the nanosecond."""
-    return '-' if ns is None else f'{ns / 10**9:.9f}'
-
-
-def write_parts(each: Breakdown, file: Output) -> None:
-    """A flow's parts, a row each, and what else is said of its path."""
-    path = each.path
-    if not path.acknowledged:
-        print(f'flow {each.unfinished()}', file=file)
-        return
-    first, last = path.events[0], path.events[-1]
-    print(f'flow {each.name}: {in_seconds(path.time)} s, from its start in line {first.line} at {in_seconds(first.time)} s to line {last.line} '
-          f'at {in_seconds(last.time)} s, where {path.acknowledged} of {each.total} bytes are acknowledged', file=file)
-    rows = [('seconds', '%', 'alone', 'part'),
-            *((in_seconds(row.ns), f'{100 * row.share:.2f}', in_seconds(row.alone), words_of(row.part, each.name)) for row in each.rows()),
-            (in_seconds(path.time), '100.00', in_seconds(each.alone and each.alone.time), 'in all')]
-    rows = rows if each.alone else [(*row[:2], row[3]) for row in rows]
-    widths = [max(map(len, column)) for column in zip(*rows)]
-    for row in rows:
-        print('  '.join([*(word.rjust(width) for word, width in zip(row[:-1], widths)), row[-1]]), file=file)
-    print(each.trips(), file=file)
-    if each.alone:
-        print(each.against_alone(), file=file)
-    for timeout in path.timeouts:
-        print('\n'.join(words_of_timeout(timeout)), file=file)
-    if not path.is_whole:
-        print(each.unfinished(), file=file)
-
 
 def sums_of(each: Breakdown) -> list[int]:
     """The sums of a flow's parts, in the order of COLUMNS: in queues behind others and behind its own, and by their kinds."""
@@ -211,7 +181,10 @@ def write(given: argparse.Namespace, file: Output) -> None:
     elif given.path or by_part:
         for place, each in enumerate(found):
             print(end='\n' * bool(place), file=file)
-            (write_path if given.path else write_parts)(each, file)
+            if given.path:
+                write_path(each, file)
+            else:
+                print('\n'.join(each.lines()), file=file)
     else:
         write_flows(found, file)
 
