@@ -2,14 +2,16 @@
 from __future__ import annotations
 
 from collections import namedtuple
-from collections.abc import Callable, Iterable
+from collections.abc import Callable, Iterable, Sequence
 from contextlib import AbstractContextManager
 
 from tcpsim.causes import counted, seconds
 from tcpsim.critical_path import (DELAY, PROPAGATION, QUEUE, SERIALIZATION, TIMER, TRIPS, CriticalPaths, Part, Path, Timeout,
                                   critical_paths)
+from tcpsim.output import aligned
 from tcpsim.scenario.text import Scenario
 
+COLUMNS = ('flow', 'seconds', 'queue: others', 'own', 'serialization', 'propagation', 'timeouts', 'delayed ACKs', 'trips')
 # A part: how many ns, which share of the whole, how many ns it is alone (None where that is not known).
 Row = namedtuple('Row', 'part ns share alone')
 # Runs the text of a scenario: its trace's lines.
@@ -70,12 +72,33 @@ class Breakdown:
         rows = self.table()
         widths = [max(map(len, column)) for column in zip(*rows)]
         lines = ['  '.join([*(word.rjust(width) for word, width in zip(row[:-1], widths)), row[-1]]) for row in rows]
-        return [self.heading(), *lines, self.trips(), *[self.against_alone()] * bool(self.alone),
-                *(line for timeout in self.path.timeouts for line in words_of_timeout(timeout)), *[self.unfinished()] * (not self.path.is_whole)]
+        timeouts = [line for timeout in self.path.timeouts for line in words_of_timeout(timeout)]
+        return [self.heading(), *lines, self.trips(), *([self.against_alone()] if self.alone else []), *timeouts,
+                *([] if self.path.is_whole else [self.unfinished()])]
 
     def unfinished(self) -> str:
         """Of a flow that is not complete how far it is and what it waits for."""
         return f'{self.name}: {self.path.acknowledged} of {self.total} bytes acknowledged; it waits for {self.awaits}'
+
+
+def sums_of(each: Breakdown) -> list[int]:
+    """The sums of a flow's parts, in the order of COLUMNS: in queues behind others and behind its own, and by their kinds."""
+    sums = dict.fromkeys(('others', 'own', SERIALIZATION, PROPAGATION, TIMER, DELAY), 0)
+    for part, ns in each.path.parts().items():
+        sums[part.kind if part.kind != QUEUE else 'own' if part.behind == each.name else 'others'] += ns
+    return list(sums.values())
+
+
+def flows_table(found: Sequence[Breakdown]) -> list[str]:
+    """A row for each flow, with its greatest part; behind them what those wait for that are not complete."""
+    alone = any(each.alone for each in found)
+    rows, greatest = [[*COLUMNS, *['alone'] * alone]], ['    %  greatest part']
+    for each in found:
+        rows.append([each.name, *(f'{ns / 1e9:.6f}' for ns in (each.path.time, *sums_of(each))), str(sum(each.path.trips.values())),
+                     *[f'{each.alone.time / 1e9:.6f}' if each.alone else '-'] * alone])
+        row = next(iter(each.rows()), None)
+        greatest.append(f'{100 * row.share:5.1f}  {words_of(row.part, each.name)}' if row else '    -')
+    return [f'{line}  {more}' for line, more in zip(aligned(rows), greatest)] + [each.unfinished() for each in found if not each.path.is_whole]
 
 
 def in_seconds(ns: int | None) -> str:

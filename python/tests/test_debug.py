@@ -15,7 +15,7 @@ import pytest
 pexpect = pytest.importorskip('pexpect', reason='no pexpect: apt-get install python3-pexpect')
 
 from clone import BIN, EXAMPLES, MODEL, PROGRAM, TOP, of_model, read, read_text, tool  # noqa: E402
-from tcpsim.console import keyboard  # noqa: E402
+from tcpsim.console import keyboard, times  # noqa: E402
 from tcpsim.console.completion import Completion  # noqa: E402
 from tcpsim.prompt import Prompt  # noqa: E402
 from tcpsim_model import image  # noqa: E402
@@ -173,10 +173,13 @@ def terminal(tmp_path):
 
 
 def at_once(path, *lines):
-    """What each of the lines is answered by the program's own prompt, answers and notes in turn."""
+    """What each of the lines is answered by the program's own prompt, answers and notes in turn; in the list of help is `time` too,
+    behind `why`."""
     prompt = Prompt([PROGRAM, 'debug'], read(path))
     try:
-        return [answer.text + answer.note for answer in map(prompt.ask, lines)]
+        answers = [answer.text + answer.note for answer in map(prompt.ask, lines)]
+        return [re.sub(r'^why F .*\n', rf'\g<0>{times.USAGE}', answer, flags=re.M) if line == 'help' else answer
+                for line, answer in zip(lines, answers)]
     finally:
         prompt.end()
 
@@ -199,6 +202,35 @@ def test_answers_are_the_program_s(terminal):
     session.begin()
     assert [session.ask(line) for line in LINES] == at_once(TWO, *LINES)
     assert session.end('quit\r') == 0
+
+
+def test_time_is_told_by_the_tool(terminal):
+    """Wherever the session is; and a flow is completed. What is refused changes nothing."""
+    session = terminal(FAIR)
+    session.begin()
+    session.ask('step 9')
+    table, flow = (tool('time', FAIR, '--program', PROGRAM, *words).stdout.decode() for words in ((), ('--flow', '1', '--no-alone')))
+    assert session.ask('time') == table and session.ask('time 1') == flow and flow.startswith('flow ')
+    assert session.ask('time zz').startswith('time: the scenario has no flow zz; it has ')
+    assert session.ask('time 0 1') == 'time: one flow, or nothing for all: help time\n'
+    assert session.ask('help time') == session.ask('h time') == times.PAGE and times.USAGE in session.ask('help')
+    assert session.complete('tim').endswith('time ')
+    assert session.ask('where').startswith('at 9 of the run')
+    assert session.end() == 0
+
+
+def test_time_of_a_run_that_has_no_end_is_ended(terminal, long):
+    """By Ctrl-C, and the session goes on; nobody is left who runs."""
+    session = terminal(long)
+    session.begin()
+    session.ask('step 3')
+    only = children(session.child.pid)
+    session.type('time f\r')
+    assert soon(lambda: len(children(session.child.pid)) > 1)
+    assert session.interrupted().endswith('tcpsim-debug: ended; the session is where it was\n')
+    assert children(session.child.pid) == only
+    assert session.ask('where').startswith('at 3 of the run')
+    assert session.end() == 0
 
 
 def test_bytes_that_are_no_text(terminal):

@@ -16,6 +16,7 @@ from tcpsim.command_line import Refused, Words, Wrong, become, note, nothing
 from tcpsim.console.completion import Completion
 from tcpsim.console.screen import show, tell
 from tcpsim.console.session import Interrupted, Lost, Session, how_ended
+from tcpsim.console.times import Times
 from tcpsim.program import find_program, is_model
 from tcpsim.prompt import PROMPT, PromptEnded
 from tcpsim.whole_trace import scenario_bytes
@@ -53,13 +54,14 @@ def hold(words: list[str], source: bytes) -> int:
         session = Session(words, source)
         ends.callback(session.end)
         signal.signal(signal.SIGINT, nothing)
-        completion = Completion(session.ask)
+        prompt = Times(session.ask, source, words[0])
+        completion = Completion(prompt.ask)
         keyboard = Keyboard(PROMPT.decode(), lambda before: completion.words(before, session.counted))
         ends.enter_context(keys_kept())
         note(HINT)
         while (line := keyboard.line()) is not None:
             try:
-                answer = session.ask(line)
+                answer = prompt.ask(line)
             except Interrupted as ended:
                 drop_keys()     # those that were typed behind the line
                 tell(f'\ntcpsim-debug: {ended}')

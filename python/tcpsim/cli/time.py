@@ -17,11 +17,11 @@ import os
 from collections.abc import Iterable
 
 from tcpsim import output
-from tcpsim.breakdown import Breakdown, breakdowns, in_seconds, times, words_of
+from tcpsim.breakdown import Breakdown, breakdowns, flows_table, in_seconds, times, words_of
 from tcpsim.causes import counted, seconds
 from tcpsim.command_line import Refused, Words, Wrong, as_type
-from tcpsim.critical_path import DELAY, PROPAGATION, QUEUE, SERIALIZATION, TIMER, Event, critical_paths
-from tcpsim.output import Output, aligned
+from tcpsim.critical_path import Event, critical_paths
+from tcpsim.output import Output
 from tcpsim.program import found
 from tcpsim.scenario.text import Scenario
 from tcpsim.scenario.units import count
@@ -29,7 +29,6 @@ from tcpsim.walk import flow_named, opened
 from tcpsim.whole_trace import lines_of_text
 
 PICTURES = '.png', '.svg', '.pdf'
-COLUMNS = ('flow', 'seconds', 'queue: others', 'own', 'serialization', 'propagation', 'timeouts', 'delayed ACKs', 'trips')
 
 
 def words_of_tool() -> argparse.Namespace:
@@ -94,32 +93,6 @@ def breakdowns_of(given: argparse.Namespace, scenario_path: str, trace: str | No
 
 
 # ---- tables
-
-def sums_of(each: Breakdown) -> list[int]:
-    """The sums of a flow's parts, in the order of COLUMNS: in queues behind others and behind its own, and by their kinds."""
-    sums = dict.fromkeys(('others', 'own', SERIALIZATION, PROPAGATION, TIMER, DELAY), 0)
-    for part, ns in each.path.parts().items():
-        sums[part.kind if part.kind != QUEUE else 'own' if part.behind == each.name else 'others'] += ns
-    return list(sums.values())
-
-
-def write_flows(found: list[Breakdown], file: Output) -> None:
-    """A row for each flow, with its greatest part, and what those wait for that are not complete."""
-    alone = any(each.alone for each in found)
-    rows = [[*COLUMNS, *['alone'] * alone]]
-    greatest = ['  %     greatest part']
-    for each in found:
-        path = each.path
-        rows.append([each.name, f'{path.time / 1e9:.6f}', *(f'{ns / 1e9:.6f}' for ns in sums_of(each)), str(sum(path.trips.values())),
-                     *[f'{each.alone.time / 1e9:.6f}' if each.alone else '-'] * alone])
-        row = next(iter(each.rows()), None)
-        greatest.append(f'{100 * row.share:5.1f}  {words_of(row.part, each.name)}' if row else '    -')
-    for line, more in zip(aligned(rows), greatest):
-        print(f'{line}  {more}'.rstrip(), file=file)
-    for each in found:
-        if not each.path.is_whole:
-            print(each.unfinished(), file=file)
-
 
 def write_csv(found: list[Breakdown], file: Output) -> None:
     """A row for each part of each flow, and one for the whole."""
@@ -186,7 +159,7 @@ def write(given: argparse.Namespace, file: Output) -> None:
             else:
                 print('\n'.join(each.lines()), file=file)
     else:
-        write_flows(found, file)
+        print('\n'.join(flows_table(found)), file=file)
 
 
 def draw(given: argparse.Namespace) -> bytes:

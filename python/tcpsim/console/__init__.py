@@ -1,2 +1,3 @@
 """What tcpsim-debug puts before the debugger's prompt: `session` keeps where the program is, and starts it again there;
-`completion` finds from its help what can be typed; `keyboard` edits lines, `screen` shows answers."""
+`times` answers `time F`;
+`completion` finds from help what can be typed; `keyboard` edits lines, `screen` shows answers."""
