@@ -351,6 +351,52 @@ def test_a_run_can_be_ended(browser):
     assert browser.value('page.record.count') == 5
 
 
+# Runs the scenario, and ends it before piece `k` of the trace is read, once the program has written it all.
+ENDED_AT = """async k => {
+  const {engine, save} = simulator, start = engine.start, give = save.give;
+  let count = 0, saved = null;
+  engine.start = function (words, ...rest) {
+    const run = start.call(this, words, ...rest), all = run.pieces;
+    if (words[0] !== 'run') return run;
+    const pieces = (async function* () {
+      while (!all.closed) await new Promise(done => setTimeout(done, 5));
+      for await (const piece of all) { if (count++ === k) simulator.stop(); yield piece; }
+    })();
+    return {...run, pieces};
+  };
+  await simulator.start();
+  engine.start = start;
+  const {record} = page, {facts, last} = record;
+  page.goEvent(last);
+  save.give = name => { saved = name; };
+  document.getElementById('save-trace').click();
+  save.give = give;
+  return {count, said: document.getElementById('said').textContent, left: document.getElementById('left').textContent, whole: facts.whole,
+    lines: record.lines.length, last, line: record.line(last), words: document.getElementById('words').textContent, saved,
+    figures: [document.getElementById('save-figures').disabled, document.querySelectorAll('#figures-table tr').length]};
+}"""
+
+
+def test_a_part_of_a_run_is_never_shown_as_the_whole(browser):
+    """A run is ended at each piece of its trace that the page reads: what is shown then ends with a whole line, and says so."""
+    choose(browser, 'example two_flows_share_fairly')
+    with open(f'{TOP}/examples/two_flows_share_fairly.trace', encoding='ascii') as file:
+        lines = file.read().splitlines()
+    told = browser.json(f'({ENDED_AT})(-1)')
+    pieces, figures = told['count'], told['figures']
+    assert pieces >= 3 and figures[1] > 10
+    for k in range(pieces):
+        told = browser.json(f'({ENDED_AT})({k})')
+        assert told['line'] == lines[told['last'] - 1], k
+        assert told['words'].startswith('tcpsim debug: step') and told['figures'] in (figures, [True, 0])
+        if k == pieces - 1:         # all was read by then
+            assert told['whole'] and told['last'] == len(lines) - 1 and told['saved'] == 'two_flows_share_fairly.trace'
+            continue
+        assert not told['whole'] and 0 < told['last'] == told['lines'] < len(lines) - 1
+        assert told['said'].startswith('ended: what is shown ends at') and 'left out: what comes after' in told['left']
+        assert told['saved'] == 'two_flows_share_fairly.part.trace'
+
+
 # ---- nothing from outside
 
 def test_texts_names_and_addresses_are_never_html(chromium, made):

@@ -21,15 +21,28 @@ async function bytesOf(packed) {
 async function textOf(packed) { return new TextDecoder().decode(await bytesOf(packed)); }
 const toBytes = text => new TextEncoder().encode(text);
 
-// Pieces of output as they come: an async iterable that ends with `close`.
+// Pieces of output as they come: an async iterable. `close` says how the run ended, which `ended` gives once all pieces were
+// taken; a run whose pieces are cut has ended so, whatever the program said.
 class Pieces {
-  constructor() { Object.assign(this, {waiting: [], closed: false, wake: () => {}}); }
+  constructor() {
+    Object.assign(this, {waiting: [], closed: null, wake: () => {}});
+    this.ended = new Promise(done => { this.tell = done; });
+  }
   push(bytes) { this.waiting.push(bytes); this.wake(); }
-  close() { this.closed = true; this.wake(); }
+  close(answer) {
+    this.closed = answer;
+    if (!this.waiting.length) this.tell(answer);
+    this.wake();
+  }
+  cut(answer) {
+    if (this.closed && !this.waiting.length) return;        // all was taken
+    this.waiting = [];
+    this.close(answer);
+  }
   async* [Symbol.asyncIterator]() {
     for (;;) {
       while (this.waiting.length) yield this.waiting.shift();
-      if (this.closed) return;
+      if (this.closed) { this.tell(this.closed); return; }
       await new Promise(done => { this.wake = done; });
     }
   }
@@ -55,29 +68,23 @@ class Engine {
     return made;
   }
 
-  // Starts a run: {pieces, ended, stop}. `ended` gives {status, note}, or {why} where it did not come to its end: 'long'
-  // where it has more than `most` events, 'ended' where it was ended by `stop`, else a sentence.
+  // Starts a run: {pieces, ended, stop}. Behind its last piece `ended` gives {status, note}, or {why} where it did not come to its
+  // end: 'long' where it has more than `most` events, 'ended' where `stop` came before all pieces were taken, else a sentence.
   start(words, input, {files = new Map(), pages = MOST_PAGES, most = Infinity} = {}) {
     const worker = this.take(), number = this.count++, pieces = new Pieces();
-    let stop, left = false;
-    const ended = new Promise(done => {
-      const leave = (answer, keep) => {
-        if (left) return;           // its worker may be at another run already
-        left = true;
-        worker.onmessage = worker.onerror = null;
-        if (keep && this.idle.length < 3) this.idle.push(worker); else worker.terminate();
-        pieces.close();
-        done(answer);
-      };
-      worker.onmessage = ({data}) => {
-        if (data.number !== number) return;
-        if (data.bytes) pieces.push(data.bytes); else leave(data.ended, true);
-      };
-      worker.onerror = wrong => { wrong.preventDefault(); leave({why: `the program was stopped: ${wrong.message}`}, false); };
-      stop = () => { pieces.waiting = []; leave({why: 'ended'}, false); };
-    });
+    const leave = (answer, keep) => {
+      if (pieces.closed) return;          // its worker may be at another run already
+      worker.onmessage = worker.onerror = null;
+      if (keep && this.idle.length < 3) this.idle.push(worker); else worker.terminate();
+      pieces.close(answer);
+    };
+    worker.onmessage = ({data}) => {
+      if (data.number !== number) return;
+      if (data.bytes) pieces.push(data.bytes); else leave(data.ended, true);
+    };
+    worker.onerror = wrong => { wrong.preventDefault(); leave({why: `the program was stopped: ${wrong.message}`}, false); };
     worker.postMessage({number, words, input, files, pages, most});
-    return {pieces, ended, stop};
+    return {pieces, ended: pieces.ended, stop: () => { leave({why: 'ended'}, false); pieces.cut({why: 'ended'}); }};
   }
 
   // Keeps a session in a worker of its own, which waits for lines: {give, stop}. `give` takes bytes of input, and answers what the

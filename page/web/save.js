@@ -12,7 +12,11 @@ class Save {
       const {status, note, bytes} = await simulator.engine.run(['asm'], toBytes(simulator.editor.text));
       if (status) this.say(note.trim()); else this.give(name('.tcb'), [bytes], 'application/octet-stream');
     });
-    on('save-trace', () => this.give(name('.trace'), simulator.page.record.lines.pieces, 'text/plain'));
+    on('save-trace', () => {
+      const {record} = simulator.page, whole = record.facts.whole;
+      this.give(name(whole ? '.trace' : '.part.trace'), record.lines.pieces, 'text/plain');
+      if (!whole) this.say(`${byId('save-said').textContent}; it ends after event ${number(record.last)}, as the run was not read to its end`);
+    });
     on('save-figures', () => this.give(name('.csv'), [simulator.run.csv], 'text/csv'));
     on('save-svg', () => this.picture('svg'));
     on('save-png', () => this.picture('png'));

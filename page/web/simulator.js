@@ -190,7 +190,7 @@ class Simulator {
     const run = mine.figures = this.engine.start(['figures'], input, {pages: this.mostPages}), parts = [];
     for await (const piece of run.pieces) parts.push(piece);
     const counted = await run.ended;
-    if (this.run !== mine || counted.status) return counted;
+    if (this.run !== mine || counted.why || counted.status) return counted;
     mine.csv = await new Blob(parts).text();
     drawFigures(byId('figures-table'), mine.csv, factsOf(mine.text, mine.title));
     byId('save-figures').disabled = false;
@@ -213,7 +213,7 @@ class Simulator {
       const all = (async function* () {
         yield first.value;
         yield* pieces;
-        if ((await run.ended).why) record.lines.forgetRest();
+        record.lines.forgetRest();      // of a run that was cut; a whole trace ends with a line's end
       })();
       await fill(record, all, told, wanted);
     } catch (wrong) {
