@@ -301,6 +301,108 @@ def test_files_that_are_no_scenario(browser):
     assert 'refused L1' in opened_file(browser, 'h.tcb', image[:-1])
 
 
+def picked_file(browser, path):
+    """Opens a file as a person picks it; answers what the page says."""
+    root = browser.call('DOM.getDocument')['root']['nodeId']
+    node = browser.call('DOM.querySelector', nodeId=root, selector='#file')['nodeId']
+    browser.value('document.getElementById("said").textContent = ""')
+    browser.call('DOM.setFileInputFiles', nodeId=node, files=[str(path)])
+    browser.wait('document.getElementById("said").textContent')
+    return text_of(browser, '#said')
+
+
+def test_files_that_cannot_be_read(chromium, tmp_path):
+    """A folder, a file of 3 GiB, and one that is gone: the page says so, and keeps the text."""
+    choose(chromium, 'example one_segment')
+    before = chromium.value('simulator.editor.text')
+    long = tmp_path / 'long.txt'
+    with open(long, 'wb') as file:
+        file.write(b'# a text\n' * 4096)
+        file.truncate(3 << 30)
+    folder, gone = tmp_path / 'folder', tmp_path / 'gone.txt'
+    folder.mkdir()
+    gone.write_bytes(b'\xef\xbb\xbfsim 1\n')
+    assert picked_file(chromium, long) == 'long.txt: refused I1; I1: the input has more than 16,777,216 bytes'
+    assert 'folder cannot be read, and nothing was opened' in picked_file(chromium, folder)
+    chromium.value('document.getElementById("file").addEventListener("change", event => { window.kept = event.target.files[0]; }, {capture: true, once: true})')
+    picked_file(chromium, gone)
+    gone.unlink()
+    chromium.value(f'simulator.editor.text = {json.dumps(before)}')
+    chromium.value('simulator.openFile(window.kept)')
+    assert 'gone.txt cannot be read, and nothing was opened' in text_of(chromium, '#said')
+    assert chromium.value('simulator.editor.text') == before
+
+
+def test_a_byte_order_mark_is_taken_off_with_a_word(browser):
+    text = page_cases.read('examples', 'one_segment.txt')
+    assert page_cases.native(page_cases.Case(('asm',), b'\xef\xbb\xbf' + text)).note.startswith('refused E1 line 1')
+    said = opened_file(browser, 'marked.txt', b'\xef\xbb\xbf' + text.replace(b'\n', b'\r\n'))
+    assert 'byte order mark' in said and 'Windows' in said
+    assert browser.value('simulator.editor.text') == text.decode()
+    assert 'byte order' not in opened_file(browser, 'plain.txt', text)
+
+
+# Opens a file of 16 MiB, and answers the longest time in which the page did nothing else, in ms, until the text is judged.
+LONGEST_STOP = """async part => {
+  const verdict = document.getElementById('verdict'), old = verdict.textContent, seen = new Set();
+  let longest = 0, last = performance.now(), on = true;
+  const file = new File([part.repeat(Math.ceil(2 ** 24 / part.length)).slice(0, 2 ** 24)], 'long.txt');
+  const {port1, port2} = new MessageChannel();
+  port1.onmessage = () => {
+    const now = performance.now();
+    longest = Math.max(longest, now - last);
+    last = now;
+    seen.add(verdict.textContent);
+    if (on) setTimeout(() => port2.postMessage(0), 4);
+  };
+  port2.postMessage(0);
+  await new Promise(done => setTimeout(done, 20));
+  longest = 0;
+  await simulator.openFile(file);
+  seen.clear();
+  while (!document.documentElement.dataset.judged) await new Promise(done => setTimeout(done, 20));
+  on = false;
+  return {longest, judged: document.documentElement.dataset.judged, verdict: verdict.textContent, old: seen.has(old), size: simulator.editor.text.length,
+    lines: simulator.editor.box.lineCount()};
+}"""
+
+
+@pytest.mark.parametrize('part', ['\n', ' ', '# a comment\n', 'x'], ids=['line feeds', 'blanks', 'comments', 'one line'])
+def test_16_mib_leave_the_page_answering(browser, part):
+    """The editor shows a part, the program judges the whole, and the verdict of the text before is gone at once."""
+    choose(browser, 'example one_segment')
+    browser.wait('document.getElementById("verdict").textContent.startsWith("a scenario")')
+    told = browser.json(f'({LONGEST_STOP})({json.dumps(part)})')
+    assert told['judged'] == '1' and told['size'] == 1 << 24 and not told['old'], told
+    assert 'refused' in told['verdict'] and 'the editor shows the first' in told['verdict']
+    assert told['lines'] <= 1 << 14 and told['longest'] < 1500, told
+    look(browser, 'long')
+    # A scenario of that size runs.
+    text = page_cases.read('examples', 'one_segment.txt').decode()
+    if part != 'x':
+        browser.value(f'simulator.openText({json.dumps(text)} + {json.dumps(part)}.repeat({((1 << 24) - len(text)) // len(part)}), "long")')
+        browser.wait('document.documentElement.dataset.judged === "0"')
+        assert text_of(browser, '#verdict').startswith('a scenario: 2 nodes, 2 links, 1 flow; the editor shows')
+        assert run(browser).startswith('done in') and browser.value('page.record.count') == 5
+    choose(browser, 'example one_segment')
+    assert not browser.value('simulator.editor.box.getOption("readOnly")')
+
+
+def test_a_lesson_that_is_chosen_ends_the_run_before(browser):
+    """What was run is not shown over the other scenario, and the run can be begun at once."""
+    long = page_cases.read('examples', 'four_flows_share_codel.txt').decode().replace('sim ', 'sim 9')
+    browser.value(f'simulator.openText({json.dumps(long)}, "long")')
+    browser.wait('document.documentElement.dataset.judged === "0"')
+    browser.value('(window.done = simulator.start()) && 1')
+    browser.wait('simulator.run.record && simulator.run.record.count > 500')
+    choose(browser, 'lesson 1')
+    assert browser.json('[document.getElementById("stop").disabled, document.getElementById("run").disabled, !!page]') == [True, False, False]
+    assert text_of(browser, '#said') == ''
+    browser.value('window.done')
+    assert not browser.value('!!page') and text_of(browser, '#said') == ''
+    assert run(browser).startswith('done in') and browser.value('page.record.count') == 5
+
+
 def test_long_runs_are_asked_about(browser):
     choose(browser, 'example bufferbloat')
     browser.value('simulator.mostKept = 1000')

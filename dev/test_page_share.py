@@ -93,6 +93,23 @@ def test_a_fragment_that_is_not_whole(browser, fragment, says):
     browser.value('history.replaceState(null, "", location.pathname)')
 
 
+def test_of_two_fragments_the_second_is_shown(browser, made):
+    """They come within a moment, and the first takes longer to be unpacked and to be run."""
+    text = page_cases.read('examples', 'four_flows_share_codel.txt').decode().replace('sim ', '# a comment\n' * 400_000 + 'sim ')
+    first = browser.value(f'fragmentOf({{text: {json.dumps(text)}, name: "first", view: "trace", event: 900}})')
+    second = browser.value('fragmentOf({text: simulator.examples.one_segment, name: "second", view: "net", event: 3})')
+    browser.value('''(() => { const open = simulator.openFragment; window.opening = 0;
+      simulator.openFragment = async function (...given) { window.opening += 1; try { return await open.apply(this, given); } finally { window.opening -= 1; } }; })()''')
+    for wait in (0, 5, 10, 20, 40, 80, 160):
+        choose(browser, 'example fast_recovery')
+        browser.value(f'''(async () => {{ location.hash = {json.dumps(first)}; await new Promise(done => setTimeout(done, {wait}));
+          location.hash = {json.dumps(second)}; }})()''')
+        browser.wait('!window.opening && window.page && page.record.count === 5 && page.record.at === 3')
+        assert browser.json('[simulator.title, page.record.at, document.getElementById("run-side").dataset.view, simulator.editor.text.length]') == \
+            ['second', 3, 'net', len(page_cases.read('examples', 'one_segment.txt'))]
+    browser.value('delete simulator.openFragment')
+
+
 def test_a_fragment_cannot_fill_the_memory_nor_bring_html(chromium, made):
     word = chromium.value('packedText("#".repeat(40000000))')
     assert len(word) < 100_000

@@ -1,7 +1,9 @@
 'use strict';
 // The scenario's editor: line numbers, the colours of editors/vscode, and what the program says of the text as it is typed.
 
-const JUDGE_AFTER = 250;                // ms after the last key
+const JUDGE_AFTER = 250, SAY_AFTER = 150;       // ms after the last key; after which a verdict is waited for in words
+// What the editor takes: letters, lines, and letters of a line. Of a longer text it shows a part, which cannot be edited.
+const MOST_LETTERS_SHOWN = 2 ** 19, MOST_LINES_SHOWN = 2 ** 14, MOST_OF_A_LINE = 2 ** 12;
 // The scopes of the grammar, and the colours of the editor.
 const LOOKS = [['comment', 'comment'], ['invalid', 'error'], ['keyword', 'keyword'], ['entity', 'def'], ['storage', 'type'],
   ['constant', 'number']];
@@ -47,6 +49,13 @@ function defineColours(grammar) {
   }));
 }
 
+// As much of a text as the editor takes.
+function partOf(text) {
+  const lines = text.slice(0, MOST_LETTERS_SHOWN).split('\n', MOST_LINES_SHOWN);
+  const part = lines.map(line => line.slice(0, MOST_OF_A_LINE)).join('\n');
+  return part.length === text.length ? text : part;
+}
+
 // Where byte `at` of a line stands among its letters.
 function letterOf(line, at) {
   let bytes = 0, k = 0;
@@ -70,7 +79,8 @@ function readNote(note, text) {
   const found = /^refused ([A-Z]+\d*)(?: line (\d+))?$/.exec(head);
   if (!found) return {head, rest, code: null, line: null, span: null};
   const line = found[2] && +found[2] ? +found[2] : null;
-  const span = line && rest.length > 1 && /^ *\^+$/.test(rest[1]) ? spanOf(text.split('\n')[line - 1] || '', rest[0], rest[1]) : null;
+  const whole = line ? text.split('\n', line)[line - 1] : '';
+  const span = whole && whole.length <= MOST_OF_A_LINE && rest.length > 1 && /^ *\^+$/.test(rest[1]) ? spanOf(whole, rest[0], rest[1]) : null;
   return {head, rest, code: found[1], line, span};
 }
 
@@ -78,19 +88,45 @@ class Editor {
   // `judged` is told what the program says of the present text, once it has said it.
   constructor(place, grammar, run) {
     defineColours(grammar);
-    this.run = run;
-    this.marks = [];
+    Object.assign(this, {run, marks: [], whole: null, locked: false});
     this.box = CodeMirror(place, {lineNumbers: true, mode: 'tcpsim', gutters: ['CodeMirror-linenumbers', 'faults'],
-      lineWrapping: true, inputStyle: 'textarea', extraKeys: {Tab: false, 'Shift-Tab': false}});
+      lineWrapping: true, inputStyle: 'textarea', dragDrop: false, extraKeys: {Tab: false, 'Shift-Tab': false}});
     this.box.getInputField().setAttribute('aria-label', 'the scenario');
+    this.box.on('beforeChange', (box, change) => {
+      const text = change.text.join('\n');
+      if (change.origin === 'setValue' || partOf(text) === text) return;
+      change.cancel();
+      this.say('bad', 'this is too long to be edited here: open it as a file');
+    });
     this.box.on('change', () => { clearTimeout(this.timer); this.timer = setTimeout(() => this.judge(), JUDGE_AFTER); });
+    new ResizeObserver(() => this.box.refresh()).observe(place);
     this.verdict = document.getElementById('verdict');
     this.explained = document.getElementById('explained');
     this.meaning = document.getElementById('meaning');
     this.meaning.addEventListener('toggle', () => this.explain());
   }
-  get text() { return this.box.getValue(); }
-  set text(text) { this.box.setValue(text); this.box.scrollTo(0, 0); }
+  get text() { return this.whole === null ? this.box.getValue() : this.whole; }
+  set text(text) {
+    const part = partOf(text);
+    this.whole = part === text ? null : text;
+    this.clear();
+    this.say('', '');
+    delete document.documentElement.dataset.judged;
+    this.box.setValue(part);
+    this.box.scrollTo(0, 0);
+    this.lock(this.locked);
+    clearTimeout(this.timer);
+    this.judge();
+  }
+  // Whether nothing can be edited.
+  lock(locked) {
+    this.locked = locked;
+    this.box.setOption('readOnly', locked || this.whole !== null);
+  }
+  say(look, text) {
+    this.verdict.className = look;
+    this.verdict.textContent = text;
+  }
 
   // Asks the program, with the text as it stands when it is free.
   async judge() {
@@ -99,7 +135,9 @@ class Editor {
     this.judging = true;
     do {
       this.again = false;
-      const text = this.text, {status, note} = await this.run(['asm', '--explain'], toBytes(text));
+      const text = this.text, late = setTimeout(() => { this.clear(); this.say('', 'the program reads the text'); }, SAY_AFTER);
+      const {status, note} = await this.run(['asm', '--explain'], toBytes(text));
+      clearTimeout(late);
       if (!this.again && text === this.text) this.show(status, note, text);
     } while (this.again);
     this.judging = false;
@@ -107,15 +145,15 @@ class Editor {
   show(status, note, text) {
     this.clear();
     document.documentElement.dataset.judged = status;
-    this.verdict.className = status ? 'bad' : 'good';
+    const part = this.whole === null ? '' : `; the editor shows the first ${number(this.box.lineCount())} lines of ${number(text.length)} letters, to be read`;
     if (!status) {
-      const count = statement => text.split('\n').filter(line => words(line)[0] === statement).length;
-      const of = (number, name) => `${number} ${name}${number === 1 ? '' : 's'}`;
-      this.verdict.textContent = `a scenario: ${of(count('node'), 'node')}, ${of(count('link'), 'link')}, ${of(count('flow'), 'flow')}`;
+      const counts = {node: 0, link: 0, flow: 0};
+      for (const [statement] of statementsOf(text)) if (statement in counts) counts[statement] += 1;
+      this.say('good', `a scenario: ${Object.entries(counts).map(([name, count]) => many(count, name)).join(', ')}${part}`);
       return;
     }
     const {head, rest, code, line, span} = readNote(note || '', text);
-    this.verdict.textContent = head || 'the program could not judge the text';
+    this.say('bad', `${head || 'the program could not judge the text'}${part}`);
     this.explained.textContent = rest.join('\n');
     this.code = code;
     this.meaning.hidden = !code || code === 'I1';

@@ -1,12 +1,15 @@
 'use strict';
 // What is shown of a scenario: names, numbers and ways, read from a text that the program has accepted.
 
-const words = line => line.split('#', 1)[0].split(' ').filter(word => word);
+const words = line => line.split('#', 1)[0].match(/[^ ]+/g) || [];
+// The words of each statement. A text may be 16 MiB of blanks and comments: none of their lines is cut out.
+function* statementsOf(text) {
+  for (const [, line] of text.matchAll(/(?:^|\n) *([^ \n#][^\n]*)/g)) yield words(line);
+}
 
 // The facts that a record and the net's drawing go by, as python/tcpsim/replay/page.py makes them of a file.
 function factsOf(text, title) {
-  const facts = {title, end: 0, nodes: [], links: [], flows: [], ways: [], first: 0, whole: false,
-    remark: text.split('\n').filter(line => line.startsWith('#')).map(line => line.slice(1).trim())};
+  const facts = {title, end: 0, nodes: [], links: [], flows: [], ways: [], first: 0, whole: false};
   const node = new Map(), link = new Map(), routes = new Map(), leaves = [];
   const read = {
     sim: ([end]) => { facts.end = +end; },
@@ -26,10 +29,7 @@ function factsOf(text, title) {
     route: ([router, to, over]) => { routes.set(node.get(router) * 256 + node.get(to), link.get(over)); },
     lose: () => {},
   }, firsts = [];
-  for (const line of text.split('\n')) {
-    const [statement, ...rest] = words(line);
-    if (statement) read[statement](rest);
-  }
+  for (const [statement, ...rest] of statementsOf(text)) read[statement](rest);
   const way = (from, to) => {
     const found = [];
     for (let at = from; at !== to; at = facts.links[found[found.length - 1]].to)
@@ -49,7 +49,7 @@ function firstWindow(mss, ten) {
   return ten ? Math.min(10 * mss, Math.max(2 * mss, 14600)) : (mss > 2190 ? 2 : mss > 1095 ? 3 : 4) * mss;
 }
 
-// What a file is that is no scenario, or null. `bytes` is all of it.
+// What a file is that is no scenario, or null. `bytes` is its beginning, or all of it.
 const KINDS_OF_FILES = [
   [[0x89, 0x50, 0x4e, 0x47], 'a picture (PNG)'], [[0xff, 0xd8, 0xff], 'a picture (JPEG)'], [[0x47, 0x49, 0x46, 0x38], 'a picture (GIF)'],
   [[0x25, 0x50, 0x44, 0x46], 'a document (PDF)'], [[0x50, 0x4b, 3, 4], 'an archive (ZIP)'], [[0x1f, 0x8b], 'a packed file (gzip)'],

@@ -6,6 +6,7 @@ const dataOf = id => JSON.parse(byId(id).textContent);
 const LAY_AFTER = 60;                   // ms after the last change of size
 // Whether all stands below each other, as simulator.css has it.
 const isNarrow = () => matchMedia('(max-width: 900px)').matches;
+const BYTE_ORDER_MARK = [0xef, 0xbb, 0xbf];         // of UTF-8
 const nameOfFile = title => title.replace(/[^\w.-]+/g, '_') || 'scenario';
 
 class Simulator {
@@ -49,45 +50,51 @@ class Simulator {
     if (lesson.examples.length) this.openExample(lesson.examples[0]);
   }
   openExample(name) {
+    this.endRun();
     this.title = name;
     this.say('');
     this.editor.text = this.examples[name];
     if (!this.engine) this.showCarried();
   }
+  // Of a file that is too long no more is read than the program needs to say so.
   async openFile(file) {
-    const bytes = new Uint8Array(await file.arrayBuffer());
+    let bytes;
+    try {
+      bytes = new Uint8Array(await file.slice(0, MOST_SHARED + 1).arrayBuffer());
+    } catch (wrong) {
+      this.say(`${file.name} cannot be read, and nothing was opened: ${wrong.message}`);
+      return;
+    }
     const other = otherThanAScenario(bytes);
     if (other) { this.say(`${file.name} is ${other}, and no scenario: nothing was opened`); return; }
-    const title = file.name.replace(/\.(txt|tcb)$/, '');
-    if (bytes[0] === 84 && bytes[1] === 67 && bytes[2] === 66) {       // an image
+    const title = file.name.replace(/\.(txt|tcb)$/, ''), said = [];
+    if (bytes[0] === 84 && bytes[1] === 67 && bytes[2] === 66 || bytes.length > MOST_SHARED && this.engine) {       // an image
       const {status, note, bytes: text} = await this.engine.run(['dis', '--explain'], bytes);
       if (status) { this.say(`${file.name}: ${note.trim().replace(/\n/g, '; ')}`); return; }
-      this.editor.text = new TextDecoder('latin1').decode(text);
-      this.say(`${file.name} is an image: this is its canonical text, in which names are numbers`);
-    } else {
-      if (this.engine && bytes.length > 16777216) {
-        const {note} = await this.engine.run(['asm'], bytes);
-        this.say(`${file.name}: ${note.trim()}`);
-        return;
-      }
-      const text = new TextDecoder().decode(bytes);
-      this.editor.text = text;
-      this.say(text.includes('\r') ? `the lines of ${file.name} end as those of Windows, which the program refuses; here they end with a line feed` : '');
+      this.openText(new TextDecoder('latin1').decode(text), title, `${file.name} is an image: this is its canonical text, in which names are numbers`);
+      return;
     }
-    this.openText(this.editor.text, title, byId('said').textContent);
+    if (BYTE_ORDER_MARK.every((byte, k) => bytes[k] === byte))
+      said.push(`${file.name} begins with a byte order mark, which the program refuses; here it is taken off`);
+    const text = new TextDecoder().decode(bytes);
+    if (text.includes('\r')) said.push(`the lines of ${file.name} end as those of Windows, which the program refuses; here they end with a line feed`);
+    this.openText(text, title, said.join('; '));
   }
   // A text that is no lesson's and no example's.
   openText(text, title, said = '') {
+    this.endRun();
     this.title = title;
     this.say(said);
-    if (text !== this.editor.text) this.editor.text = text;
+    this.editor.text = text;
     this.lessons.show(null);
     byId('choose').selectedIndex = -1;
   }
   // What a fragment behind the address has: answers whether it had a scenario.
-  async openFragment() {
+  async openFragment(fragment = location.hash) {
+    const mine = this.asked = {};
     try {
-      const given = await readFragment(location.hash);
+      const given = await readFragment(fragment);
+      if (this.asked !== mine) return true;         // another came while this one was unpacked
       if (!given) return false;
       history.replaceState(null, '', location.pathname + location.search);
       const lesson = this.lessons.lessons.find(({number}) => number === given.lesson);
@@ -102,13 +109,14 @@ class Simulator {
       return true;
     } catch (wrong) {
       if (!(wrong instanceof Wrong)) throw wrong;
-      this.say(wrong.message);
+      if (this.asked === mine) this.say(wrong.message);
       return false;
     }
   }
   async showShared({view, event}) {
-    await this.start();
-    if (!this.page) return;
+    const done = this.start(), {run} = this;
+    await done;
+    if (this.run !== run || !this.page) return;
     if (event) this.goTo(event);
     if (view === 'debug' && event) this.prompt.type(`step ${event}`);
     this.showTab(view);
@@ -145,7 +153,7 @@ class Simulator {
   withoutProgram() {
     document.documentElement.dataset.ready = 'without';
     for (const id of ['run', 'figures', 'save-image']) byId(id).disabled = true;
-    this.editor.box.setOption('readOnly', true);
+    this.editor.lock(true);
     byId('verdict').textContent = '';
     this.showCarried();
   }
@@ -246,6 +254,12 @@ class Simulator {
       this.say(counted.why || counted.status ? this.reason(counted) : `figures alone, in ${((performance.now() - mine.begun) / 1000).toFixed(2)} s`);
     };
     dialog.showModal();
+  }
+  // Ends what runs, of which nothing is shown: the scenario is another.
+  endRun() {
+    if (byId('stop').disabled) return;
+    this.stop();
+    this.run = {...this.run};
   }
   // Ends what runs; what was read of the trace is shown.
   stop() {
@@ -383,8 +397,8 @@ ${dataOf('licenses').join('\n\n')}`;
       clearTimeout(timer);
       timer = setTimeout(() => { if (this.page && byId('tab-net').clientWidth) this.page.lay(); }, LAY_AFTER);
     }).observe(byId('tab-net'));
-    window.addEventListener('hashchange', async () => {
-      if (!await this.openFragment() && this.list && this.page) this.list.show(this.page.record.at);
+    window.addEventListener('hashchange', async ({newURL}) => {
+      if (!await this.openFragment(new URL(newURL).hash) && this.list && this.page) this.list.show(this.page.record.at);
     });
   }
 }

@@ -28,7 +28,7 @@ LIBRARY = os.path.join(PARTS, 'vendor', 'd3.v3.min.js')
 def about(scenario: Scenario) -> dict:
     """What the page has to know of the scenario."""
     return {
-        'end': scenario.end, 'remark': [line[1:].strip() for line in scenario.text.split('\n') if line.startswith('#')],
+        'end': scenario.end,
         'nodes': [{'name': node.name, 'kind': node.kind} for node in scenario.nodes],
         'links': [{'name': link.name, 'from': link.source, 'to': link.to, 'rate': link.rate, 'delay': link.delay,
                    'queue': link.queue, 'own': number in scenario.own, 'limit': link.capacity, 'port': scenario.leaves[link.source].index(number)}
