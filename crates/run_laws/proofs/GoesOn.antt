@@ -64,7 +64,7 @@ module _ (Q : SenderFields → Type 0) (kept : IsKeptByRows Q) where
   by_row_of now f v sound (starts n is none) was = subst (λ w. Q (row_of f w now).fields) (sym is) (kept.start f now sound none)
   by_row_of now f v sound (times_out n is set) was = subst (λ w. Q (row_of f w now).fields) (sym is) (kept.timeout f now sound was)
   by_row_of now f v sound (acks x is kind_is fits) was = subst (λ w. Q (row_of f w now).fields) (sym is) (subst (λ c. Q (for_packet f c x.number now).fields) (sym kind_is) (kept.acknowledgement f x.number now sound fits was))
-  by_row_of now f v sound (others is not none) was = subst (λ (q : Planned). Q q.fields) (sym (is now)) was
+  by_row_of now f v sound (others is other) was = subst (λ (q : Planned). Q q.fields) (sym (is now)) was
 
   module _ (p : ScenarioParts) (is_scenario : IsScenario p) (lines : List TraceLine) (s : State) (k : Key) (v : Event) (sound : IsSoundRun p lines s) (is : due s ≡ Some (k, v))
       (number : ℕ) (flow : FlowPart) (its : slice_get p.flows number ≡ Some flow) where

@@ -51,12 +51,18 @@ module _ (part : PartState) (key : Key) (number : ℕ) (f : SenderFields) (is : 
   row_role (Free link) = is
   row_role (Arrive x) = ap (λ ρ. (arrival_row part ρ key x).part.role) is ∙ by_kind x x.kind
 
+-- neither the flow's start, nor its timeout, nor an acknowledgement
+pub record IsAnother (v : Event) : Type 0 where
+  pub not_start : (number : ℕ) → v ≢ Start number
+  pub not_timeout : (number : ℕ) → v ≢ Rto number
+  pub not_ack : (x : Packet) → v ≡ Arrive x → x.kind ≢ Ack
+
 -- what is known of an event at a sender
 pub data Comes (now : ℕ) (f : SenderFields) : Event → Type 0 where
   starts : {v : Event} (number : ℕ) → v ≡ Start number → f.high ≡ 0 → Comes now f v
   times_out : {v : Event} (number : ℕ) → v ≡ Rto number → IsSome f.deadline → Comes now f v
   acks : {v : Event} (x : Packet) → v ≡ Arrive x → x.kind ≡ Ack → IsAckFor f x.number now → Comes now f v
-  others : {v : Event} → ((at : ℕ) → row_of f v at ≡ nothing_sent f) → ((number : ℕ) → v ≢ Rto number) → ((x : Packet) → v ≡ Arrive x → x.kind ≢ Ack) → Comes now f v
+  others : {v : Event} → ((at : ℕ) → row_of f v at ≡ nothing_sent f) → IsAnother v → Comes now f v
 
 del_ack_not : (a number : ℕ) → DelAck a ≢ Rto number
 del_ack_not a number e = cc
@@ -66,6 +72,15 @@ free_not a number e = cc
 
 pub arrive_not : (x : Packet) (number : ℕ) → Arrive x ≢ Rto number
 arrive_not x number e = cc
+
+arrive_starts_none : (x : Packet) (number : ℕ) → Arrive x ≢ Start number
+arrive_starts_none x number e = cc
+
+del_ack_starts_none : (a number : ℕ) → DelAck a ≢ Start number
+del_ack_starts_none a number e = cc
+
+free_starts_none : (a number : ℕ) → Free a ≢ Start number
+free_starts_none a number e = cc
 
 del_ack_brings_none : (a : ℕ) (x : Packet) → DelAck a ≢ Arrive x
 del_ack_brings_none a x e = cc
@@ -103,7 +118,12 @@ module _ (p : ScenarioParts) (is_scenario : IsScenario p) (lines : List TraceLin
       times_out n v_is (subst (λ (o : Option ℕ). IsSome o) (sym set) refl)
 
   at_ack : (x : Packet) → v ≡ Arrive x → IsArrival p s sound.moment k x → (kind : Kind) → x.kind ≡ kind → Comes k.time F.fields v
-  at_ack x v_is h Data kind_is = others (λ now. ap (λ w. row_of F.fields w now) v_is ∙ ap (λ c. for_packet F.fields c x.number now) kind_is) (λ n e. arrive_not x n (sym v_is ∙ e)) (λ y e is. data_not_ack (sym kind_is ∙ ap (λ (q : Packet). q.kind) (same_packet x y (sym v_is ∙ e)) ∙ is))
+  at_ack x v_is h Data kind_is =
+      others (λ now. ap (λ w. row_of F.fields w now) v_is ∙ ap (λ c. for_packet F.fields c x.number now) kind_is) (record {
+        not_start = λ n e. arrive_starts_none x n (sym v_is ∙ e);
+        not_timeout = λ n e. arrive_not x n (sym v_is ∙ e);
+        not_ack = λ y e is. data_not_ack (sym kind_is ∙ ap (λ (q : Packet). q.kind) (same_packet x y (sym v_is ∙ e)) ∙ is);
+      })
   at_ack x v_is h Ack kind_is =
       let given : IsGiven flow (sent_high s flow) (received_next s flow) x = ack_given p is_scenario lines sound.moment s sound.sound k x h kind_is number flow its at in
       acks x v_is kind_is (record {
@@ -115,8 +135,10 @@ module _ (p : ScenarioParts) (is_scenario : IsScenario p) (lines : List TraceLin
   by_event : (w : Event) → v ≡ w → Belongs p s sound.moment k w → Comes k.time F.fields v
   by_event (Start n) v_is h = at_start n v_is h
   by_event (Rto n) v_is h = at_timeout n v_is h
-  by_event (DelAck n) v_is h = others (λ now. ap (λ w. row_of F.fields w now) v_is) (λ m e. del_ack_not n m (sym v_is ∙ e)) (λ x e _. del_ack_brings_none n x (sym v_is ∙ e))
-  by_event (Free n) v_is h = others (λ now. ap (λ w. row_of F.fields w now) v_is) (λ m e. free_not n m (sym v_is ∙ e)) (λ x e _. free_brings_none n x (sym v_is ∙ e))
+  by_event (DelAck n) v_is h =
+      others (λ now. ap (λ w. row_of F.fields w now) v_is) (record { not_start = λ m e. del_ack_starts_none n m (sym v_is ∙ e); not_timeout = λ m e. del_ack_not n m (sym v_is ∙ e); not_ack = λ x e _. del_ack_brings_none n x (sym v_is ∙ e) })
+  by_event (Free n) v_is h =
+      others (λ now. ap (λ w. row_of F.fields w now) v_is) (record { not_start = λ m e. free_starts_none n m (sym v_is ∙ e); not_timeout = λ m e. free_not n m (sym v_is ∙ e); not_ack = λ x e _. free_brings_none n x (sym v_is ∙ e) })
   by_event (Arrive x) v_is h = at_ack x v_is h x.kind refl
 
   pub comes : Comes k.time F.fields v
@@ -139,28 +161,28 @@ pub by_rows : (P : ℕ → Event → SenderFields → Planned → Type 0)
     → ((now number : ℕ) (v : Event) (f : SenderFields) → IsSound f → v ≡ Start number → f.high ≡ 0 → P now v f (started f now))
     → ((now number : ℕ) (v : Event) (f : SenderFields) → IsSound f → v ≡ Rto number → IsSome f.deadline → P now v f (timed_out f now))
     → ((now : ℕ) (x : Packet) (v : Event) (f : SenderFields) → IsSound f → v ≡ Arrive x → x.kind ≡ Ack → IsAckFor f x.number now → P now v f (acknowledged f x.number now))
-    → ((now : ℕ) (v : Event) (f : SenderFields) → IsSound f → ((number : ℕ) → v ≢ Rto number) → ((x : Packet) → v ≡ Arrive x → x.kind ≢ Ack) → P now v f (nothing_sent f)) → AtEachSender P
+    → ((now : ℕ) (v : Event) (f : SenderFields) → IsSound f → IsAnother v → P now v f (nothing_sent f)) → AtEachSender P
 by_rows P a b c d = at_each_sender P each
   where
     each : (now : ℕ) (v : Event) (f : SenderFields) → IsSound f → Comes now f v → P now v f (row_of f v now)
     each now v f sound (starts number is none) = subst (P now v f) (sym (ap (λ w. row_of f w now) is)) (a now number v f sound is none)
     each now v f sound (times_out number is set) = subst (P now v f) (sym (ap (λ w. row_of f w now) is)) (b now number v f sound is set)
     each now v f sound (acks x is kind_is fits) = subst (P now v f) (sym (ap (λ w. row_of f w now) is ∙ ap (λ kind. for_packet f kind x.number now) kind_is)) (c now x v f sound is kind_is fits)
-    each now v f sound (others is not none) = subst (P now v f) (sym (is now)) (d now v f sound not none)
+    each now v f sound (others is other) = subst (P now v f) (sym (is now)) (d now v f sound other)
 
 pub new_segments_fit : AtEachSender FitsWindows
 new_segments_fit =
     by_rows FitsWindows (λ now _ _ f sound _ _. started_fits f now sound) (λ now _ _ f sound _ _. timeout_fits f now sound)
-    (λ now x _ f sound _ _ fits. ack_fits f x.number now sound fits) (λ _ _ _ _ _ _. inl refl)
+    (λ now x _ f sound _ _ fits. ack_fits f x.number now sound fits) (λ _ _ _ _ _. inl refl)
 
 pub timers_end_after_rto : AtEachSender EndsAfterRto
 timers_end_after_rto =
-    by_rows EndsAfterRto (λ now _ _ f _ _ _. started_ends f now) (λ now _ _ f _ _ _. timeout_ends f now) (λ now x _ f _ _ _ _. ack_ends f x.number now) (λ _ _ _ _ _ _. inr (inl refl))
+    by_rows EndsAfterRto (λ now _ _ f _ _ _. started_ends f now) (λ now _ _ f _ _ _. timeout_ends f now) (λ now x _ f _ _ _ _. ack_ends f x.number now) (λ _ _ _ _ _. inr (inl refl))
 
 pub nothing_resent_is_timed : AtEachSender TimesNoneResent
 nothing_resent_is_timed =
     by_rows TimesNoneResent (λ now _ _ f sound _ _. (start_never_times_resent f now sound.mss_least).fresh) (λ now _ _ f sound _ _. (timeout_never_times_resent f now sound.mss_least).fresh)
-    (λ now x _ f sound _ _ _. (acknowledgement_never_times_resent f x.number now sound.mss_least).fresh) (λ _ _ _ _ _ _ x there. absurd (none there.0 there.1))
+    (λ now x _ f sound _ _ _. (acknowledgement_never_times_resent f x.number now sound.mss_least).fresh) (λ _ _ _ _ _ x there. absurd (none there.0 there.1))
   where
     none : (i : ℕ) → i < 0 → ⊥
     none i within = omega (arith, within)
@@ -168,7 +190,7 @@ nothing_resent_is_timed =
 pub complete_flows_are_silent : AtEachSender IsSilentOnceComplete
 complete_flows_are_silent =
     by_rows IsSilentOnceComplete (λ _ _ _ f sound _ none whole. absurd (some_bytes f sound none whole)) (λ _ _ _ f sound _ set whole. absurd (none_flies f sound set whole))
-    (λ now x _ f sound _ _ fits whole. ack_silent f x.number now sound fits whole) (λ _ _ _ _ _ _ _. refl)
+    (λ now x _ f sound _ _ fits whole. ack_silent f x.number now sound fits whole) (λ _ _ _ _ _ _. refl)
   where
     some_bytes : (f : SenderFields) → IsSound f → f.high ≡ 0 → f.una ≡ total f → ⊥
     some_bytes f sound none whole =
@@ -190,7 +212,7 @@ rto_doubles_until_sample =
     (λ now n v f _ is _. record { doubles = λ m e. absurd (start_not n m (sym is ∙ e)); stays = λ _ _. start_keeps_rto f now })
     (λ now n v f _ is _. record { doubles = λ _ _. timeout_doubles_rto f now; stays = λ not _. absurd (not n is) })
     (λ now x v f _ is _ _. record { doubles = λ m e. absurd (arrive_not x m (sym is ∙ e)); stays = λ _ below. rto_stays_until_sample f x.number now (below x is) })
-    (λ now v f _ not _. record { doubles = λ m e. absurd (not m e); stays = λ _ _. refl })
+    (λ now v f _ other. record { doubles = λ m e. absurd (other.not_timeout m e); stays = λ _ _. refl })
   where
     start_not : (a number : ℕ) → Start a ≢ Rto number
     start_not a number e = cc

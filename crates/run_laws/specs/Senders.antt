@@ -91,22 +91,41 @@ AnswersTimeouts now v f q = (number : ℕ) → v ≡ Rto number → AnswersTimeo
 abbrev pub IsPastRecover : SenderFields → Type 0
 IsPastRecover f = IsFalse (is_newreno f) ⊎ IfSome f.recover (λ r. r < f.una)
 
--- recovery begins (RFC 5681 section 3.2 steps 2 and 3): at a third duplicate; ssthresh is half of what is in flight, without what limited transmit sent, cwnd three segments more, and una alone is sent again
+-- recovery begins (RFC 5681 section 3.2 steps 2 and 3): at a third duplicate, with NewReno past recover; ssthresh is half of what is in flight, without what limited transmit sent, cwnd three segments more, and una alone is sent again
 pub record BeginsRecovery (v : Event) (f : SenderFields) (q : Planned) : Type 0 where
   pub third : IsDuplicate v f × (f.dups ≡ 2)
+  pub past : IsPastRecover f
   pub ssthresh : q.fields.ssthresh ≡ half_of (f.nxt - f.una - f.lt) f
   pub cwnd : q.fields.cwnd ≡ half_of (f.nxt - f.una - f.lt) f + 3 * f.mss
   pub sends : q.sent ≡ f.una ∷ []
 
--- duplicates are counted, the third begins recovery where NewReno is past recover, and recovery begins so alone
+-- duplicates are counted, from 0 after a new acknowledgement; the third begins recovery where NewReno is past recover, and recovery begins so alone
 pub record AnswersDuplicates (now : ℕ) (v : Event) (f : SenderFields) (q : Planned) : Type 0 where
   pub counts : IsDuplicate v f → f.dups < 4294967295 → q.fields.dups ≡ f.dups + 1
+  pub anew : (ack : ℕ) → IsNewAck v f ack → q.fields.recovery ≡ false → q.fields.dups ≡ 0
   pub begins : IsDuplicate v f → f.recovery ≡ false → f.dups ≡ 2 → IsPastRecover f → q.fields.recovery ≡ true
   pub so_alone : f.recovery ≡ false → q.fields.recovery ≡ true → BeginsRecovery v f q
 
 -- ssthresh moves where a timeout comes or recovery begins, and nowhere else
 abbrev pub ThresholdStaysWithoutLoss : ℕ → Event → SenderFields → Planned → Type 0
 ThresholdStaysWithoutLoss now v f q = ((number : ℕ) → v ≢ Rto number) → (f.recovery ≡ true) ⊎ (q.fields.recovery ≡ false) → q.fields.ssthresh ≡ f.ssthresh
+
+-- recovery (RFC 5681 section 3.2 steps 4 to 6, RFC 6582 section 3.2 step 3): a duplicate lets cwnd grow by a segment, up to 2^40; a new acknowledgement ends it, and cwnd is ssthresh; but with NewReno one below recover is partial: recovery goes on, cwnd falls by what it acknowledges and rises by a segment, to one segment at least, and una is sent again
+pub record KeepsRecovery (now : ℕ) (v : Event) (f : SenderFields) (q : Planned) : Type 0 where
+  pub inflates : IsDuplicate v f → f.recovery ≡ true → (q.fields.cwnd ≡ min (f.cwnd + f.mss) 1099511627776) × (q.fields.recovery ≡ true)
+  pub ends : (ack : ℕ) → IsNewAck v f ack → f.recovery ≡ true → IsFalse (is_newreno f) ⊎ IfSome f.recover (λ r. r ≤ ack) → (q.fields.cwnd ≡ f.ssthresh) × (q.fields.recovery ≡ false)
+  pub partly : (ack r : ℕ) → IsNewAck v f ack → f.recovery ≡ true → is_newreno f ≡ true → f.recover ≡ Some r → ack < r → (q.fields.cwnd ≡ max (f.cwnd + f.mss - (ack - f.una)) f.mss) × (q.fields.recovery ≡ true) × Contains q.sent ack
+
+-- after the start, and after a new acknowledgement outside recovery, no further segment fits the flow and both windows
+abbrev pub StartsOrGoesOn : Event → SenderFields → Type 0
+StartsOrGoesOn v f = ((number : ℕ) × (v ≡ Start number)) ⊎ ((ack : ℕ) × IsNewAck v f ack × (f.recovery ≡ false))
+
+abbrev pub FillsWindows : ℕ → Event → SenderFields → Planned → Type 0
+FillsWindows now v f q = let g = q.fields in StartsOrGoesOn v f → min (total g) (g.una + min g.cwnd g.rwnd) < g.nxt + g.mss
+
+-- a new acknowledgement outside recovery sets the timer anew, where bytes are in flight afterwards (RFC 6298 section 5.3)
+abbrev pub RestartsTimer : ℕ → Event → SenderFields → Planned → Type 0
+RestartsTimer now v f q = (ack : ℕ) → IsNewAck v f ack → f.recovery ≡ false → q.fields.una < q.fields.nxt → q.fields.deadline ≡ Some (now + q.fields.rto)
 
 -- how cwnd grows outside recovery (RFC 5681 section 3.1): at a new acknowledgement, in slow start by what it acknowledges, a segment at most, else by mss·mss/cwnd, a byte at least; up to 2^40; and at no other event but a timeout
 pub record GrowsByReno (now : ℕ) (v : Event) (f : SenderFields) (q : Planned) : Type 0 where

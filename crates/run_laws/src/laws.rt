@@ -4,7 +4,7 @@ ghost use Rattle.run_laws.specs.Laws.{AcknowledgedWasReceived, WindowsHold, Time
 ghost use Rattle.run_laws.specs.Links.{PacketsAreConserved, PacketsArriveOnce, RatesHold, AtEachLink, LeavesInTurn, TurnsAwayByRule, SendsAllThatEntered, SendsOneByOne, DropsForCause, DropsOnTime, KeepsDropState};
 ghost use Rattle.run_laws.specs.Forwarding.{SendersOfferSegments, RoutersForward, ReceiversAcknowledge, DelayedAnswersAreDue};
 ghost use Rattle.run_laws.specs.Timing.{LinksTakeTheirTime};
-ghost use Rattle.run_laws.specs.Senders.{AtEachSender, FitsWindows, IsSilentOnceComplete, EndsAfterRto, GoesByTimeouts, TimesNoneResent, SendersOfferWhatTheySend, AnswersTimeouts, AnswersDuplicates, ThresholdStaysWithoutLoss, GrowsByReno, MeasuresRoundTrips};
+ghost use Rattle.run_laws.specs.Senders.{AtEachSender, FitsWindows, IsSilentOnceComplete, EndsAfterRto, GoesByTimeouts, TimesNoneResent, SendersOfferWhatTheySend, AnswersTimeouts, AnswersDuplicates, ThresholdStaysWithoutLoss, GrowsByReno, KeepsRecovery, FillsWindows, RestartsTimer, MeasuresRoundTrips};
 
 /// In every state of every run una <= nxt <= high <= the flow's bytes at each sender. Its receiver has what it knows to
 /// be acknowledged, and in order a prefix of what was sent. A complete flow has delivered all (RFC 9293 section 3.4).
@@ -87,9 +87,9 @@ pub fn timeouts_are_answered()
     ensures { AtEachSender AnswersTimeouts }
 {}
 
-/// In every run duplicates are counted, and the third begins recovery, with NewReno only past recover. Ssthresh is then
-/// half of what is in flight, without what limited transmit sent. Cwnd is three segments more, and una is sent again.
-/// Recovery begins in no other way (RFC 5681 section 3.2, RFC 6582 section 3.2).
+/// In every run duplicates are counted, anew after a new acknowledgement, and the third begins recovery, with NewReno
+/// only past recover. Ssthresh is then half of what is in flight, without what limited transmit sent. Cwnd is three
+/// segments more, and una is sent again. Recovery begins in no other way (RFC 5681 section 3.2, RFC 6582 section 3.2).
 pub fn third_duplicates_are_answered()
     ensures { AtEachSender AnswersDuplicates }
 {}
@@ -104,6 +104,25 @@ pub fn ssthresh_stays_without_a_loss()
 /// timeout changes it there (RFC 5681 section 3.1).
 pub fn windows_grow_by_new_acknowledgements()
     ensures { AtEachSender GrowsByReno }
+{}
+
+/// In every run, in recovery, a duplicate lets cwnd grow by a segment, and a new acknowledgement ends it: cwnd is
+/// ssthresh. But with NewReno one below recover is partial. Recovery goes on, and una is sent again. Cwnd falls by what
+/// is acknowledged, and rises by a segment (RFC 5681 section 3.2, RFC 6582 section 3.2).
+pub fn recovery_is_kept()
+    ensures { AtEachSender KeepsRecovery }
+{}
+
+/// In every run a start, or a new acknowledgement outside recovery, leaves nothing unsent that fits the flow and both
+/// windows (RFC 5681 section 3.1).
+pub fn windows_are_filled()
+    ensures { AtEachSender FillsWindows }
+{}
+
+/// In every run a new acknowledgement outside recovery that leaves bytes in flight sets the timer anew (RFC 6298 section
+/// 5.3).
+pub fn timers_are_restarted()
+    ensures { AtEachSender RestartsTimer }
 {}
 
 /// In every run an acknowledgement of the timed segment measures its round trip. SRTT, RTTVAR and the rto go by it:
