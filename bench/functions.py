@@ -99,7 +99,7 @@ def tell_dearest(names):
             counted.append(name)
     print("| crate | function | seconds |\n|---|---|--:|")
     for cost, name, function in sorted(rows, reverse=True)[:DEAREST]:
-        print(f"| {name} | `{function.replace('::', '.')}` | {cost:.1f} |")
+        print(f"| {name} | `{function}` | {cost:.1f} |")
     print(f"\n{len(rows)} functions of {len(counted)} crates took {sum(it[0] for it in rows):.0f} s, {sum(it[0] for it in rows) / max(1, len(rows)):.1f} in the mean.")
 
 

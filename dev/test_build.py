@@ -85,7 +85,7 @@ def test_what_each_function_costs_is_kept(clone, monkeypatch, capfd):
     functions.tell('low', 0.2)
     assert capfd.readouterr().out.splitlines()[1] == f'{costs["one"]:8.1f}  one'
     functions.tell_dearest(LIBRARIES)
-    assert capfd.readouterr().out.splitlines()[2:4] == [f'| low | `one` | {costs["one"]:.1f} |', f'| low | `Two.two` | {costs["Two::two"]:.1f} |']
+    assert capfd.readouterr().out.splitlines()[2:4] == [f'| low | `one` | {costs["one"]:.1f} |', f'| low | `Two::two` | {costs["Two::two"]:.1f} |']
 
 
 def test_the_compiler_keeps_its_module(clone):
