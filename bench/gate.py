@@ -12,7 +12,8 @@ runs in a folder that `rt` or dev/mutants.py made for it).
 With --kept no command is run: what is proved anew is each CRATE with its tests, over what `make run` keeps.
 The table is of what was counted last of each crate, by whatever was run last: of its check by `make run`, of
 its tests by --kept, of all by the first form, and of the tools' tests by dev/run_tests.py. With -o the
-table between the two marks of that file is written anew.
+table between the two marks of that file is written anew. Beside a total stands the machine's measure, what a fixed
+piece of work takes there: totals of two machines compare when each is divided by it.
 """
 import argparse
 import os
@@ -30,6 +31,8 @@ import build  # pylint: disable=wrong-import-position
 TICKS = os.sysconf("SC_CLK_TCK")
 PAGE = os.sysconf("SC_PAGE_SIZE")
 KINDS = ("check", "tests", "mutants")
+# How many turns of an empty loop are the machine's measure.
+TURNS = 50_000_000
 BEGIN, END = "<!-- the table of bench/gate.py -->", "<!-- its end -->"
 
 
@@ -148,14 +151,22 @@ def write(file, rows):
         it.write(f"{before}{BEGIN}\n{rows}\n{END}{behind}")
 
 
+def measure():
+    """The seconds of processor that a fixed piece of work takes on this machine."""
+    begun = time.process_time()
+    for _ in range(TURNS):
+        pass
+    return time.process_time() - begun
+
+
 def run(command):
     """Runs a command and keeps what its provers cost; answers its status."""
     own = ["env", f"RT_JOBS={len(os.sched_getaffinity(0))}", "rt", "ci"]
     status, seconds, processes = follow(command or own)
     for (name, kind), (spent, memory) in counted(processes).items():
         build.keep_cost(name, kind, spent, memory)
-    whole = sum(it.seconds for it in processes) / 60
-    print(f"{whole:.0f} processor minutes, {seconds / 60:.0f} minutes on {len(os.sched_getaffinity(0))} processors.")
+    whole, cores = sum(it.seconds for it in processes) / 60, len(os.sched_getaffinity(0))
+    print(f"{whole:.0f} processor minutes, {seconds / 60:.0f} minutes on {cores} processors; {TURNS} turns of a loop: {measure():.2f} s.")
     return status
 
 
