@@ -331,7 +331,8 @@ def main():
     try:
         if words.due:
             sys.exit(1 if try_due(having, words.begun) else 0)
-        refused, failed, left = try_all(having, Provers())
+        # The largest first, since those of one crate are tried one after another.
+        refused, failed, left = try_all(sorted(having, key=lambda it: -build.lines_of(it)), Provers())
     except build.Refused as why:
         sys.exit(f'nothing is tried: {why}')
     keep(refused, having)
