@@ -183,7 +183,7 @@ def verdict(status, lines, changed):
 
 
 class Tried:
-    """One crate whose mutants are tried in a folder of its own."""
+    """One crate whose mutants are tried in a folder of its own, which then goes: what is kept there is large."""
 
     def __init__(self, name, words, folder, provers):
         """`words` are those of its check, made in its own folder."""
@@ -191,8 +191,8 @@ class Tried:
         self.own = f'{TOP}/crates/{name}'
 
     def check(self, texts, kept):
-        """Checks the crate with these texts, by path, over what earlier checks kept in a folder."""
-        folder = f'{self.folder}/{self.name}'
+        """Checks the crate with these texts, by path, over what earlier checks kept in this folder."""
+        folder = f'{self.folder}/crate'
         shutil.rmtree(folder, ignore_errors=True)
         for part in PARTS:
             if os.path.isdir(f'{self.own}/{part}'):
@@ -210,16 +210,17 @@ class Tried:
             texts, told[file] = edited(edit, self.own)
             if not told[file]:
                 fit[file] = texts
-        plain = self.check({}, f'{self.name}.kept') if fit else None
+        plain = self.check({}, 'kept') if fit else None
         if plain and plain[0]:
             return told | dict.fromkeys(fit, f'not tried, as {self.name} itself is not proved: {plain[1][-1]}')
         for file, texts in fit.items() if plain else ():
             # What is not refused over what was kept is tried once more, from nothing.
-            for kept in (f'{self.name}.kept', f'{self.name}.{file}'):
-                done = self.check(texts, kept)
+            for folder in ('kept', file):
+                done = self.check(texts, folder)
                 told[file] = verdict(*done, texts) if done else None
                 if told[file] in (REFUSED, None):
                     break
+        shutil.rmtree(self.folder, ignore_errors=True)
         return told
 
 
@@ -238,7 +239,7 @@ def try_all(names, provers):
                 left.append(name)
                 continue
             words = build.check_words(name, kit, 1, libraries, below, '.')
-            running[pool.submit(Tried(name, words, place, provers).all)] = name
+            running[pool.submit(Tried(name, words, f'{place}/{name}', provers).all)] = name
         try:
             for done in concurrent.futures.as_completed(running):
                 name, told = running[done], done.result()

@@ -138,7 +138,7 @@ def test_it_takes_its_folder_and_its_prover_away_when_it_is_ended(tree, put):
     put('crates/low/mutants/waits.edit', EDIT.replace('2', 'waits'))
     env = {**os.environ, 'PATH': f'{tree}/bin:{os.environ["PATH"]}', 'TMPDIR': str(tree)}
     process = subprocess.Popen([sys.executable, '-B', tree / 'dev/mutants.py'], env=env, stdin=subprocess.DEVNULL, stdout=subprocess.DEVNULL)
-    while not (found := list(tree.glob('mutants-*/waits'))) or not found[0].read_text().strip():
+    while not (found := list(tree.glob('mutants-*/*/waits'))) or not found[0].read_text().strip():
         time.sleep(0.05)
     prover = int(found[0].read_text())
     process.send_signal(signal.SIGTERM)
