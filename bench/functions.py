@@ -100,7 +100,8 @@ def tell_dearest(names):
     print("| crate | function | seconds |\n|---|---|--:|")
     for cost, name, function in sorted(rows, reverse=True)[:DEAREST]:
         print(f"| {name} | `{function}` | {cost:.1f} |")
-    print(f"\n{len(rows)} functions of {len(counted)} crates took {sum(it[0] for it in rows):.0f} s, {sum(it[0] for it in rows) / max(1, len(rows)):.1f} in the mean.")
+    total = sum(cost for cost, _, _ in rows)
+    print(f"\n{len(rows)} functions of {len(counted)} crates took {total:.0f} s, {total / max(1, len(rows)):.1f} in the mean.")
 
 
 def main():

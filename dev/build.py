@@ -3,20 +3,20 @@
 
     dev/build.py [--jobs N] [--functions | --ready | --module]
 
-Each crate is proved once, by `rattle build`, the prover behind `rt`, as soon as those that it stands on
-are: as many crates side by side as there are jobs. The one for which the longest chain of others waits, by
-lines, gets the processors that the others leave, for as many functions at once, and two at least; each of
-the others gets one and gives way to it, since a crate costs a third more by four jobs than by one. Of a library
-its statements are kept (crates/tcpsim/out/libs), so that what stands on it does not read its proofs;
-after a change the changed crate and those that stand on it are proved again. `rt ci` trusts nothing of
-it and takes it away; what it proved and left itself is kept in that place. The same run of the prover that makes the program keeps the LLVM module that it is made of, as
-crates/tcpsim/out/tcpsim.bc, with a record that names both by their sums: of that module `make page` makes
-the program for a browser. With --module it sees to it that module and record are there and fit the program,
-and proves no more than it has to: the last crate alone, over what `make run` or `rt ci` left of the others.
-Beside them NAME.cost says what each cost, for the table of bench/gate.py. With --functions each crate is proved
-by one job, as bench/functions.py does it, which keeps what each function cost. With --ready it only says
-whether the toolchain is the one that is wanted, whether every file is in the layout that `rt fmt` gives,
-and whether a module has a library's name, as `rt ci` asks.
+Each crate is proved once, by `rattle build`, the prover behind `rt`, as soon as those that it stands on are:
+as many crates side by side as there are jobs. The one for which the longest chain of others waits, by lines,
+gets the processors that the others leave, for as many functions at once, and two at least; each of the others
+gets one and gives way to it, since a crate costs a third more by four jobs than by one. Of a library its
+statements are kept (crates/tcpsim/out/libs), so that what stands on it does not read its proofs; after a
+change the changed crate and those that stand on it are proved again. `rt ci` trusts nothing of it and takes
+it away; what it proved and left itself is kept in that place. The same run of the prover that makes the
+program keeps the LLVM module that it is made of, as crates/tcpsim/out/tcpsim.bc, with a record that names
+both by their sums: of that module `make page` makes the program for a browser. With --module it sees to it
+that module and record are there and fit the program, and proves no more than it has to: the last crate alone,
+over what `make run` or `rt ci` left of the others. Beside them NAME.cost says what each cost, for the table
+of bench/gate.py. With --functions each crate is proved by one job, as bench/functions.py does it, which keeps
+what each function cost. With --ready it only says whether the toolchain is the one that is wanted, whether
+every file is in the layout that `rt fmt` gives, and whether a module has a library's name, as `rt ci` asks.
 """
 import argparse
 import contextlib

@@ -288,7 +288,8 @@ def changed(name, row):
     """How many lines of a crate and of its mutants changed since the day of its row; all where it has none."""
     if not row:
         return build.lines_of(name)
-    words = ['git', 'log', f'--since={row["date"]}T00:00', '--format=', '--numstat', '--', *(f'crates/{name}/{it}' for it in (*PARTS, 'mutants'))]
+    words = ['git', 'log', f'--since={row["date"]}T00:00', '--format=', '--numstat', '--']
+    words += [f'crates/{name}/{it}' for it in (*PARTS, 'mutants')]
     said = subprocess.run(words, cwd=TOP, stdin=subprocess.DEVNULL, capture_output=True, text=True, check=False).stdout
     return sum(int(it) for line in said.splitlines() for it in line.split('\t')[:2] if it.isdigit())
 
@@ -306,7 +307,8 @@ def try_due(names, begun):
         print(f'none is tried: `make test` began {(now - begun) / 60:.0f} minutes ago')
         return 0
     refused, failed, left = try_all(due, Provers(now + TRYING))
-    print(f'{sum(refused.values())} refused, {failed} failed; left out for want of time: {" ".join(it for it in due if it in left) or "none"}')
+    out = ' '.join(it for it in due if it in left) or 'none'
+    print(f'{sum(refused.values())} refused, {failed} failed; left out for want of time: {out}')
     return failed
 
 
