@@ -125,6 +125,24 @@ def test_the_tests_name_what_changed_since_and_try_it_where_they_are_the_gate(tr
     assert record(tree) == before
 
 
+def test_the_most_changed_comes_first(tried, tree, put):
+    def commit(day):
+        env = {**os.environ, **{f'GIT_{who}_{what}': 'a@b' for who in ('AUTHOR', 'COMMITTER') for what in ('NAME', 'EMAIL')},
+               'GIT_COMMITTER_DATE': f'{day} 12:00:00 +0000'}
+        for words in (['init', '-q'], ['add', 'crates'], ['commit', '-qm', 'what']):
+            assert ran('git', *words, cwd=tree, env=env).returncode == 0
+    commit('2020-01-01')
+    tried()
+    put('crates/low/src/lib.rt', 'fn one() -> u64 { 1 }\n\n')
+    put('crates/high/src/lib.rt', 'fn one() -> u64 { 1 }\n\n\n\n')
+    commit('2099-01-01')
+    assert tried('--due')[1] == ['mutants to try again, of 2 crates (`make mutants`): high low']
+    put('bench/mutants.csv', (tree / 'bench/mutants.csv').read_text().replace('high', 'gone'))
+    put('crates/low/src/lib.rt', 'fn one() -> u64 { 1 }\n' + '\n' * 20)
+    commit('2099-01-02')
+    assert tried('--due')[1] == ['mutants to try again, of 2 crates (`make mutants`): low high']
+
+
 def test_it_says_what_it_has_no_time_for(tried, tree, put):
     put('crates/low/mutants/waits.edit', EDIT.replace('2', 'waits'))
     status, lines, _ = tried('--due', 'low', ci='true', TRYING=2)
