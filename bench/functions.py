@@ -10,6 +10,7 @@ their sum is told.
 
 The prover says when it is done with a function, and what it has used since it said so before is the cost. So a
 function has with its own what stands before it: the lemmas that it cites first, and the statements of its module.
+What comes before the end of the first one, mostly reading the libraries, is told apart.
 """
 import argparse
 import contextlib
@@ -38,7 +39,7 @@ def used(pid):
 
 def count(name, words):
     """Runs the check of a crate, prints what it says, and keeps the cost of each function; answers its status."""
-    costs, before = {}, 0
+    costs, first, before = {}, None, 0
     with subprocess.Popen([*words, "--progress"], stdin=subprocess.DEVNULL, stdout=subprocess.PIPE, stderr=subprocess.STDOUT,
                           text=True, errors="replace") as prover:
         for line in prover.stdout:
@@ -46,14 +47,16 @@ def count(name, words):
             if done:
                 now = used(prover.pid)
                 function = done[1].removeprefix(f"{name}::")
-                costs[function], before = round(costs.get(function, 0) + now - before, 2), now
+                if first:
+                    costs[function] = round(costs.get(function, 0) + now - before, 2)
+                first, before = first or (function, now), now
             else:
                 print(line, end="", flush=True)
         _, status, usage = os.wait4(prover.pid, 0)
         prover.returncode = os.waitstatus_to_exitcode(status)
     if not prover.returncode:
         with open(f"{build.KEPT}/{name}.functions", "w", encoding="utf-8") as file:
-            json.dump({"seconds": round(usage.ru_utime + usage.ru_stime, 2), "functions": costs}, file, indent=1)
+            json.dump({"seconds": round(usage.ru_utime + usage.ru_stime, 2), "first": first, "functions": costs}, file, indent=1)
     return prover.returncode
 
 
@@ -84,10 +87,11 @@ def tell(name, least):
     """Prints the functions of a crate, the dearest first."""
     found = kept(name)
     costs = sorted(found["functions"].items(), key=lambda it: -it[1])
-    print(f"{name}: {found['seconds']:.0f} s")
+    first, seconds = found["first"] or ("none", 0)
+    print(f"{name}: {found['seconds']:.0f} s\n{seconds:8.1f}  up to the end of the first, {first}")
     print("".join(f"{cost:8.1f}  {function}\n" for function, cost in costs if cost >= least), end="")
     print(f"{sum(cost for _, cost in costs if cost < least):8.1f}  all others")
-    print(f"{found['seconds'] - sum(found['functions'].values()):8.1f}  no function", flush=True)
+    print(f"{found['seconds'] - seconds - sum(found['functions'].values()):8.1f}  behind the last", flush=True)
 
 
 def tell_dearest(names):

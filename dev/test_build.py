@@ -52,16 +52,18 @@ def test_what_the_longest_chain_waits_for_is_proved_first(clone):
     assert begun[5:] == [('high', 3, False)]
 
 
-# A prover that is played: a check works for 0.3 seconds and then says that it is done with `one`, and at once with `two`; a
-# build takes a check's verdict.
+# A prover that is played: a check works for 0.3 seconds after it said that it is done with `zero`, and then says so of `one`,
+# and at once of `two`; a build takes a check's verdict.
 PROVER = f"""#!{sys.executable}
 import os, sys, time
 words = sys.argv[1:]
 if words[0] == 'check':
-    while time.process_time() < 0.3:
+    print('checked low::zero, 1 of 3', flush=True)
+    begun = time.process_time()
+    while time.process_time() - begun < 0.3:
         pass
-    print('checked low::one, 1 of 2', flush=True)
-    print('checked low::Two::two, 2 of 2', flush=True)
+    print('checked low::one, 2 of 3', flush=True)
+    print('checked low::Two::two, 3 of 3', flush=True)
     os.makedirs(words[words.index('-o') + 1])
 elif not os.path.isdir(words[words.index('--crate-checked') + 1]) or '--jobs' in words:
     sys.exit('there is no check')
@@ -83,7 +85,8 @@ def test_what_each_function_costs_is_kept(clone, monkeypatch, capfd):
     costs = functions.kept('low')['functions']
     assert list(costs) == ['one', 'Two::two'] and costs['one'] > 0.2 > costs['Two::two']
     functions.tell('low', 0.2)
-    assert capfd.readouterr().out.splitlines()[1] == f'{costs["one"]:8.1f}  one'
+    lines = capfd.readouterr().out.splitlines()
+    assert lines[1].endswith('  up to the end of the first, zero') and lines[2] == f'{costs["one"]:8.1f}  one'
     functions.tell_dearest(LIBRARIES)
     assert capfd.readouterr().out.splitlines()[2:4] == [f'| low | `one` | {costs["one"]:.1f} |', f'| low | `Two::two` | {costs["Two::two"]:.1f} |']
 
