@@ -102,8 +102,9 @@ class Words(argparse.ArgumentParser):
 
 
 def tool() -> str:
-    """The name under which the tool was called."""
-    return os.path.basename(sys.argv[0])
+    """The name under which the tool was called; by `python3 -m` it is that of its command."""
+    folder, name = os.path.split(sys.argv[0])
+    return f'tcpsim-{name[:-3]}' if os.path.basename(folder) == 'commands' and name.endswith('.py') else name
 
 
 def write(text: str) -> None:

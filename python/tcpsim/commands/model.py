@@ -13,3 +13,7 @@ def main() -> int:
     if sys.argv[1:] in (['--help'], ['-h']):
         return say(f'{command_line.__doc__.strip()}\n  --version    the version of the tools, and those of the formats\n')
     return command_line.command()
+
+
+if __name__ == '__main__':
+    sys.exit(main())

@@ -1,4 +1,6 @@
 """The command tcpsim-plot."""
+import sys
+
 from tcpsim.command_line import refuse, run
 
 
@@ -11,3 +13,7 @@ def main() -> int:
             raise
         return refuse('matplotlib is not there: apt-get install python3-matplotlib, and run this with Debian\'s '
                       '/usr/bin/python3')
+
+
+if __name__ == '__main__':
+    sys.exit(main())

@@ -1,7 +1,13 @@
 """The command tcpsim-replay."""
+import sys
+
 from tcpsim.command_line import run
 
 
 def main() -> int:
     """Answers the status."""
     return run('tcpsim.cli.replay')
+
+
+if __name__ == '__main__':
+    sys.exit(main())

@@ -1,7 +1,13 @@
 """The command tcpsim-stalls."""
+import sys
+
 from tcpsim.command_line import run
 
 
 def main() -> int:
     """Answers the status."""
     return run('tcpsim.cli.stalls')
+
+
+if __name__ == '__main__':
+    sys.exit(main())
