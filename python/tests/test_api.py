@@ -6,6 +6,7 @@ import csv
 import importlib.util
 import io
 import os
+import pickle
 import signal
 import subprocess
 import sys
@@ -341,6 +342,54 @@ def test_frames():
     assert run.figures.links.to_pandas().dropped_codel['pq'] == 4
     assert len(run.trace.to_pandas()) == run.figures.events
     assert isinstance(run.series('100ms').to_pandas(), pandas.DataFrame)
+
+
+def test_a_frame_of_events_has_what_is_sent_and_dropped():
+    """By each link as many as its figures have; the drops are those of `drops`."""
+    pytest.importorskip('pandas', reason='pandas is not there: apt-get install python3-pandas')
+    run = tcpsim.run(example('four_flows_before_codel'), engine='model')
+    frame = run.trace.to_pandas()
+    links = {name: link for name, link in run.figures.links.items() if link.packets_sent}
+    assert frame.groupby('sent_link').size().to_dict() == {name: link.packets_sent for name, link in links.items()}
+    dropped = frame[frame.dropped > 0]
+    assert dropped.groupby('drop_link').dropped.sum().to_dict() == {
+        name: link.packets_dropped for name, link in links.items() if link.packets_dropped}
+    assert [(time, drop) for time, drops in zip(dropped.time_ns, dropped.drops) for drop in drops] == list(run.trace.drops())
+    assert set(dropped.drop_reason) == {drop.reason for _, drop in run.trace.drops()}
+    sent = frame[frame.sent_link.notna()]
+    assert [tuple(packet) for packets in sent.sent for packet in packets] == list(zip(sent.sent_link, sent.sent_flow, sent.sent_number))
+
+
+def test_runs_and_their_figures_can_be_pickled(engine):
+    """What comes back says the same, and goes on where it is asked for more."""
+    run = tcpsim.run(example('four_flows_before_codel'), engine=engine)
+    for of in (run, run.figures, run.figures.links, run.series('100ms'), run.stalls(), run.trace, list(run.trace), run.scenario,
+               tcpsim.sweep(run.scenario, {'pq.queue': ['droptail:2', 'droptail:3']}, engine=engine)):
+        assert repr(pickle.loads(pickle.dumps(of))) == repr(of)
+    again = pickle.loads(pickle.dumps(run))
+    assert list(again.trace.lines()) == list(run.trace.lines())
+    assert [event.drops for event in pickle.loads(pickle.dumps(list(run.trace)))] == [event.drops for event in run.trace]
+
+
+class OneByOne:
+    """A queue that keeps all, which is pickled by its name."""
+
+    word = 'one'
+
+    def __init__(self):
+        self.queue = []
+
+    def offer(self, packet, now, drop):
+        self.queue.append(packet)
+
+    def take(self, now, drop):
+        return self.queue.pop(0) if self.queue else None
+
+
+def test_a_run_with_an_own_queue_can_be_pickled():
+    run = tcpsim.run(tcpsim.dumbbell(flows=1, rate='1M', end='1s'), queues={'pq': OneByOne})
+    again = pickle.loads(pickle.dumps(run))
+    assert (repr(again), again.figures.events, list(again.trace.lines())) == (repr(run), run.figures.events, list(run.trace.lines()))
 
 
 def test_tables_are_shown():

@@ -76,6 +76,9 @@ class Event(Fields):
         return tuple(Drop(word[5:], names.link_of(self), names.flows[flow], int(number)) for word, flow, number in
                      (act.split(':') for act in self.acts if act[0] == 'd'))
 
+    def __reduce__(self) -> tuple:
+        return restored, (self._names, tuple(self))
+
     def __repr__(self) -> str:
         known = [f'{name}={value!r}' for name, value in zip(self._fields, self) if value is not None and name != 'acts']
         known += [f'{name}={packets}' for name in ('sent', 'drops') if (packets := getattr(self, name))]
@@ -97,6 +100,9 @@ class Names:
         self.ends = {flow.name: (flow.sender, flow.receiver) for flow in scenario.flows}
         self.kind_of_event = type('Event', (Event,), {'__slots__': (), '_names': self, '__doc__': Event.__doc__})
 
+    def __reduce__(self) -> tuple:
+        return Names, (self.scenario,)
+
     def link_of(self, event: Event) -> str:
         """The link before which an event drops: that which is free, or over which the node sends."""
         if event.kind == 'free':
@@ -104,6 +110,11 @@ class Names:
         node, (sender, receiver) = self.numbers[event.node], self.ends[event.flow]
         data = event.kind == 'data' and node != receiver or node == sender
         return self.scenario.links[self.scenario.hop(node, receiver if data else sender)].name
+
+
+def restored(names: Names, fields: tuple) -> Event:
+    """An event that was pickled."""
+    return tuple.__new__(names.kind_of_event, fields)
 
 
 def events_of(blocks: Iterable[list[str]], names: Names) -> Iterator[Event]:
@@ -164,8 +175,15 @@ class Trace(Iterable[Event]):
                 yield event.time_ns, drop
 
     def to_pandas(self) -> DataFrame:
-        """A pandas DataFrame with a row for each event."""
-        return wanted('pandas').DataFrame.from_records(list(self), columns=Event._fields)
+        """A pandas DataFrame with a row for each event. `sent` and `drops` are as of an event. Of the packet that begins to be sent
+        there are the link, the flow and the number; of those that are dropped the link, the first one's reason, and the count."""
+        pandas, rows = wanted('pandas'), []
+        for event in self:
+            sent, drops = event.sent, event.drops
+            rows.append((*event[:-1], sent, drops, *(sent[0] if sent else Sent(None, None, None)),
+                         *((drops[0].link, drops[0].reason) if drops else (None, None)), len(drops)))
+        return pandas.DataFrame.from_records(rows, columns=[*Event._fields[:-1], 'sent', 'drops', 'sent_link', 'sent_flow', 'sent_number',
+                                                            'drop_link', 'drop_reason', 'dropped'])
 
     def __repr__(self) -> str:
         first = []

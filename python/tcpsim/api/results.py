@@ -227,7 +227,12 @@ class Stalls(list):
 def drop_columns(links: list[LinkResult]) -> list[tuple]:
     """A column for each word by which any of these links dropped."""
     words = dict.fromkeys(word for link in links for word, count in link.drops.items() if count)
-    return [(f'as {word}', lambda link, word=word: link.drops.get(word, 0), '{:,}', 1) for word in words]
+    return [(f'as {word}', functools.partial(dropped_as, word), '{:,}', 1) for word in words]
+
+
+def dropped_as(word: str, link: LinkResult) -> int:
+    """Packets that a link dropped by this word."""
+    return link.drops.get(word, 0)
 
 
 def is_used(link: LinkResult) -> bool:

@@ -6,7 +6,7 @@ import functools
 import os
 import tempfile
 from collections.abc import Callable, Iterator, Mapping
-from typing import BinaryIO
+from typing import TYPE_CHECKING, BinaryIO
 
 from tcpsim import output
 from tcpsim.api.engines import Engine, check_own, check_queues, engine_of, reads_of
@@ -27,6 +27,8 @@ from tcpsim.stalls import stalls_of
 from tcpsim.walk import flow_named
 from tcpsim.whole_trace import blocks
 
+if TYPE_CHECKING:
+    from tcpsim.api.by_model import OwnQueueRun
 
 
 def moment(option: str, time: str | int | None) -> int | None:
@@ -66,17 +68,28 @@ class Simulation:
 
     def __init__(self, scenario: ScenarioText, engine: str | None = None,
                  queues: Mapping[str, Callable[..., object]] | None = None):
-        self.scenario, self._queues = scenario, queues or {}
-        self._own = None
-        if check_queues(queues):
-            from tcpsim.api.by_model import OwnQueueRun
+        self.scenario = scenario
+        self._own, self._queues = None, dict(queues) if check_queues(queues) else {}
+        if self._queues:
             check_own(engine, scenario.text)
-            self._own = OwnQueueRun(scenario.text, queues)
+            self._own = self._own_run()
             self._engine = Engine('model', '')
         else:
             self._engine = engine_of(engine, scenario.text)
             self._engine.check(scenario.text)
         self._kept = None               # the model's trace, which takes long to make: a file without a name
+
+    def _own_run(self) -> OwnQueueRun:
+        from tcpsim.api.by_model import OwnQueueRun
+        return OwnQueueRun(self.scenario.text, self._queues)
+
+    def __getstate__(self) -> dict:
+        """What is pickled: the classes of queues by their names, and no trace."""
+        return {**vars(self), '_own': None, '_kept': None}
+
+    def __setstate__(self, state: dict) -> None:
+        vars(self).update(state)
+        self._own = self._own_run() if self._queues else None
 
     @property
     def engine(self) -> str:
