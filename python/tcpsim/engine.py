@@ -9,7 +9,7 @@ from collections.abc import Callable
 from functools import partial
 
 from tcpsim.command_line import MODEL
-from tcpsim.program import find_program, is_model
+from tcpsim.program import find_program
 from tcpsim.scenario.text import Scenario, Unreadable
 from tcpsim.scenario.units import BITS_NS, HEADER_BYTES
 from tcpsim.whole_trace import BLOCK, ProgramFailed, Running, naming, running, scenario_bytes, scenario_text
@@ -112,7 +112,7 @@ class EngineRun:
     The span is that of figures.py: from the first flow's start to the last event where every flow is complete, else to
     the scenario's end."""
 
-    def __init__(self, scenario: Scenario, table: str, portions: Callable[[EngineRun], list[list[int]]] | None = None):
+    def __init__(self, scenario: Scenario, table: str, portions: Callable[[EngineRun], list[list[int]]] | list[list[int]] = ()):
         self._portions = portions
         values = read_table(table)
         self.flows = [figures_of(values, ('flow', str(n)), OF_A_FLOW) for n in range(len(scenario.flows))]
@@ -140,7 +140,7 @@ class EngineRun:
 
     def portions(self) -> list[list[int]]:
         """What each flow delivered in each of the span's PORTIONS; none where it is not told."""
-        return self._portions(self) if self._portions else []
+        return self._portions(self) if callable(self._portions) else self._portions
 
     def dropped(self, number: int) -> int:
         """Packets that a link dropped."""
@@ -182,5 +182,4 @@ def engine_run(path: str, program: str | None = None) -> EngineRun:
     with naming(path, source=source):
         program = find_program(program, lambda: [scenario_text(source, 'the scenario', MODEL)])
         table = table_of(source, program)
-        portions = None if is_model(program) else partial(portions_of, program, source, None)
-        return EngineRun(Scenario(scenario_text(source, path, program)), table, portions)
+        return EngineRun(Scenario(scenario_text(source, path, program)), table, partial(portions_of, program, source, None))

@@ -24,7 +24,8 @@ def tooth(scenario: Scenario, number: int, flows: Sequence[int]) -> float:
 
     In congestion avoidance the window grows by a segment in a round trip, or in two where acknowledgements are delayed, from half
     of what the flow's part of the path and the queue holds to all of it (RFC 5681 section 3.1). CoDel's queue holds what waits for
-    the target. The round trip grows with the queue: its mean is that of both ends. One more is that of the recovery.
+    the target. The round trip grows with the queue: its mean is that of both ends. One more is that of the recovery. What a queue
+    of one's own holds nobody knows, and it has no tooth.
     """
     flow, (there, _), links = scenario.flows[number], scenario.ways[number], scenario.links
     beside = {link: sum(link in scenario.ways[other][0] for other in flows) for link in there}
@@ -32,7 +33,7 @@ def tooth(scenario: Scenario, number: int, flows: Sequence[int]) -> float:
     link, trip = links[slowest], least_trip(scenario, number)
     duration = (flow.mss + HEADER_BYTES) * BITS_NS / link.rate
     most = (trip + (link.target if link.queue == 'codel' else link.capacity * duration)) / duration / beside[slowest]
-    if window(scenario, number) < most:
+    if window(scenario, number) < most or slowest in scenario.own:
         return 0
     trips = [max(trip, beside[slowest] * segments * duration) for segments in (most / 2, most)]
     return ((2 if flow.delack else 1) * most / 2 + 1) * statistics.fmean(trips)

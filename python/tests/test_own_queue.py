@@ -3,6 +3,7 @@
 by a class's own word in figures, pictures, stalls and pages, and what no queue can do. Usage: python/tests/test_own_queue.py,
 or pytest."""
 import glob
+import io
 import os
 import random
 import re
@@ -16,6 +17,7 @@ import pytest
 from clone import TOP
 
 import tcpsim
+from tcpsim.api import progress
 from tcpsim.program import BUILT
 
 EXAMPLES = os.path.join(TOP, 'examples')
@@ -265,6 +267,65 @@ def test_a_page_of_another_order_is_wrong():
     with pytest.raises(tcpsim.Error) as wrong:
         tcpsim.run(NET, queues={'pq': Fair}).replay()
     assert wrong.type is tcpsim.Wrong
+
+
+# ---- how far a run is
+
+class Terminal(io.StringIO):
+    """Standard error at a terminal."""
+
+    def isatty(self):
+        return True
+
+
+@pytest.fixture
+def impatient(monkeypatch):
+    """Progress is told at each look at the clock."""
+    for name in ('PATIENCE', 'AGAIN'):
+        monkeypatch.setattr(progress, name, 0)
+
+
+def test_a_function_is_told_how_far_a_run_is(impatient):
+    told = []
+    run = tcpsim.run(NET, queues={'pq': Red}, progress=lambda passed, end: told.append((passed, end)))
+    assert told == []
+    events = run.figures.events
+    assert len(told) == 1 + -(-events // progress.EVENTS) and {end for _, end in told} == {NET.end_ns}
+    assert [passed for passed, _ in told] == sorted(passed for passed, _ in told) and told[-1][0] == NET.end_ns
+    of_figures, told[:] = list(told), []
+    assert sum(1 for _ in run.trace) == events
+    assert told == of_figures
+
+
+def test_a_terminal_shows_how_far_a_run_is(impatient, monkeypatch):
+    monkeypatch.setattr(sys, 'stderr', Terminal())
+    assert tcpsim.run(NET, queues={'pq': Red}).figures.events > 7 * progress.EVENTS
+    *lines, last, end = sys.stderr.getvalue().split('\r')[1:]
+    assert len(lines) >= 8 and all(re.fullmatch(r'\d\.\d s of 6 s are run, in \d+ s; \d+ s are left *', line) for line in lines)
+    assert (last.strip(), end) == ('', '')
+
+
+def test_nothing_else_says_how_far_a_run_is(impatient, monkeypatch):
+    monkeypatch.setattr(sys, 'stderr', io.StringIO())
+    assert tcpsim.run(NET, queues={'pq': Red}).figures.events
+    assert sys.stderr.getvalue() == ''
+
+
+def test_a_short_run_says_nothing(monkeypatch):
+    monkeypatch.setattr(sys, 'stderr', Terminal())
+    monkeypatch.setattr(progress, 'PATIENCE', 600)
+    assert tcpsim.run(NET, queues={'pq': Red}).figures.events
+    assert sys.stderr.getvalue() == ''
+
+
+def test_the_line_is_taken_away_where_a_queue_is_wrong(impatient, monkeypatch):
+    class Wrong(Red):
+        def take(self, now, drop):
+            return object() if now > 10**9 else super().take(now, drop)
+    monkeypatch.setattr(sys, 'stderr', Terminal())
+    with pytest.raises(tcpsim.WrongQueue):
+        tcpsim.run(NET, queues={'pq': Wrong}).figures
+    assert sys.stderr.getvalue().endswith(' \r')
 
 
 if __name__ == '__main__':

@@ -108,10 +108,29 @@ def test_portions_of_traces_and_of_the_program(put):
     later = Figures(net.parsed, ''.join(trace(assemble(net.text.encode()))).splitlines(), 10**9, 3 * 10**9)
     assert len(later.portions()) == PORTIONS
     assert [sum(column) for column in zip(*later.portions())] == [flow.delivered() for flow in later.flows]
-    assert EngineRun(net.parsed, figures(assemble(net.text.encode()))).portions() == []
-    run = tcpsim.run(net, engine=PROGRAM).figures
-    if run._run.portions():
-        assert [sum(column) for column in zip(*run._run.portions())] == [flow.delivered_bytes for flow in run.flows.values()]
+    for run in (tcpsim.run(net, engine=PROGRAM), tcpsim.run(net, engine='model'), tcpsim.run(net, queues={'qp': OneList})):
+        assert run.figures._run.portions() == portions
+    assert EngineRun(net.parsed, figures(assemble(net.text.encode()))).portions() == ()
+
+
+class OneList:
+    """A queue that drops nothing."""
+
+    word = 'none'
+
+    def __init__(self):
+        self.packets = []
+
+    def offer(self, packet, now, drop):
+        self.packets.append(packet)
+
+    def take(self, now, drop):
+        return self.packets.pop(0) if self.packets else None
+
+
+def test_a_queue_of_ones_own_has_no_tooth():
+    net = tcpsim.dumbbell(flows=1, rate='4M', rtt='200ms', queue='droptail:BDP', end='2s')
+    assert not [words for words in tcpsim.run(net, queues={'pq': OneList}).figures.too_short if words.startswith('Too short')]
 
 
 # ---- tools, sweeps and Python

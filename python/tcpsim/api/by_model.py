@@ -6,10 +6,12 @@ import inspect
 from collections.abc import Callable, Iterator, Mapping
 
 from tcpsim.api.errors import Refused, WrongQueue
+from tcpsim.api.progress import EVENTS, Progress, Told
 from tcpsim.command_line import Wrong
+from tcpsim.engine import PORTIONS
 from tcpsim.scenario.text import Scenario
 from tcpsim_model import queues as model_queues
-from tcpsim_model.figures import figures
+from tcpsim_model.figures import begun, csv_line, heading, rows
 from tcpsim_model.prompt import Prompt
 from tcpsim_model.scenario import Refused as ModelRefused, Scenario as ModelScenario
 from tcpsim_model.simulate import trace
@@ -28,10 +30,11 @@ def assembled(text: str) -> ModelScenario:
 
 
 class OwnQueueRun:
-    """A run of a scenario's text with a class for the queue of each link that is named."""
+    """A run of a scenario's text with a class for the queue of each link that is named. `told` is told how far it is."""
 
-    def __init__(self, text: str, queues: Mapping[str, Maker]):
-        self._scenario = assembled(text)
+    def __init__(self, text: str, queues: Mapping[str, Maker], told: Told | None = None):
+        self._scenario, self._told = assembled(text), told
+        self.portions: list[list[int]] = []     # once the table was made: what each flow delivered in each portion of the run
         numbers = {link.name: number for number, link in enumerate(Scenario(text).links)}
         self.names: dict[int, str] = {}         # of each of these links, by its number, its class's name
         for name, maker in queues.items():
@@ -46,17 +49,43 @@ class OwnQueueRun:
 
     def pieces(self) -> Iterator[str]:
         """The trace, line by line, each with its line feed."""
-        try:
-            yield from trace(self._scenario)
-        except model_queues.WrongQueue as wrong:
-            raise WrongQueue(str(wrong)) from None
+        with self._running() as progress:
+            for number, line in enumerate(trace(self._scenario)):
+                if number % EVENTS == 0 and not line.startswith('end'):
+                    progress.at(int(line.split(' ', 2)[1]))
+                yield line
 
     def table(self) -> str:
         """The table of figures; of these links it has rows for their own words too."""
+        with self._running() as progress:
+            net, sums = begun(self._scenario, 0), []
+            begin = min(flow.start for flow in net.flows)
+            while (due := net.due()) is not None:
+                if net.events % EVENTS == 0:
+                    progress.at(due[0])
+                while len(sums) < PORTIONS and due[0] >= begin + len(sums) * ((net.end - begin) // PORTIONS):
+                    sums.append(self._received(net))
+                net.step()
+            net.run_before(net.end)
+            sums.append(self._received(net))
+            self.portions = [[after - before for before, after in zip(*both)] for both in zip(sums, sums[1:])]
+            return heading(None) + ''.join(csv_line(row, None) for row in rows(net))
+
+    @staticmethod
+    def _received(net):
+        """The bytes that each flow's receiver has in order."""
+        return [net.ends[flow.receiver].next for flow in net.flows]
+
+    @contextlib.contextmanager
+    def _running(self) -> Iterator[Progress]:
+        """Says how far it is, and raises what a queue does that none can."""
+        progress = Progress(self._scenario.end, self._told)
         try:
-            return figures(self._scenario)
+            yield progress
         except model_queues.WrongQueue as wrong:
             raise WrongQueue(str(wrong)) from None
+        finally:
+            progress.done()
 
     def answers(self) -> Callable[[str], str]:
         """A debugger's prompt over the run: gives each line's answer, or raises Refused with the prompt's words."""

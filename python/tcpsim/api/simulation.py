@@ -29,6 +29,7 @@ from tcpsim.whole_trace import blocks
 
 if TYPE_CHECKING:
     from tcpsim.api.by_model import OwnQueueRun
+    from tcpsim.api.progress import Told
 
 
 def moment(option: str, time: str | int | None) -> int | None:
@@ -48,27 +49,28 @@ def moment(option: str, time: str | int | None) -> int | None:
         raise Wrong(f'{option}: {time!r} is no time: write a word with its unit, as "20ms", or nanoseconds') from None
 
 
-def run(scenario: ScenarioText | str | os.PathLike, engine: str | None = None,
-        queues: Mapping[str, Callable[..., object]] | None = None) -> Simulation:
+def run(scenario: ScenarioText | str | os.PathLike, engine: str | None = None, queues: Mapping[str, Callable[..., object]] | None = None,
+        progress: Told | None = None) -> Simulation:
     """A simulation of a scenario: of a net that was built or read, of a file, or of a text.
 
     `engine` is 'program', 'model', or a program's path; where it is left out the program runs, or the model where there is
     none, which `.engine` says. `queues` gives links, by name, a class of Python's for their queue (docs/PYTHON.md); the model
-    alone runs these. What is asked of the simulation is computed when it is asked for.
+    alone runs these, and a terminal or a notebook shows how far they are; `progress`, where it is given, is called instead, with
+    the time that has passed in the run and its end, in ns. What is asked of the simulation is computed when it is asked for.
 
     Refused where the scenario is refused; Wrong where a word is; NoProgram where there is nothing to run it, or where the
     model would take longer than a minute unasked.
     """
-    return Simulation(scenario_of(scenario), engine, queues)
+    return Simulation(scenario_of(scenario), engine, queues, progress)
 
 
 class Simulation:
     """A run of a scenario: `figures`, `trace`, `series`, `stalls`, `time`, `plot`, `replay`. `scenario` is what is run, and `engine`
     what runs it: 'program' or 'model'. The same scenario gives the same run, always."""
 
-    def __init__(self, scenario: ScenarioText, engine: str | None = None,
-                 queues: Mapping[str, Callable[..., object]] | None = None):
-        self.scenario = scenario
+    def __init__(self, scenario: ScenarioText, engine: str | None = None, queues: Mapping[str, Callable[..., object]] | None = None,
+                 progress: Told | None = None):
+        self.scenario, self._progress = scenario, progress
         self._own, self._queues = None, dict(queues) if check_queues(queues) else {}
         if self._queues:
             check_own(engine, scenario.text)
@@ -81,11 +83,11 @@ class Simulation:
 
     def _own_run(self) -> OwnQueueRun:
         from tcpsim.api.by_model import OwnQueueRun
-        return OwnQueueRun(self.scenario.text, self._queues)
+        return OwnQueueRun(self.scenario.text, self._queues, self._progress)
 
     def __getstate__(self) -> dict:
-        """What is pickled: the classes of queues by their names, and no trace."""
-        return {**vars(self), '_own': None, '_kept': None}
+        """What is pickled: the classes of queues by their names, no trace, and nobody who is told of it."""
+        return {**vars(self), '_own': None, '_kept': None, '_progress': None}
 
     def __setstate__(self, state: dict) -> None:
         vars(self).update(state)
@@ -149,7 +151,7 @@ class Simulation:
     def figures(self) -> Results:
         """The figures of each flow, each link and the run."""
         table = self._own.table() if self._own else self._engine.table(self.scenario.text)
-        portions = functools.partial(self._engine.portions, self.scenario.text) if self.engine == 'program' else None
+        portions = self._own.portions if self._own else functools.partial(self._engine.portions, self.scenario.text)
         return Results(EngineRun(self._parsed(), table, portions))
 
     def series(self, step: str | int, begin: str | int | None = None, end: str | int | None = None) -> TimeSeries:
