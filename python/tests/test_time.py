@@ -1,12 +1,20 @@
 """Tests of tcpsim-time: its tables, its CSV, its paths and what it refuses. The paths themselves are in test_critical_path.py; files
 that are no scenarios or traces are in test_ends.py and test_inputs.py."""
 import csv
+import html
 import io
+import os
 import re
+import sys
 
 import pytest
 
-from clone import NAMES, PROGRAM, example, paths, tool
+from clone import NAMES, PROGRAM, TOP, example, paths, read_text, tool
+from tcpsim.breakdown import breakdowns
+from tcpsim.critical_path import critical_paths
+from tcpsim.scenario.text import Scenario
+
+sys.path.append(os.path.join(TOP, 'dev'))
 
 HEAD = 'flow,part,at,behind,doubled,ns,percent,alone'.split(',')
 PATH_HEAD = 'flow,line,time,event,number,at,part,part at,behind,ns'.split(',')
@@ -138,7 +146,7 @@ def test_alone_is_run_where_it_is_asked_for(tmp_path):
     none.chmod(0o755)
     words = [*paths('bufferbloat'), '--flow', 'g']
     assert ' alone ' not in told(*words, '--program', str(none))
-    assert refused(*words, '--alone', '--program', str(none)) == (1, f'the program ended with status 7')
+    assert refused(*words, '--alone', '--program', str(none)) == (1, 'the program ended with status 7')
     asked = rows(*words, '--alone', '--program', PROGRAM)
     assert asked == rows(words[0], '--flow', 'g', '--program', PROGRAM) and asked[-1]['alone'] == '139225600'
     assert {row['alone'] for row in rows(words[0], '--flow', 'g', '--no-alone', '--program', PROGRAM)} == {''}
@@ -158,3 +166,59 @@ def test_refusals():
     assert refused(scenario, '--plot', 'a.png', '--csv') == (2, '--plot draws a picture alone: it goes without -o, --csv, --path and --alone')
     assert refused('-', '-', '--plot', 'a.png')[0] == 2
     assert refused() == (2, 'the following arguments are required: SCENARIO [TRACE]')
+
+
+# ---- pictures
+
+def breakdowns_of(name):
+    """The flows of an example with their parts, by its trace."""
+    text, lines = example(name)
+    scenario = Scenario(text)
+    return breakdowns(critical_paths(scenario, iter(lines)), range(len(scenario.flows)), None)
+
+
+@pytest.mark.parametrize('name', NAMES)
+def test_a_bar_has_the_parts(name):
+    """Its pieces follow each other without a gap, each look has the sum of its parts, and none is finer than can be seen but as a
+    part of a span that is as long."""
+    bars = pytest.importorskip('tcpsim.plot.bars', reason='no matplotlib')
+    for each in breakdowns_of(name):
+        for finest in (0, each.path.time // 100):
+            pieces = bars.pieces(each, each.flows, finest) if each.path.acknowledged else []
+            at, sums = 0, {}
+            for look, begin, ns in pieces:
+                assert begin == at and ns > 0
+                at += ns
+                sums[look] = sums.get(look, 0) + ns
+            wanted = {}
+            for part, ns in each.path.parts().items():
+                look = bars.look_of(part, each.flows)
+                wanted[look] = wanted.get(look, 0) + ns
+            assert at == each.path.time and sums == wanted
+            assert set(wanted) <= set(bars.all_looks(each.flows))
+        assert len(pieces) <= 101 * len(wanted)
+
+
+def test_the_picture_of_the_page_is_what_is_drawn_anew():
+    pytest.importorskip('matplotlib')
+    import pictures
+    from tcpsim import plot
+    for name in pictures.BARS:
+        stored = re.search(r'<dc:description>(.*?)</dc:description>', read_text(pictures.file_of(name)), re.S)
+        assert html.unescape(stored[1]).splitlines() == plot.drawn(pictures.bars_of(name))
+        assert f'pictures/{name}.svg' in read_text('docs', 'TIME.md')
+
+
+def test_bars_of_two_scenarios_have_one_scale(tmp_path):
+    pytest.importorskip('matplotlib')
+    for ending in ('svg', 'png', 'pdf'):
+        file = tmp_path / f'a.{ending}'
+        assert told(*paths('bufferbloat'), *paths('bufferbloat_with_codel'), '--flow', 'g', '--plot', str(file)) == '' and file.stat().st_size > 2000
+    text = (tmp_path / 'a.svg').read_text()
+    assert 'Where the time went | x 0 to 3.01204 ' in text and 'queue, behind packets of f; queue, behind packets of g; ' in text
+    for words in (re.escape("'3.01 s'"), re.escape("'187 ms'")):
+        assert re.search(words, html.unescape(text))
+    scenario, trace = tmp_path / 's.txt', tmp_path / 's.svg'
+    scenario.write_text(example('one_segment')[0])
+    trace.write_text('\n'.join(example('one_segment')[1]) + '\n')
+    assert 'read' in refused(str(scenario), str(trace), '--plot', str(trace))[1] and trace.read_text().startswith('1 0 ')
