@@ -210,6 +210,7 @@ def runs_and_figures(root, _dist):
     want('Jain' in root.run('tcpsim-flows', f'{EXAMPLES}/two_flows_share_fairly.txt', user=USER), 'figures')
     root.run('tcpsim-stalls', f'{EXAMPLES}/two_timeouts_in_a_row.txt', user=USER)
     root.run('tcpsim-follow', f'{EXAMPLES}/two_timeouts_in_a_row.txt', '--flow', 'f', '--byte', '4000', user=USER)
+    want('doubled once' in root.run('tcpsim-time', f'{EXAMPLES}/two_timeouts_in_a_row.txt', user=USER), 'where the time went')
 
 
 def a_sweep_and_a_page(root, _dist):

@@ -30,8 +30,9 @@ from collections.abc import Iterable, Iterator
 
 from tcpsim.causes import PARTITION, is_dropped, is_lost, lost_acknowledgement, name_of
 from tcpsim.lives import ACK, AFTER_TIMEOUT, ALARM, DATA, TIMEOUT, FlowState, Packet, Port, Watch
-from tcpsim.scenario.text import Scenario, Unreadable
+from tcpsim.scenario.text import Scenario
 from tcpsim.stalls import Sendings, Spans, Stall
+from tcpsim.walk import check_byte
 
 QUEUE, SERIALIZATION, PROPAGATION, TIMER, DELAY = \
     'queue', 'serialization', 'propagation', 'retransmission timer', 'delayed acknowledgement'
@@ -107,9 +108,9 @@ class CriticalPaths(Spans):
         self.begins, self.senders = [array('q') for _ in scenario.links], [array('H') for _ in scenario.links]
         super().__init__(scenario)
         self.wanted = set(range(len(self.flows)) if wanted is None else wanted)
-        for number in self.wanted:
-            if to is not None:
-                self.watched[number].to = byte_of(scenario, number, to)
+        for number in self.wanted if to is not None else ():
+            check_byte(scenario, number, to)
+            self.watched[number].to = to
         self.others = {flow.number: Others(self, flow) for flow in self.flows if flow.number not in self.wanted}
         self.open_flows = len(self.wanted)      # those that have not acknowledged the byte
 
@@ -202,6 +203,7 @@ class Path:
         self.is_whole = flow.una > watched.to
         self.events, self.timeouts, self.trips = [], [], Counter()
         self.acknowledged = 0
+        self._phase, self._again = 0, False     # of the sender's last event; whether the segment was sent again since the timer ended
         chain, at = [], watched.first if watched.last is None else watched.last
         while at is not None:
             chain.append(at)
@@ -218,10 +220,10 @@ class Path:
         if kind >= DATA_CAME:
             self._add_arrival(walk, cause, record, word)
             if kind == DATA_CAME:
-                self.again = walk.phases[record] == AGAIN
+                self._again = walk.phases[record] == AGAIN
             elif int(self.hops[walk.links[record], word].port.to) == flow.flow.sender:
-                self.trips[TRIPS[AGAIN if self.again else self.phase]] += 1
-                self.phase, self.acknowledged = walk.phases[record], number
+                self.trips[TRIPS[AGAIN if self._again else self._phase]] += 1
+                self._phase, self.acknowledged = walk.phases[record], number
             return
         at = nodes[flow.flow.receiver if kind == DELACK else flow.flow.sender].name
         spans = ()
@@ -231,7 +233,7 @@ class Path:
         elif kind == DELACK:
             spans = Span(Part(DELAY, at), walk.times[cause], time),
         if kind != DELACK:
-            self.phase = walk.phases[record]
+            self._phase = walk.phases[record]
         self.events.append(Event(line, time, word, number, at, spans))
 
     def _add_arrival(self, walk, cause, record, word):
@@ -260,19 +262,6 @@ class Path:
         for part, begin, end in self.spans():
             sums[part] += end - begin
         return dict(sorted(sums.items(), key=lambda entry: -entry[1]))
-
-    def behind_others(self) -> int:
-        """How long packets of the path waited behind those of other flows."""
-        return sum(ns for part, ns in self.parts().items() if part.kind == QUEUE and part.behind != self.name)
-
-
-def byte_of(scenario: Scenario, flow: int, byte: int) -> int:
-    """The byte, where the flow has it."""
-    declared = scenario.flows[flow]
-    total = declared.mss * declared.segments
-    if byte >= total:
-        raise Unreadable(f'flow {declared.name} has the bytes 0 to {total - 1}, and not {byte}')
-    return byte
 
 
 def loss_of(stall: Stall) -> Loss | None:

@@ -14,7 +14,7 @@ from collections.abc import Iterable
 from tcpsim.causes import counted, seconds
 from tcpsim.lives import ALARM, CAME, CODEL, DATA, FIRST, FULL, TIMEOUT, FlowState, Packet, Port, Watch
 from tcpsim.scenario.text import Scenario, Unreadable
-from tcpsim.walk import Walk
+from tcpsim.walk import Walk, check_byte
 
 WAITED, SERIALIZED, UNDER_WAY, STOOD = 'waited', 'serialized', 'under way', 'stood still'
 WHY_AGAIN = {'third duplicate': 'the third duplicate', 'timeout': 'the timeout',
@@ -269,10 +269,8 @@ class Follow(Walk):
 
 def follow(scenario: Scenario, lines: Iterable[str], flow: int, byte: int) -> tuple[Follow, Segment]:
     """The walk that followed the segment of a byte of a flow (by the flow's number), and the segment."""
+    check_byte(scenario, flow, byte)
     declared = scenario.flows[flow]
-    total = declared.mss * declared.segments
-    if byte >= total:
-        raise Unreadable(f'flow {declared.name} has the bytes 0 to {total - 1}, and not {byte}')
     number = byte // declared.mss * declared.mss
     walk = Follow(scenario, flow, number)
     walk.read(lines)

@@ -359,3 +359,11 @@ def flow_named(scenario: Scenario, word: str) -> int:
         if word in (flow.name, str(number)):
             return number
     raise Unreadable(f'the scenario has no flow {word}; it has ' + ', '.join(flow.name for flow in scenario.flows))
+
+
+def check_byte(scenario: Scenario, flow: int, byte: int) -> None:
+    """Unreadable where a flow, by its number, does not have the byte."""
+    declared = scenario.flows[flow]
+    total = declared.mss * declared.segments
+    if byte >= total:
+        raise Unreadable(f'flow {declared.name} has the bytes 0 to {total - 1}, and not {byte}')

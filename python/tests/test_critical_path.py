@@ -46,6 +46,13 @@ def parts_by_model(scenario, sums):
     return parts, trips
 
 
+def same(scenario, path, una, tagged_event):
+    """Sees that a path is that of the model's event, which acknowledged all below una."""
+    parts, trips = parts_by_model(scenario, tagged_event.sums)
+    assert [event.line for event in path.events] == tagged_event.path()
+    assert path.parts() == parts and path.trips == trips and path.acknowledged == una
+
+
 def compare(text, model):
     """Every flow's path, of the trace and of the model's tags; counts the flows that are complete and that are not."""
     net, lines = tags_of(model)
@@ -53,14 +60,13 @@ def compare(text, model):
     walk = critical_paths(scenario, iter(lines))
     found = collections.Counter()
     assert net.position > MOST_EVENTS or lines == ''.join(simulate.trace(model)).splitlines()     # the tags change nothing
+    first = critical_paths(scenario, iter(lines), to=0, stops=True)
     for number, flow in enumerate(scenario.flows):
         path, tags = walk.path(number), net.acknowledged[number]
         if tags:
-            una, last = tags[-1]
-            parts, trips = parts_by_model(scenario, last.sums)
-            assert [event.line for event in path.events] == last.path()
-            assert path.parts() == parts and path.trips == trips
-            assert path.acknowledged == una and path.is_whole == (una == flow.mss * flow.segments)
+            same(scenario, path, *tags[-1])
+            same(scenario, first.path(number), *tags[0])
+            assert path.is_whole == (tags[-1][0] == flow.mss * flow.segments)
         assert sum(path.parts().values()) == path.time == (tags[-1][1].time - flow.start if tags else 0)
         assert gapless(path)
         found['complete' if path.is_whole else 'incomplete' if tags else 'without an acknowledgement'] += 1

@@ -5,6 +5,7 @@ import html
 import io
 import os
 import re
+import subprocess
 import sys
 
 import pytest
@@ -166,6 +167,17 @@ def test_refusals():
     assert refused(scenario, '--plot', 'a.png', '--csv') == (2, '--plot draws a picture alone: it goes without -o, --csv, --path and --alone')
     assert refused('-', '-', '--plot', 'a.png')[0] == 2
     assert refused() == (2, 'the following arguments are required: SCENARIO [TRACE]')
+
+
+def test_the_page_shows_what_is_told():
+    """Each command of docs/TIME.md that has an answer below it; `..` stands for lines that are left out."""
+    shown = re.findall(r'^```\n\$ (bin/tcpsim-time .*)\n((?:.*\n)+?)```$', read_text('docs', 'TIME.md'), re.M)
+    assert len(shown) == 3
+    for command, text in shown:
+        done = subprocess.run(['sh', '-c', f'{command} --program {PROGRAM}' if '|' not in command else command], cwd=TOP, check=True,
+                              capture_output=True, text=True)
+        pattern = re.escape(text).replace(re.escape('..\n'), r'(?:.*\n)+')
+        assert re.fullmatch(pattern, done.stdout), done.stdout
 
 
 # ---- pictures
