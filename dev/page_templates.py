@@ -5,10 +5,10 @@ from tcpsim.api.scenarios import built
 from tcpsim.command_line import Wrong
 
 TIMES = '1ms', '20ms', '40ms', '80ms', '0.5s', '100us', '33.333ms', '7ns', '1s', '10s', '123456789ns'
-RATES = '10M', '1.5M', '800k', '1G', '1000', '123456', '100M', '1.000001M', '1000G'
+RATES = '10M', '1.5M', '800k', '1G', '1000', '123456', '100M', '1.000001M', '1000G', '10Mbit', '2.5Mbit/s', '64000bit'
 QUEUES = 'droptail:50', 'droptail:1', 'droptail:BDP', 'codel:5ms:100ms', 'codel:5ms:100ms:77', 'codel:1ms:20ms:200:1540', 'droptail:65535'
 SEGMENTS = '1', '20', '700', '1000000000'
-WRONG = {'rate': ('10', 'fast', '10MB', '1.23456k', '2000G'), 'rtt': ('40', '11s', '1.5ns', '0', '4ns'), 'delay': ('0', '20', '11s'),
+WRONG = {'rate': ('10', 'fast', '10MB', '1.23456k', '2000G', '10Mbps', '10bit'), 'rtt': ('40', '11s', '1.5ns', '0', '4ns'), 'delay': ('0', '20', '11s'),
          'queue': ('red:5', 'droptail:', 'droptail:0', 'codel:5ms', 'codel:5ms:0', 'droptail:65536', 'codel:5ms:100ms:10:70000'),
          'segments': ('0', 'x', '1.5', '2000000000'), 'variant': ('cubic', 'Reno', 'reno,tahoe'), 'iw': ('4', 'iw', 'iw11'), 'start': ('20s', '1'),
          'end': ('0', '5', '2000000s'), 'flows': ('-1', '129', '1.0', 'two'), 'hops': ('0', '251'), 'cross': ('8',), 'down': ('5',), 'up': ('1T',),

@@ -6,6 +6,7 @@ class Wrong extends Error {}
 
 const HEADERS = 40, OPEN_WINDOW = 2 ** 30, BITS_NS = 8000000000n, CODEL_LIMIT = 1000;
 const RATE_UNITS = {'': 1, k: 1e3, M: 1e6, G: 1e9}, TIME_UNITS = {ns: 1, us: 1e3, ms: 1e6, s: 1e9};
+const RATE_WORDS = Object.fromEntries(Object.entries(RATE_UNITS).flatMap(([unit, scale]) => ['', 'bit', 'bit/s'].map(bits => [unit + bits, scale])));
 
 // ---- numbers
 
@@ -26,7 +27,7 @@ function countOf(word) {
   if (!/^[0-9]{1,20}$/.test(word)) throw new Wrong(`'${word}' is no whole number`);
   return Number(word);
 }
-const rateOf = word => amountOf(word, RATE_UNITS, 'rate', '10M (units k, M, G of bit/s)');
+const rateOf = word => amountOf(word, RATE_WORDS, 'rate', '10M (units k, M, G of bit/s)');
 const sizeOf = word => amountOf(word, RATE_UNITS, 'size', '64k (bytes; units k, M, G)');
 const READERS = {end: timeOf, rate: rateOf, delay: timeOf, capacity: countOf, target: timeOf, interval: timeOf, maxpacket: sizeOf,
   segments: countOf, start: timeOf};

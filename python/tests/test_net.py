@@ -2,6 +2,7 @@
 that is not built, by the model."""
 import itertools
 import os
+import re
 import subprocess
 import sys
 
@@ -107,10 +108,29 @@ def tool(*words, **more):
 def test_numbers():
     for read, word, value in (
             (units.rate, '10M', 10**7), (units.rate, '1.5M', 1_500_000), (units.rate, '800k', 800_000),
-            (units.rate, '1G', 10**9), (units.rate, '8000', 8_000), (units.time, '20ms', 20 * MS),
+            (units.rate, '1G', 10**9), (units.rate, '8000', 8_000), (units.rate, '10Mbit', 10**7),
+            (units.rate, '1.5Mbit/s', 1_500_000), (units.rate, '8000bit/s', 8_000), (units.time, '20ms', 20 * MS),
             (units.time, '0.5s', S // 2), (units.time, '100us', 100 * US), (units.time, '7ns', 7),
             (units.time, '0', 0), (units.size, '64k', 64_000), (units.count, '12', 12)):
         assert read(word) == value
+
+
+def test_a_rate_is_taken_as_the_header_has_it():
+    text = command.scenario(['dumbbell', '--rate', '1.5M'])
+    rate = re.search(r'the bottleneck pq of (\S+) ', text)[1]
+    assert rate == '1.5Mbit/s' and 'Written' in text
+    again = command.scenario(['dumbbell', '--rate', rate])
+    assert [line for line in again.splitlines() if 'Written' not in line] == [line for line in text.splitlines() if 'Written' not in line]
+
+
+def test_a_target_above_the_interval_is_warned_of():
+    told = b'tcpsim-net: codel:100ms:5ms has a target above its interval: the order is codel:TARGET:INTERVAL\n'
+    for option in ('--queue', '--back-queue', '--access-queue'):
+        done = tool('dumbbell', option, 'codel:100ms:5ms')
+        assert (done.returncode, done.stderr) == (0, told) and done.stdout.startswith(b'# A dumbbell')
+    assert tool('asymmetric', '--up-queue', 'codel:100ms:5ms').stderr == told
+    for queue in ('codel:5ms:100ms', 'codel:5ms:5ms', 'droptail:5'):
+        assert tool('dumbbell', '--queue', queue).stderr == b''
 
 
 def test_wrong_numbers():

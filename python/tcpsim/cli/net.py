@@ -3,7 +3,7 @@
 Usage: bin/tcpsim-net SHAPE [OPTION ..] > SCENARIO, as
        bin/tcpsim-net dumbbell --flows 4 --rate 10M --rtt 40ms,80ms --queue codel:5ms:100ms > four.txt
 
-Rates are in bit/s with k, M, G; times in ns, us, ms, s.
+Rates are in bit/s with k, M, G, as 10M or 10Mbit; times in ns, us, ms, s.
 """
 from __future__ import annotations
 
@@ -13,7 +13,7 @@ import sys
 from collections.abc import Callable
 
 from tcpsim import output
-from tcpsim.command_line import Words, Wrong, as_type
+from tcpsim.command_line import Words, Wrong, as_type, note, tool
 from tcpsim.scenario import units
 from tcpsim.scenario.net import MOST_FLOWS, Net
 from tcpsim.scenario.senders import bound_windows, initial_windows, lose_packets, losses, make_mice, spread, variants
@@ -41,6 +41,7 @@ def between(least: int, most: int) -> Callable[[str], int]:
 
 
 QUEUE = as_type(units.queue_in_range)
+QUEUES = 'queue', 'back_queue', 'access_queue', 'up_queue'      # the options that are one
 OPTIONS = {
     '--flows': dict(type=between(1, MOST_FLOWS), metavar='N', help='how many flows'),
     '--rate': dict(type=number('rate'), metavar='RATE', help='of the bottleneck, 10M if none is given'),
@@ -109,7 +110,7 @@ WITH_MICE = [name for name, (_, options, _) in SHAPES.items() if '--mice' in opt
 def command_line() -> Words:
     """The words of the command."""
     words = Words(description='Writes a scenario\'s text to standard output.',
-                        epilog='Rates are in bit/s with k, M, G; times in ns, us, ms, s. A list that is shorter than '
+                        epilog='Rates are in bit/s with k, M, G, as 10M or 10Mbit; times in ns, us, ms, s. A list that is shorter than '
                         'the flows or hops begins again.')
     shapes = words.add_subparsers(dest='shape', metavar='SHAPE', required=True)
     for name, (build, options, defaults) in SHAPES.items():
@@ -165,5 +166,8 @@ def main() -> None:
     """Does what the words ask for."""
     words = sys.argv[1:]
     given = command_line().parse_args(words)
+    for queue in filter(None, (getattr(given, name, None) for name in QUEUES)):
+        if doubted := units.doubt(queue):
+            note(f'{tool()}: {doubted}')
     with output.opened(given.output) as file:
         file.write(text_of(given, words))

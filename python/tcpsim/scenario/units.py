@@ -24,6 +24,7 @@ RANGES = {
     'segments': (1, 10**9), 'start': (0, 10**15 - 1), 'rwnd': (1, 2**30), 'delack': (0, 5 * 10**8),
 }
 RATE_UNITS = {'': 1, 'k': 10**3, 'M': 10**6, 'G': 10**9}
+RATE_WORDS = {unit + bits: scale for unit, scale in RATE_UNITS.items() for bits in ('', 'bit', 'bit/s')}
 TIME_UNITS = {'ns': 1, 'us': 10**3, 'ms': 10**6, 's': 10**9}
 SIZE_UNITS = {'': 1, 'k': 10**3, 'M': 10**6, 'G': 10**9}
 WORD = re.compile(r'([0-9]{1,20})(?:\.([0-9]{1,20}))?([A-Za-z/]*)')
@@ -43,8 +44,8 @@ def _amount(word, units, what, example):
 
 
 def rate(word: str) -> int:
-    """Bits a second: 10M, 1.5M, 800k, 1G; a number alone is bit/s."""
-    return _amount(word, RATE_UNITS, 'rate', '10M (units k, M, G of bit/s)')
+    """Bits a second: 10M, 1.5M, 800k, 1G, 10Mbit, 10Mbit/s; a number alone is bit/s."""
+    return _amount(word, RATE_WORDS, 'rate', '10M (units k, M, G of bit/s)')
 
 
 def time(word: str) -> int:
@@ -172,6 +173,11 @@ def queue_in_range(word: str) -> Queue:
         if read.maxpacket is not None:
             within('maxpacket', read.maxpacket)
     return read
+
+
+def doubt(queue: Queue) -> str:
+    """What is doubtful of a queue, in a sentence; '' where nothing is."""
+    return f'{queue} has a target above its interval: the order is codel:TARGET:INTERVAL' if queue.target > queue.interval else ''
 
 
 def queues(words: str) -> list[Queue]:
