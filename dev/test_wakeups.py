@@ -1,7 +1,8 @@
 """Tests that no wake-up of the thread pool is lost.
 
 spin searches the model dev/spin/thread_pool.pml whole, for two and for three threads, and has to refuse the models that
-are wrong. The model has each line of the functions that it stands for, in their order.
+are wrong. The model has each line of the functions that it stands for, in their order. What the pool does wrong where its
+code is, is for the tests of crates/thread_pool to see; a wake-up lost between two steps they hardly meet.
 """
 import os
 import re
@@ -16,16 +17,18 @@ MODEL = os.path.join(TOP, 'dev', 'spin', 'thread_pool.pml')
 SOURCES = os.path.join(TOP, 'crates', 'thread_pool', 'src')
 TWO_THREADS = {'WORKERS': 1, 'ROUNDS': 2}
 THREE_THREADS = {'WORKERS': 2, 'ROUNDS': 1}
-# Each wrong model, and what spin has to say of it.
-WRONG = {
-    'NOTIFIES_AFTER_THE_LOCK': 'invalid end state',
-    'SLEEPS_WITHOUT_ANOTHER_LOOK': 'invalid end state',
-    'COUNTS_AFTER_IT_GIVES': 'assertion violated',
-    'LEAVES_WHAT_IT_TAKES_BACK': 'assertion violated',
-    'GOES_WITH_A_JOB_THERE': 'assertion violated',
-}
-# Lines that are no step: braces, and what can't be reached.
-NO_STEP = re.compile(r'[{}();, ]*|\} else \{|unreachable!\(\)|//.*')
+# Each wrong model, by how many threads it is searched, and what spin has to say of it.
+WRONG = [
+    ('NOTIFIES_AFTER_THE_LOCK', TWO_THREADS, 'invalid end state'),
+    ('NOTIFIES_AFTER_THE_LOCK', THREE_THREADS, 'invalid end state'),
+    ('SLEEPS_WITHOUT_ANOTHER_LOOK', TWO_THREADS, 'invalid end state'),
+    ('ALL_AT_THE_FIRST_MAILBOX', THREE_THREADS, 'invalid end state'),
+    ('COUNTS_AFTER_IT_GIVES', TWO_THREADS, 'assertion violated'),
+    ('LEAVES_WHAT_IT_TAKES_BACK', TWO_THREADS, 'assertion violated'),
+    ('GOES_WITH_A_JOB_THERE', TWO_THREADS, 'assertion violated'),
+]
+# Lines that are no step: braces, clauses, and what can't be reached.
+NO_STEP = re.compile(r'[{}();, ]*|\} else \{|requires \{.*\}|unreachable!\(\)|//.*')
 
 
 def core_sources():
@@ -70,7 +73,7 @@ def searched(folder, defines, *options):
 def test_each_function_has_its_lines():
     core = core_sources()
     functions = functions_of_model()
-    assert len(functions) == 16
+    assert len(functions) == 17
     for place, name, cited in functions:
         folder = core if place.startswith('core ') else SOURCES
         if folder is None:
@@ -92,13 +95,6 @@ def test_threads_wake_each_other_and_the_end_comes(tmp_path, defines, option):
 
 
 @wants_spin
-@pytest.mark.parametrize('name, fault', WRONG.items())
-def test_wrong_models_are_refused(tmp_path, name, fault):
-    assert f'pan:1: {fault}' in searched(tmp_path, {**TWO_THREADS, name: 1}, '-DSAFETY')
-
-
-@wants_spin
-def test_three_threads_do_not_wake_each_other_in_the_old_order(tmp_path):
-    """Where who puts something into a mailbox gives the lock back, and notifies behind."""
-    defines = {**THREE_THREADS, 'NOTIFIES_AFTER_THE_LOCK': 1}
-    assert 'pan:1: invalid end state' in searched(tmp_path, defines, '-DSAFETY')
+@pytest.mark.parametrize('name, threads, fault', WRONG)
+def test_wrong_models_are_refused(tmp_path, name, threads, fault):
+    assert f'pan:1: {fault}' in searched(tmp_path, {**threads, name: 1}, '-DSAFETY')
