@@ -128,19 +128,25 @@ def run(module: str) -> int:
     open_standard_files()
     heard = [number for number in ENDS if signal.getsignal(number) is not signal.SIG_IGN]
     try:
-        sys.unraisablehook = end_later
-        signal.signal(signal.SIGALRM, nothing)
-        signal.setitimer(signal.ITIMER_REAL, WAKE, WAKE)
-        for number in heard:
-            signal.signal(number, end)
-        status = status_of(module)
-    except Ended as wrong:
+        try:
+            sys.unraisablehook = end_later
+            signal.signal(signal.SIGALRM, nothing)
+            signal.setitimer(signal.ITIMER_REAL, WAKE, WAKE)
+            for number in heard:
+                signal.signal(number, end)
+            status = status_of(module)
+        finally:                # also where a module is not there
+            hear_nothing()
+    except Ended as wrong:      # that came as the tool had ended, too
         status = 128 + wrong.number
-    finally:                # also where a module is not there: an alarm would end Python's own end
-        signal.setitimer(signal.ITIMER_REAL, 0)
-        for number in heard:
-            signal.signal(number, nothing)
+        hear_nothing()
     return status
+
+
+def hear_nothing() -> None:
+    """No signal comes any more, nor an alarm, which would end Python's own end."""
+    signal.pthread_sigmask(signal.SIG_BLOCK, ENDS)
+    signal.setitimer(signal.ITIMER_REAL, 0)
 
 
 def become(path: str, words: list[str]) -> None:

@@ -375,6 +375,48 @@ def test_signal(tool, number, place):
         assert path.read_text() == OLD and stat.S_IMODE(path.stat().st_mode) == 0o600
 
 
+# Runs a tool, and interrupts it before the so-manieth line that any module executes, counted from its first one on; or says how
+# many there are.
+INTERRUPTED = '''
+import os, runpy, signal, sys
+at, counted, sys.argv = int(sys.argv[1]), [0], sys.argv[2:]
+def trace(frame, event, _):
+    if frame.f_code.co_filename == sys.argv[0] and frame.f_lineno > 3 or counted[0]:
+        counted[0] += event == "line"
+        if event == "line" and counted[0] == at:
+            sys.settrace(None)
+            os.kill(os.getpid(), signal.SIGINT)
+    return trace
+sys.settrace(trace)
+try:
+    runpy.run_path(sys.argv[0], run_name="__main__")
+finally:
+    sys.settrace(None)
+    if not at:
+        print(counted[0], file=sys.stderr)
+'''
+
+
+@pytest.mark.parametrize('tool', [*TOOLS, 'run', 'debug', 'model'])
+def test_interrupted_at_any_line(tool, place):
+    """From the first line of the command to its last: not a word, and the status of an interruption, or all was done before."""
+    given = ['--version'] if tool not in TOOLS or tool == 'plot' else [*words(tool), '-o', target(place, tool)]
+    given = ['1' if word == '2' else word for word in given]        # a worker of a sweep would count its own lines
+
+    def interrupted(at):
+        return subprocess.run([sys.executable, '-c', INTERRUPTED, str(at), *call(tool)[1:], *given], cwd=place, check=False,
+                              capture_output=True, timeout=PATIENCE, stdin=subprocess.DEVNULL,
+                              preexec_fn=lambda: signal.signal(signal.SIGINT, signal.default_int_handler))
+    count = int(interrupted(0).stderr.split()[-1])
+    tried = sorted({1, 2, 3, 4, 5, *(int(count**(part / 12)) for part in range(12)), *range(count - 12, count + 1, 3)})
+    statuses = []
+    for at in tried:
+        done = interrupted(at)
+        assert not [line for line in done.stderr.decode().splitlines() if not re.match(r'\d of \d runs', line)], (at, count, done.stderr)
+        statuses.append(done.returncode)
+    assert set(statuses) <= {130, 0} and statuses.count(130) > len(tried) / 2, dict(zip(tried, statuses))
+
+
 def test_signals_one_after_another(place):
     """What is taken away is taken away, though a second signal comes."""
     path = target(place, 'flows')
