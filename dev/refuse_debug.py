@@ -24,7 +24,7 @@ OPTIONS = ([], ['--groups', 'each', '--workers', '1'], ['--groups', 'each', '--w
 NO_COMMAND, ITS_ANSWER, REFUSED = b'refuse\n', b'refused B1\n', b'refused M\n'
 # What is noted of a line that is typed and refused memory.
 NOTED = REFUSED + (b'M: there was no memory, the run has more than 10^15 events, '
-                   b'or a worker could not be started or did not give back what it ran\n')
+                   b'or a worker did not give back what it ran\n')
 # How the first line of an answer begins; the further lines of a dump begin otherwise.
 FIRST_WORDS = (b'at ', b'break ', b'clear', b'refused ')
 

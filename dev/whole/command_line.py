@@ -36,7 +36,7 @@ BEFORE_GROUPS = [
 
 # What is said of the code of a want of memory, which has no example.
 MEMORY = '''\
-M: there was no memory, the run has more than 10^15 events, or a worker could not be started or did not give back what it ran
+M: there was no memory, the run has more than 10^15 events, or a worker did not give back what it ran
 
 The command has changed nothing and can be given again; the session goes on. There is no example, as
 it depends on the machine: `ulimit -v` takes memory away.
