@@ -14,8 +14,8 @@ the day and the toolchain.
 
 With --check nothing is proved: it says which edits of both folders, of must-fail/ too, can't be applied any
 more. With --due, the last step of `make test`, it names the crates whose sum is another than the kept one.
-Where CI=true it tries theirs, the most changed first, for twenty minutes, and says what it left out; it
-does not begin later than 130 minutes after the second that --begun names. It keeps nothing.
+Where CI=true it tries theirs, if there is a kept one, the most changed first, for twenty minutes, and says what
+it left out; it does not begin later than 130 minutes after the second that --begun names. It keeps nothing.
 """
 import argparse
 import concurrent.futures
@@ -295,8 +295,8 @@ def changed(name, row):
 
 
 def try_due(names, begun):
-    """Names the crates whose mutants were last tried over other files. Where CI=true it tries those for which there is
-    time; answers how many failed."""
+    """Names the crates whose mutants were last tried over other files. Where CI=true it tries, of those with a record, as
+    many as there is time for; answers how many failed."""
     rows = kept()
     due = sorted((it for it in names if rows.get(it, {}).get('sum') != sum_of(it)), key=lambda it: -changed(it, rows.get(it)))
     print(f'mutants to try again, of {len(due)} crates (`make mutants`): {" ".join(due) or "none"}', flush=True)
@@ -306,9 +306,10 @@ def try_due(names, begun):
     if begun and now - begun > LATEST:
         print(f'none is tried: `make test` began {(now - begun) / 60:.0f} minutes ago')
         return 0
-    refused, failed, left = try_all(due, Provers(now + TRYING))
-    out = ' '.join(it for it in due if it in left) or 'none'
-    print(f'{sum(refused.values())} refused, {failed} failed; left out for want of time: {out}')
+    # What has no record yet was never tried so, and waits for who can mend it.
+    refused, failed, left = try_all([it for it in due if it in rows], Provers(now + TRYING))
+    late, new = (' '.join(them) or 'none' for them in ([it for it in due if it in left], [it for it in due if it not in rows]))
+    print(f'{sum(refused.values())} refused, {failed} failed; left out for want of time: {late}, for want of a record: {new}')
     return failed
 
 

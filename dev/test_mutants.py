@@ -118,10 +118,10 @@ def test_the_tests_name_what_changed_since_and_try_it_where_they_are_the_gate(tr
     put('crates/low/mutants/three.edit', EDIT.replace('2', '32'))
     assert tried('--due')[1] == ['mutants to try again, of 1 crates (`make mutants`): low']
     status, lines, _ = tried('--due', ci='true')
-    assert (status, lines[-1]) == (0, '2 refused, 0 failed; left out for want of time: none')
+    assert (status, lines[-1]) == (0, '2 refused, 0 failed; left out for want of time: none, for want of a record: none')
     put('crates/low/mutants/accepted.edit', EDIT.replace('2', '3'))
     status, lines, _ = tried('--due', ci='true')
-    assert (status, lines[-1]) == (1, '2 refused, 1 failed; left out for want of time: none')
+    assert (status, lines[-1]) == (1, '2 refused, 1 failed; left out for want of time: none, for want of a record: none')
     assert record(tree) == before
 
 
@@ -144,9 +144,12 @@ def test_the_most_changed_comes_first(tried, tree, put):
 
 
 def test_it_says_what_it_has_no_time_for(tried, tree, put):
+    status, lines, _ = tried('--due', ci='true')
+    assert (status, lines[-1]) == (0, '0 refused, 0 failed; left out for want of time: none, for want of a record: low high')
+    tried()
     put('crates/low/mutants/waits.edit', EDIT.replace('2', 'waits'))
     status, lines, _ = tried('--due', 'low', ci='true', TRYING=2)
-    assert (status, lines[-1]) == (0, '1 refused, 0 failed; left out for want of time: low')
+    assert (status, lines[-1]) == (0, '1 refused, 0 failed; left out for want of time: low, for want of a record: none')
     begun = int(time.time()) - 131 * 60
     status, lines, _ = tried('--due', '--begun', str(begun), ci='true')
     assert (status, lines[-1]) == (0, 'none is tried: `make test` began 131 minutes ago')
