@@ -18,6 +18,7 @@ from typing import IO, Any
 from tcpsim import VERSIONS
 
 ENDS = signal.SIGINT, signal.SIGTERM, signal.SIGHUP     # the signals that ask a tool to end
+DEBIANS = '/usr/bin/python3'      # which has the packages that apt-get installs
 MODEL = '--model'       # as a program's name: the model, wherever it is
 AGAIN = 0.01            # seconds after which an interruption comes again that nobody could take
 WAKE = 0.5              # seconds after which a read is looked into that began just as a signal had come, and would wait
@@ -153,6 +154,19 @@ def become(path: str, words: list[str]) -> None:
     """Goes on as another program; its signals and timers are as a new one's."""
     signal.setitimer(signal.ITIMER_REAL, 0)
     os.execv(path, [path, *words])
+
+
+def go_on_with(package: str) -> None:
+    """Goes on by Debian's python3, from the first word on, where that has a package that this one lacks; else returns."""
+    import importlib.util
+    import subprocess
+    if sys.executable == DEBIANS or importlib.util.find_spec(package) or not os.access(DEBIANS, os.X_OK):
+        return
+    above = os.path.dirname(os.path.dirname(os.path.abspath(__file__)))
+    os.environ['PYTHONPATH'] = os.pathsep.join(filter(None, (above, os.environ.get('PYTHONPATH'))))
+    if subprocess.run([DEBIANS, '-c', f'import {package}, tcpsim'], stdin=subprocess.DEVNULL, stdout=subprocess.DEVNULL,
+                      stderr=subprocess.DEVNULL, check=False).returncode == 0:
+        become(DEBIANS, sys.argv)
 
 
 def end(number: int, _frame: FrameType | None) -> None:

@@ -191,6 +191,19 @@ class TestWhatIsShown(Drawn):
         assert done.stderr.startswith('tcpsim-plot: '), done.stderr
         assert 'apt-get install python3-matplotlib' in done.stderr
 
+    @pytest.mark.parametrize('words', [('plot', '-o'), ('sweep', '--set', 'a.queue=droptail:1,2', '--plot')])
+    def test_debians_python_draws_where_this_one_has_no_matplotlib(self, words):
+        if subprocess.run(['/usr/bin/python3', '-c', 'import matplotlib'], stderr=subprocess.DEVNULL, check=False).returncode:
+            pytest.skip('no matplotlib: apt-get install python3-matplotlib')
+        other, file = (os.path.join(self.folder, name) for name in ('python3', 'x.png'))
+        os.symlink('/usr/bin/python3', other)
+        without = [other, '-S']         # no package of Debian's
+        assert subprocess.run([*without, '-c', 'import matplotlib'], stderr=subprocess.DEVNULL, check=False).returncode == 1
+        done = subprocess.run([*without, os.path.join(BIN, f'tcpsim-{words[0]}'), self.hand[0], *words[1:], file],
+                              capture_output=True, text=True, check=False)
+        assert done.returncode == 0, done.stderr
+        assert os.path.getsize(file) > 1000
+
     def test_an_interruption_is_quiet(self):
         program, began = (os.path.join(self.folder, name) for name in ('sleeps', 'began'))
         with open(program, 'w', encoding='ascii') as file:

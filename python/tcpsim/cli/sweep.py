@@ -14,7 +14,7 @@ import os
 from collections.abc import Callable
 
 from tcpsim import FORMATS, output
-from tcpsim.command_line import MODEL, OutputClosed, Refused, Words, Wrong, as_type, note, tool
+from tcpsim.command_line import MODEL, OutputClosed, Refused, Words, Wrong, as_type, go_on_with, note, tool
 from tcpsim.program import find_program, found, is_program
 from tcpsim.scenario import units
 from tcpsim.sweeps import jobs
@@ -271,5 +271,7 @@ def gather(given: argparse.Namespace) -> None:
 def main() -> None:
     """Does what the words ask for."""
     given = command_line().parse_args()
+    if given.plot:
+        go_on_with('matplotlib')
     check_words(given)
     (gather if given.gather else sweep)(given)
