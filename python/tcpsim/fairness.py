@@ -29,6 +29,9 @@ class Goodputs(Protocol):
         """When a flow was complete; None where it was not by the span's end."""
 
 
+STANDINGS = 'yes', 'mouse', 'limited by its window', 'ended'
+
+
 class Compared(NamedTuple):
     """The flows that were under way in a span, by their numbers: those that Jain's index compares, and the others."""
 
@@ -36,6 +39,10 @@ class Compared(NamedTuple):
     mice: list[int]         # that have one segment in flight, less than their share
     limited: list[int]      # whose window holds more than that, and less than their share
     ended: list[int]        # that were complete
+
+    def standing(self, number: int) -> str:
+        """Whether a flow is compared, in a word, or why it is not."""
+        return next((word for word, numbers in zip(STANDINGS, self) if number in numbers), 'not started')
 
 
 def compared(run: Goodputs, chosen: Sequence[int] | None = None) -> Compared:

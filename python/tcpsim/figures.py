@@ -8,7 +8,7 @@ from __future__ import annotations
 import tempfile
 from array import array
 from collections import Counter, defaultdict
-from collections.abc import Iterable, Sequence
+from collections.abc import Callable, Iterable, Sequence
 from itertools import islice
 
 from tcpsim.cycle import Cycle, cycle_of
@@ -282,18 +282,25 @@ def link_figures(run: Figures, number: int, used: Sequence[float]) -> list[tuple
             ('loss', 'part', part(link.drops, link.sent() + link.drops))]
 
 
-def figures(run: Figures, only_busy: bool = False) -> list[tuple]:
-    """All figures: (what, name, figure, unit, value), value None where there is none."""
+def figures(run: Figures, only_busy: bool = False, chosen: Sequence[int] | None = None) -> list[tuple]:
+    """All figures: (what, name, figure, unit, value), value None where there is none; of flows that are chosen, these alone."""
     span = run.end - run.begin
     used = [link.sending(run.end) / span for link in run.links]
-    rows = [('flow', flow.flow.name, *row) for flow in run.flows for row in flow_figures(run, flow.number, used)]
+    rows = flow_rows(run, flow_figures, used, chosen)
     rows += [('link', link.link.name, *row) for link in run.links if link.is_busy() or not only_busy
              for row in link_figures(run, link.number, used)]
-    rows += index_figures(run)
+    rows += index_figures(run, chosen)
     if run.begin != run.first:
         rows.append(('run', '', 'begin', 'ns', run.begin))
     rows.append(('run', '', 'span', 'ns', span))
     return rows
+
+
+def flow_rows(run: Goodputs, figures_of: Callable, used: Sequence[float], chosen: Sequence[int] | None) -> list[tuple]:
+    """The figures of the flows, or of those that are chosen, and whether they are compared."""
+    flows = compared(run, chosen)
+    return [('flow', run.scenario.flows[number].name, *row) for number in (range(len(run.scenario.flows)) if chosen is None else chosen)
+            for row in [*figures_of(run, number, used), ('compared', 'word', flows.standing(number))]]
 
 
 def index_figures(run: Goodputs, chosen: Sequence[int] | None = None) -> list[tuple]:
@@ -342,13 +349,12 @@ def engine_link_figures(run: EngineRun, number: int, used: Sequence[float]) -> l
             ('loss', 'part', part(drops, sent + drops))]
 
 
-def engine_figures(run: EngineRun, only_busy: bool = False) -> list[tuple]:
+def engine_figures(run: EngineRun, only_busy: bool = False, chosen: Sequence[int] | None = None) -> list[tuple]:
     """As `figures`, from the program's table."""
     used = [run.over_span(number, BUSY) for number in range(len(run.links))]
-    rows = [('flow', flow.name, *row) for number, flow in enumerate(run.scenario.flows)
-            for row in engine_flow_figures(run, number, used)]
+    rows = flow_rows(run, engine_flow_figures, used, chosen)
     rows += [('link', link.name, *row) for number, link in enumerate(run.scenario.links)
              if run.is_busy(number) or not only_busy for row in engine_link_figures(run, number, used)]
-    rows += index_figures(run)
+    rows += index_figures(run, chosen)
     rows.append(('run', '', 'span', 'ns', run.end - run.begin))
     return rows

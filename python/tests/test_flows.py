@@ -10,9 +10,11 @@ import tempfile
 import pytest
 
 from clone import BIN, BUILT, MODEL, NAMES, PROGRAM, Folder, example, outcome, paths, ran, read_text, tool
+import tcpsim
 from tcpsim import figures, program
 from tcpsim.program import NoProgram, find_program
 from tcpsim.curves import Run
+from tcpsim.fairness import jain
 from tcpsim.samples import Sample, percentile
 from tcpsim.scenario.text import Scenario, Unreadable
 from test_trace import BY_HAND as SCENARIO, TRACE
@@ -154,9 +156,70 @@ class TestIdleLinks(Files):
             assert used in busy
 
 
+class TestChosenFlows(Files):
+    """Of four flows, ten mice and many links: what the table folds, and what it has of flows that are chosen."""
+
+    @pytest.fixture(autouse=True)
+    def run(self):
+        text = tcpsim.dumbbell(flows=4, rate='2M', rtt='40ms', queue='droptail:BDP', spread=1, mice=10, end='8s').text
+        self.path = self.put('mice.txt', text)
+        self.every = '\n'.join(self.lines(self.path, '--all', '--program', PROGRAM)).split('\n\n')
+
+    def csv(self, *words):
+        return [line.split(',') for line in self.lines(self.path, '--csv', '--program', PROGRAM, *words)[1:]]
+
+    def test_the_table_begins_with_the_bottleneck(self):
+        """Its flows' figures and those of the mice are sums of the rows of --csv."""
+        flows, of_run = {}, {}
+        for what, name, figure, _, value in self.csv():
+            if what == 'flow':
+                flows.setdefault(name, {})[figure] = value
+            elif what == 'run':
+                of_run[figure] = value
+        titles, four, mice = self.every[0].splitlines()
+        assert titles.split() == 'bottleneck used % wait ms: median 99th loss % flows goodput Mbit/s share % timeouts Jain'.split()
+        for line, number, names in ((four, 4, list(flows)[:4]), (mice, 10, list(flows)[4:])):
+            delivered = sum(int(flows[name]['delivered']) for name in names)
+            shares = [100 * float(flows[name]['share of the bottleneck']) for name in names]
+            assert f' {8e3 * delivered / int(of_run["span"]):.3f} ' in line
+            assert f' {min(shares):.1f} to {max(shares):.1f} ' in line
+            assert line.split()[-2:] == [str(sum(int(flows[name]['timeouts']) for name in names)),
+                                         f'{float(of_run["Jain" + chr(39) + "s index of goodput"]):.4f}' if number == 4 else '-']
+        assert (four.split()[0], mice.split()[:3]) == ('pq', ['pq', '10', 'mice'])
+        assert {values['compared'] for name, values in flows.items()} == {'yes', 'mouse'}
+
+    def test_mice_and_links_that_carry_little_are_folded(self):
+        folded = '\n'.join(self.lines(self.path, '--program', PROGRAM)).split('\n\n')
+        assert folded[0] == self.every[0] and folded[-1] == self.every[-1]
+        for few, every, left, begins in ((folded[1], self.every[1], 10, 'mice have their line above'), (folded[2], self.every[2], 0, 'links carried less')):
+            few, every = few.splitlines(), every.splitlines()
+            count = len(every) - len(few) + 1
+            assert few[-1].startswith(f'{left or count} {begins}') and few[-1].endswith(': --all shows them')
+            assert [line.split()[0] for line in few[:-1]] == [line.split()[0] for line in every if line.split()[0] in ' '.join(few[:-1]).split()]
+            assert count >= 10
+        assert {line.split()[0] for line in folded[2].splitlines()[1:-1]} == {'pq'}
+        assert self.lines(self.path, '--csv', '--program', PROGRAM) == self.lines(self.path, '--csv', '--all', '--program', PROGRAM)
+
+    def test_of_flows_that_are_chosen_the_index_is(self):
+        goodputs = {name: float(value) for what, name, figure, _, value in self.csv() if figure == 'goodput'}
+        for words in ((), ('--engine',)):
+            rows = self.csv('--flows', '4,f0', *words)
+            assert list(dict.fromkeys(name for what, name, *_ in rows if what == 'flow')) == ['f4', 'f0']
+            index, = (float(value) for *_, figure, _, value in rows if figure.startswith('Jain'))
+            assert index == pytest.approx(jain([goodputs['f0'], goodputs['f4']]), abs=1e-6)
+            lines = self.lines(self.path, '--flows', 'f0,f4', '--program', PROGRAM, *words)
+            assert f"Jain's index of goodput: {index:.4f}, of 2 flows" in lines
+        series = self.lines(self.path, '--series', '1s', '--flows', 'f2', '--program', PROGRAM)
+        assert {line.split(',')[2] for line in series if ',flow,' in line} == {'2'}
+        done = self.run_flows(self.path, '--flows', 'f0,g', '--program', PROGRAM)
+        assert (done.returncode, b'the scenario has no flow g; it has f0, f1' in done.stderr) == (1, True)
+
+
 class TestCommands(Files):
     def test_the_table_has_timeouts_and_loss(self):
         lines = self.lines(self.scenario, self.trace)
+        assert lines[1].split() == 'a 60.7 1.040 2.080 22.22 1 4.667 100.0 0 1.0000'.split()
+        lines = lines[3:]
         assert lines[0].split('  ')[0] == 'flow'
         for title in ('loss %', 'timeouts', 'sent again: fast', 'after timeouts'):
             assert title in lines[0]

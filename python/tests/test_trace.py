@@ -188,7 +188,8 @@ def test_curves():
 
 def test_the_table_has_them():
     lines = table(rows_by_hand())
-    assert lines[1].split() == 'f 7,000 4.667 100.0 a 9 22.22 0 1 0 3.080 4.120 5.160 5.160 - -'.split()
+    assert lines[1].split() == 'a 60.7 1.040 2.080 22.22 1 4.667 100.0 0 1.0000'.split()
+    assert lines[4].split() == 'f 7,000 4.667 100.0 a 9 22.22 0 1 0 3.080 4.120 5.160 5.160 - -'.split()
     assert 'f     data dropped as full at a        2' in lines
 
 

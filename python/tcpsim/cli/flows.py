@@ -1,8 +1,8 @@
 """tcpsim-flows: figures of each flow and each link of a run, as a table or as CSV.
 
-Usage: bin/tcpsim-flows SCENARIO [TRACE] [--csv | --series STEP] [--from T] [--to T] [--busy] [--partial] [-o FILE]
-                        [--program PATH | --model]
-       bin/tcpsim-flows SCENARIO --engine [--csv] [--busy] [-o FILE] [--program PATH | --model]
+Usage: bin/tcpsim-flows SCENARIO [TRACE] [--csv | --series STEP] [--from T] [--to T] [--busy | --all] [--flows F,..] [--partial]
+                        [-o FILE] [--program PATH | --model]
+       bin/tcpsim-flows SCENARIO --engine [--csv] [--busy | --all] [--flows F,..] [-o FILE] [--program PATH | --model]
 
 SCENARIO is a text or an image, `-` is standard input. Without TRACE the program is run. The trace is read as it comes
 and is not kept; with --engine there is none, and the figures are from `tcpsim figures`. --from and --to (times, as 5s
@@ -10,7 +10,8 @@ or 20ms) choose a part of the span, to which what happens at --to itself does no
 refused, or with --partial taken as far as it goes. --series writes as CSV time,what,number,figure,unit,value: a row for
 each figure of each flow and of each link in each STEP, from time 0 or --from on. The figures have the names of the table of
 `tcpsim figures`, and sum to it. --busy leaves out the links at which nothing was dropped and no packet waited longer than
-the greatest takes to be sent.
+the greatest takes to be sent. The table begins with what each bottleneck's flows get; it folds mice, and links that carried
+little, which --all shows. --flows takes these flows alone, and Jain's index compares them.
 """
 from __future__ import annotations
 
@@ -27,6 +28,8 @@ from tcpsim.output import Output, aligned
 from tcpsim.scenario import units
 from tcpsim.series import Rows
 from tcpsim.settled import too_short
+from tcpsim.summary import by_name, carried_little, opening
+from tcpsim.walk import flow_named
 from tcpsim.whole_trace import inputs_of, opened_run
 
 TRACE_COLUMNS = {
@@ -57,6 +60,9 @@ ENGINE_COLUMNS = {
 }
 
 
+FOLDED = {'flow': 'mice have their line above', 'link': 'links carried less than a tenth of the busiest, and dropped nothing'}
+
+
 def shown(form: str, scale: int, value: float | None) -> str:
     """A figure in words, `-` where there is none."""
     if value is None:
@@ -64,19 +70,23 @@ def shown(form: str, scale: int, value: float | None) -> str:
     return form.format(value / scale if scale not in (0, 1) else value)
 
 
-def table(rows: list, columns_of: dict[str, tuple] = TRACE_COLUMNS) -> list[str]:
-    """The lines of the table of all figures."""
-    lines = []
+def folded(rows: list) -> dict[str, list[str]]:
+    """The flows and links that a table leaves out: mice, which its beginning has together, and links that carried little."""
+    mice = [name for name, values in by_name(rows, 'flow').items() if values['compared'] == 'mouse']
+    return {'flow': mice if len(mice) > 1 else [], 'link': carried_little(rows)}
+
+
+def table(rows: list, columns_of: dict[str, tuple] = TRACE_COLUMNS, every: bool = False) -> list[str]:
+    """The lines of the table of figures, of all flows and links or of those that are not folded."""
+    lines, left = [*aligned(opening(rows)), ''], {} if every else folded(rows)
     for what, columns in columns_of.items():
-        of = {}
-        for kind, name, figure, _, value in rows:
-            if kind == what:
-                of.setdefault(name, {})[figure] = value
+        out = left.get(what, [])
         lines += aligned([[what] + [title for _, title, _, _ in columns]] + [
             [name] + [shown(form, scale, values[figure]) for figure, _, form, scale in columns]
-            for name, values in of.items()]) + ['']
+            for name, values in by_name(rows, what).items() if name not in out])
+        lines += [f'{len(out)} {FOLDED[what]}: --all shows them'] * bool(out) + ['']
     losses = [[name, figure, f'{value:,}'] for what, name, figure, _, value in rows
-              if what == 'flow' and ' dropped as ' in figure]
+              if what == 'flow' and ' dropped as ' in figure and name not in left.get('flow', [])]
     lines += (aligned([['flow', 'lost', 'packets']] + losses) + ['']) if losses else []
     of_run = {figure: (unit, value) for what, _, figure, unit, value in rows if what == 'run'}
     counts = [value for unit, value in of_run.values() if unit == 'flows']
@@ -92,10 +102,11 @@ def write_csv(rows: list, file: Output) -> None:
         out.writerow((*words, '' if value is None else f'{value:.6f}' if isinstance(value, float) else value))
 
 
-def write_series(run: Rows, file: Output, only_busy: bool = False) -> None:
+def write_series(run: Rows, file: Output, only_busy: bool = False, chosen: list[int] | None = None) -> None:
     """Writes the figures of each step, one a row."""
     kept = [(at, ','.join(map(str, (what, number, *figure)))) for at, (what, number, *figure) in enumerate(run.columns())
-            if not (only_busy and what == 'link' and not run.links[number].is_busy())]
+            if not (what == 'link' and only_busy and not run.links[number].is_busy())
+            and not (what == 'flow' and chosen is not None and number not in chosen)]
     file.write('time,what,number,figure,unit,value\n')
     for step in run.steps():
         file.write(''.join([f'{step.begin},{words},{step.values[at]}\n' for at, words in kept]))
@@ -117,6 +128,9 @@ def words_of(given: list[str] | None = None) -> argparse.Namespace:
     words.add_argument('--busy', action='store_true',
                        help='leave out links that dropped nothing and at which no packet waited longer than the greatest '
                        'takes to be sent')
+    words.add_argument('--all', action='store_true', help='in the table mice and links that carried little too')
+    words.add_argument('--flows', metavar='F,..', type=lambda word: word.split(','),
+                       help='only these flows, by name or number; Jain\'s index compares them, whatever they are')
     words.add_argument('--engine', action='store_true',
                        help='from `tcpsim figures`, with no trace: of the whole run, percentiles at most 1/32 above the '
                        'exact ones. It has no share of the bottleneck, no loss and no drops of a flow, and round trips '
@@ -144,16 +158,17 @@ def run_of(given: argparse.Namespace) -> Figures:
 
 def write(given: argparse.Namespace, file: Output) -> None:
     """Writes what is asked for."""
-    if given.series is not None:
-        write_series(run_of(given), file, given.busy)
-        return
     run = engine_run(given.scenario, given.program) if given.engine else run_of(given)
-    rows = (engine_figures if given.engine else figures)(run, given.busy)
+    chosen = list(dict.fromkeys(flow_named(run.scenario, name) for name in given.flows)) if given.flows else None
+    if given.series is not None:
+        write_series(run, file, given.busy, chosen)
+        return
+    rows = (engine_figures if given.engine else figures)(run, given.busy, chosen)
     if given.csv:
         write_csv(rows, file)
     else:
-        print('\n'.join(table(rows, ENGINE_COLUMNS if given.engine else TRACE_COLUMNS)), file=file)
-        for words in [*map(words_of_cycle, [] if given.engine else cycles(run)), *too_short(run)]:
+        print('\n'.join(table(rows, ENGINE_COLUMNS if given.engine else TRACE_COLUMNS, given.all)), file=file)
+        for words in [*too_short(run), *map(words_of_cycle, [] if given.engine else cycles(run))]:
             print(words, file=file)
 
 
