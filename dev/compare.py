@@ -1,7 +1,7 @@
 #!/usr/bin/env python3
 """Compares the built program with the model of python/tcpsim_model on many inputs: status, output, note.
 
-Usage: dev/compare.py [--kind texts,runs,images,debug,prompt,auto,figures] [--seed S] [--count N] [--jobs J]
+Usage: dev/compare.py [--kind texts,runs,images,debug,prompt,auto,figures,refused] [--seed S] [--count N] [--jobs J]
                           [--program PATH] [--options] [--systematic | --random] [--steps N] [--shrink SECONDS]
 
   texts    mutated and systematic texts, most of them refused     (tcpsim run)
@@ -16,6 +16,8 @@ Usage: dev/compare.py [--kind texts,runs,images,debug,prompt,auto,figures] [--se
            Two of three random ones are counted from a moment on, near an event's, at the end, or none at all; as many
            have rows by time, up to some 200 steps, and now and then a step that is refused
                                              (tcpsim figures --from T --every D --series --names)
+  refused  mutated and systematic texts, texts of people who have not read the form, and images; and groups that do not
+           fit, each with why it is refused                       (tcpsim asm --explain, tcpsim run --explain)
 
 --options gives random --groups and --workers besides. --steps N is for a program whose prompt has the first N steps
 of its grammar (python/tcpsim_model/prompt.py); left out, as many as the built one has.
@@ -126,7 +128,7 @@ def model_answers_kept(words, data, most):
 
 def agree(one, other):
     """Notes of status 2 are the command line reader's own text, but for those of words that are judged behind the input."""
-    if one[0] == other[0] == 2 and not {one[2], other[2]} & set(command_line.BEHIND_INPUT):
+    if one[0] == other[0] == 2 and not {note.partition('\n')[0] for _, _, note in (one, other)} & set(command_line.BEHIND_INPUT):
         return one[1] == other[1]
     return one == other
 
@@ -220,6 +222,21 @@ def texts(pick, args):
         yield from ((('run',), text) for text in systematic_texts())
     if args.random:
         yield from ((('run',), text) for text in random_texts(pick, args.count))
+
+
+def refused(pick, args):
+    """Texts and images most of which are refused, and why."""
+    for text in systematic_texts() if args.systematic else ():
+        yield ('asm', '--explain'), text
+    if args.random:
+        for words, data in itertools.chain(texts(pick, args), images(pick, args)):
+            yield ('dis' if 'dis' in words else 'asm', '--explain'), data
+        for _ in range(args.count):
+            scenario = short_scenario(pick)
+            for _ in range(3):
+                yield ('asm', '--explain'), spelling.unread(spelling.spelt(scenario, pick), pick)
+            groups = ','.join('0' * pick.randint(1, 2 * len(scenario.nodes)))
+            yield ('run', '--explain', '--groups', pick.choice((groups, 'On', ',', '0,64'))), spelling.spelt(scenario, pick)
 
 
 def long_scenario(pick):
@@ -440,7 +457,7 @@ def any_input(pick, scenario):
 
 
 KINDS = {'texts': texts, 'runs': runs, 'images': images, 'debug': debug, 'auto': auto, 'prompt': prompts,
-         'figures': tables}
+         'figures': tables, 'refused': refused}
 
 
 # What is printed.

@@ -1,13 +1,18 @@
 """Tests of `tcpsim explain` with the built program: each example is refused with just the note that its text
-names, its mended form is not refused, and the list of codes says what docs/FORMATS.md says.
+names, its mended form is not refused, and the list of codes says what docs/FORMATS.md says. And program and model
+explain what is refused alike.
 """
+import argparse
 import os
+import random
 import re
 import sys
 
 import pytest
 
+import compare
 from clone import PROGRAM, TOP, Folder, ran, read_text
+from tcpsim_model.reasons import MEANINGS
 
 pytestmark = pytest.mark.built
 CODES = [f'E{k}' for k in range(1, 11)] + [f'L{k}' for k in range(1, 9)] + ['I1'] \
@@ -99,6 +104,9 @@ class TestExplained(Folder):
             first = explained(code).splitlines()[0]
             assert done.stderr.splitlines() == [f'refused {code} line 0', witness, statement, first]
 
+    def test_the_model_says_the_same_of_each_code(self):
+        assert [line for line in explained().splitlines() if line.split(':')[0] in MEANINGS] == [f'{it}: {MEANINGS[it]}' for it in MEANINGS]
+
     def test_texts_fit_a_terminal(self):
         for code in CODES:
             text = explained(code)
@@ -112,3 +120,15 @@ class TestExplained(Folder):
         for line in explained().splitlines():
             code, reason = line.split(': ', 1)
             assert any(re.match(rf'\| `?(refused )?{code}`? \| {re.escape(reason)}', row) for row in rows), reason
+
+
+def test_program_and_model_explain_what_is_refused_alike():
+    """Drawn texts and images: of people who have not read the form, with words and bytes changed, and with groups that do not fit."""
+    cases = list(compare.refused(random.Random('refused'), argparse.Namespace(count=40, systematic=False, random=True)))
+    notes = []
+    for case in cases:
+        _, real, model = compare.compared((PROGRAM, case))
+        assert real == model, case
+        notes.append(compare.model_answers(*case, compare.MOST_BYTES)[2])
+    for sentence in (': write ', 'number of nanoseconds', 'bits per second', 'a name is', 'CRLF', 'spaces', 'pcap', 'the kind of', 'groups: '):
+        assert any(sentence in note for note in notes), sentence

@@ -241,7 +241,8 @@ WRONG = b'sim 5\nnode s sendr\n'
 
 
 def test_explain_shows_the_place(put):
-    wanted = told(1, 'refused E4 line 2', 'node s sendr', '       ^^^^^', meaning('E4'))
+    kinds = 'the kind of a node is sender, receiver or router'
+    wanted = told(1, 'refused E4 line 2', 'node s sendr', '       ^^^^^', kinds, meaning('E4'))
     for word in ('run', 'asm', 'dis', 'figures'):
         assert outcome([word, '--explain', put('text', WRONG)]) == wanted
         assert outcome([word, '--explain'], EXAMPLE) == outcome([word], EXAMPLE)

@@ -13,6 +13,7 @@ import re
 import pytest
 
 from clone import PROGRAM, TOP, of_model, outcome, ran, read, side_by_side
+from tcpsim_model.reasons import meaning
 from whole import canonical, command_line, images, nodes, refusals, sessions, texts, waits
 from whole.texts import RIGHT
 
@@ -300,47 +301,50 @@ def test_the_greatest_images_are_taken(answer):
 # ---- why
 
 
-def expect_why(words, given, code, lines):
+def expect_why(answer, words, given, code, lines):
     """The note with the code, these lines, and the first line of the code's text are on standard error."""
-    status, said, output = outcome([*words, '--explain'], given)
+    status, said, output = answer([*words, '--explain'], given)
     note, shown = said.decode().split('\n', 1)
     assert (status, output) == (1, b'')
     assert re.search(rf'^refused {code}( line \d+)?$', note)
-    about = outcome(['explain', code], b'')[2].decode().split('\n', 1)[0]
-    assert shown == f'{lines}{about}\n'
+    assert shown == lines + meaning(code)
 
 
-@pytest.mark.built
-def test_a_refusal_of_a_text_is_shown_with_its_reason():
+def test_a_refusal_of_a_text_is_shown_with_its_reason(answer):
     texts_of = [*refusals.SHOWN, *((text_with(texts.ROUTED, texts.LOSSES, place, line), code, lines)
                                    for place, line, code, lines in refusals.CHANGED)]
     for given, code, lines in texts_of:
         for word in ('asm', 'dis', 'run'):
-            expect_why([word], given.encode(), code, lines)
+            expect_why(answer, [word], given.encode(), code, lines)
 
 
-@pytest.mark.built
-def test_a_refusal_of_an_image_is_shown_with_its_reason():
-    image = outcome(['asm'], ''.join(f'{line}\n' for line in texts.ROUTED).encode())[2]
+def test_a_word_that_is_refused_is_shown_with_what_to_write_instead(answer):
+    for place, line, code, sentence in refusals.ADVISED:
+        carets = re.sub('[^^]', ' ', re.sub('{(.*)}', lambda found: '^' * len(found[1]), line)).rstrip()
+        line = re.sub('[{}]', '', line)
+        given = text_with(texts.ROUTED, texts.LOSSES, place, line)
+        expect_why(answer, ['asm'], given.encode(), code, f'{line}\n{carets}\n{sentence}\n')
+
+
+def test_a_refusal_of_an_image_is_shown_with_its_reason(answer):
+    image = answer(['asm'], ''.join(f'{line}\n' for line in texts.ROUTED).encode())[2]
     assert len(image) == 232
     for place, put, kept, code, lines in refusals.CHANGED_BYTES:
         put = bytes.fromhex(put)
-        expect_why(['dis'], (image[:place] + put + image[place + len(put):])[:kept], code, lines)
-    image = outcome(['asm'], refusals.TWO_ROUTERS.encode())[2]
+        expect_why(answer, ['dis'], (image[:place] + put + image[place + len(put):])[:kept], code, lines)
+    image = answer(['asm'], refusals.TWO_ROUTERS.encode())[2]
     place, put, code, lines = refusals.RETURNING
     put = bytes.fromhex(put)
-    expect_why(['asm'], image[:place] + put + image[place + len(put):], code, lines)
+    expect_why(answer, ['asm'], image[:place] + put + image[place + len(put):], code, lines)
 
 
-@pytest.mark.built
-def test_nothing_is_shown_unasked_and_of_a_right_input():
-    expect(outcome, [(['run'], b'sim 0\n', 1, b'refused E5 line 1\n', b''),
+def test_nothing_is_shown_unasked_and_of_a_right_input(answer):
+    expect(answer, [(['run'], b'sim 0\n', 1, b'refused E5 line 1\n', b''),
             (['asm'], text_with(texts.ROUTED, texts.LOSSES, 1, 'sim 5').encode(), 0, b'',
-             outcome(['asm', '--explain'], text_with(texts.ROUTED, texts.LOSSES, 1, 'sim 5').encode())[2]),
+             answer(['asm', '--explain'], text_with(texts.ROUTED, texts.LOSSES, 1, 'sim 5').encode())[2]),
             (['run', '--explain'], FIRST, 0, b'', TRACE),
             (['run', '--explain', '--groups', '0,1,1'], FIRST, 2,
-             b'refused groups\ngroups that are given: 3; nodes: 2\n'
-             + outcome(['explain', 'groups'], b'')[2].split(b'\n', 1)[0] + b'\n', b'')])
+             b'refused groups\ngroups that are given: 3; nodes: 2\n' + meaning('groups').encode(), b'')])
 
 
 @pytest.mark.built

@@ -2,20 +2,26 @@
 
 Each is an input, its code, and the lines that are shown before the first line of the code's text.
 """
+NAME = 'a name is a small letter and then up to 14 small letters or digits'
+END = 'END is a whole number of nanoseconds, 1 to 1000000000000000'
 
 # Texts with a faulty line, which is shown with carets under what is wrong, and texts that are refused for no line.
 SHOWN = [
-    ('sim 5\nnode s sendr\n', 'E4', 'node s sendr\n       ^^^^^\n'),
-    ('  nod s\n', 'E2', '  nod s\n  ^^^\n'),
+    ('sim 5\nnode s sendr\n', 'E4', 'node s sendr\n       ^^^^^\nthe kind of a node is sender, receiver or router\n'),
+    ('  nod s\n', 'E2', '  nod s\n  ^^^\na statement is sim, node, link, flow, route or lose\n'),
     ('sim 5\nnode s # a sender\n', 'E3', 'node s # a sender\n^^^^^^^^^^^^^^^^^\n'),
-    ('sim\t5\n', 'E1', 'sim?5\n   ^\n'),
-    ('sim 0\n', 'E5', 'sim 0\n    ^\n'),
+    ('sim\t5\n', 'E1', 'sim?5\n   ^\nwords are parted by spaces: write a space for each tab\n'),
+    ('sim 5\r\n', 'E1', "sim 5?\n     ^\nlines end in a line feed alone, not CRLF: tr -d '\\r' takes the carriage returns away\n"),
+    ('sim 5 # \x7f\n', 'E1', 'sim 5 # ?\n        ^\n'),
+    ('M<\u00b2\u00a1\x02', 'E1', 'M<?????\n  ^\n'),        # in UTF-8 it is no capture of packets
+    ('\n\r\r\n\x1c', 'E1', '??\n^\nthis is a capture of packets (pcap), and tcpsim reads scenarios\n'),
+    ('sim 0\n', 'E5', f'sim 0\n    ^\n{END}\n'),
     ('sim 5\nnode s sender\nnode  s receiver', 'E6', 'node  s receiver\n      ^\n'),
     ('sim 5\nnode s sender\n', 'L3', 'L3: nodes that are declared: 1; wanted: 2 at least\nnode NAME KIND\n'),
     ('', 'E10', ''),
     ('TCB', 'L1', ''),
     # Of a long line 200 bytes are shown, from 80 before what is wrong.
-    ('sim ' + ' ' * 1_000 + 'a' * 300, 'E4', ' ' * 80 + 'a' * 120 + '\n' + ' ' * 80 + '^' * 120 + '\n'),
+    ('sim ' + ' ' * 1_000 + 'a' * 300, 'E4', ' ' * 80 + 'a' * 120 + '\n' + ' ' * 80 + '^' * 120 + f'\n{END}\n'),
     # Two flows that end at each other's receivers: the one link of a start can be wrong.
     ('''sim 5
 node s sender
@@ -29,6 +35,54 @@ link d u t 1000 1 droptail 1
 flow f s r 1000 1 0 64000 0
 flow g t u 1000 1 0 64000 0
 ''', 'L7', 'L7: data of flow f come to receiver u over link a, and not to r\nlink a s r RATE DELAY droptail CAP\n'),
+]
+
+# Of a line of texts.ROUTED, counted from 1, or added behind them: what stands there, of which the word in braces is refused,
+# its code, and what to write instead.
+ADVISED = [
+    (1, 'sim {10s}', 'E4', f'{END}: write 10000000000'),
+    (1, 'sim {1.5s}', 'E4', f'{END}: write 1500000000'),
+    (1, 'sim {0010}', 'E4', f'{END}: write 10'),
+    (1, 'sim {2.0}', 'E4', f'{END}: write 2'),
+    (1, 'sim {1.5}', 'E4', END),
+    (1, 'sim {10m}', 'E4', END),
+    (1, 'sim {-5}', 'E4', END),
+    (1, 'sim {s}', 'E4', END),
+    (1, 'sim {1000001s}', 'E4', END),
+    (1, 'sim {99999999999999999999999s}', 'E4', END),
+    (1, 'sim {1000000000000001}', 'E5', END),
+    (2, 'node {S} sender', 'E4', f'{NAME}: write s'),
+    (2, 'node {Host_A} sender', 'E4', f'{NAME}: write hosta'),
+    (2, 'node {7up_2} sender', 'E4', f'{NAME}: write up2'),
+    (2, 'node {the_access_router} sender', 'E4', f'{NAME}: write theaccessrouter'),
+    (2, 'node {the_access_router_2} sender', 'E4', f'{NAME}: write theaccessrouter'),
+    (2, 'node {7_} sender', 'E4', NAME),
+    (2, 'node s {Sender}', 'E4', 'the kind of a node is sender, receiver or router'),
+    (2, '{Node} s sender', 'E2', 'a statement is sim, node, link, flow, route or lose'),
+    (5, 'link a {S} p 8000000 1000000 droptail 10', 'E4', f'{NAME}: write s'),
+    *((5, f'link a s p {{{rate}}} 1000000 droptail 10', 'E4', f'RATE is a whole number of bits per second, 1000 to 1000000000000{number}')
+      for rate, number in (('8M', ': write 8000000'), ('10Mbit', ': write 10000000'), ('10Mbit/s', ': write 10000000'),
+                           ('10mbit', ': write 10000000'), ('1.5Mbps', ': write 1500000'), ('800kb/s', ': write 800000'),
+                           ('0.001T', ': write 1000000000'), ('8000bits', ': write 8000'), ('999bit', ''), ('10MB', ''), ('0.0001k', ''))),
+    (5, 'link a s p {999} 1000000 droptail 10', 'E5', 'RATE is a whole number of bits per second, 1000 to 1000000000000'),
+    (5, 'link a s p 8000000 {1ms} droptail 10', 'E4', 'DELAY is a whole number of nanoseconds, 1 to 10000000000: write 1000000'),
+    (5, 'link a s p 8000000 {11s} droptail 10', 'E4', 'DELAY is a whole number of nanoseconds, 1 to 10000000000'),
+    (5, 'link a s p 8000000 {0.5ns} droptail 10', 'E4', 'DELAY is a whole number of nanoseconds, 1 to 10000000000'),
+    (5, 'link a s p 8000000 1000000 {red} 10', 'E4', 'the kind of a queue is droptail or codel'),
+    (5, 'link a s p 8000000 1000000 droptail {1k}', 'E4', 'CAP is a whole number of packets, 1 to 65535: write 1000'),
+    (5, 'link a s p 8000000 1000000 codel 10 {5ms} 100ms 1500', 'E4', 'TARGET is a whole number of nanoseconds, 1 to 10000000000: write 5000000'),
+    (5, 'link a s p 8000000 1000000 codel 10 5 {100us} 1500', 'E4', 'INTERVAL is a whole number of nanoseconds, 1 to 10000000000: write 100000'),
+    (5, 'link a s p 8000000 1000000 codel 10 5 5 {1.5kB}', 'E4', 'MAXPACKET is a whole number of bytes, 1 to 65535: write 1500'),
+    (9, 'flow f s r {1kbytes} 1 0 64000 0', 'E4', 'MSS is a whole number of bytes, 1 to 9000: write 1000'),
+    (9, 'flow f s r 1000 {1M} 0 64000 0', 'E4', 'SEGMENTS is a whole number of segments, 1 to 1000000000: write 1000000'),
+    (9, 'flow f s r 1000 1 {0s} 64000 0', 'E4', 'START is a whole number of nanoseconds, 0 to 999999999999999, and below END: write 0'),
+    (9, 'flow f s r 1000 1 0 {64k} 0', 'E4', 'RWND is a whole number of bytes, 1 to 1073741824, and at least MSS: write 64000'),
+    (9, 'flow f s r 1000 1 0 {999} 0', 'E5', 'RWND is a whole number of bytes, 1 to 1073741824, and at least MSS'),
+    (9, 'flow f s r 1000 1 0 64000 {40ms}', 'E4', 'DELACK is a whole number of nanoseconds, 0 to 500000000: write 40000000'),
+    (9, 'flow f s r 1000 1 0 64000 0 {cubic} iw10', 'E4', 'the recovery of a flow is reno or newreno'),
+    (9, 'flow f s r 1000 1 0 64000 0 reno {10}', 'E4', 'the initial window of a flow is iw3 or iw10'),
+    (12, 'lose a {07}', 'E4', "NUMBER is a whole number of packets, 1 to 1000000000, and above the link's last one: write 7"),
+    (12, 'lose a {0}', 'E5', "NUMBER is a whole number of packets, 1 to 1000000000, and above the link's last one"),
 ]
 
 # Lines of texts.ROUTED, counted from 1, or added behind them; what stands there; the code; the witness, and a

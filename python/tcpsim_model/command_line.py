@@ -1,9 +1,9 @@
 """tcpsim's model: reads a scenario, writes standard output, a note on standard error, a status.
 
-Usage: tcpsim-model run|debug [--workers N] [--groups G] [FILE]
-       tcpsim-model figures [--from T] [--every D [--series]] [--names] [FILE]
-       tcpsim-model asm|dis [FILE]
-       tcpsim-model debug [--workers N] [--groups G] [--steps N] FILE
+Usage: tcpsim-model run|debug [--workers N] [--groups G] [--explain] [FILE]
+       tcpsim-model figures [--from T] [--every D [--series]] [--names] [--explain] [FILE]
+       tcpsim-model asm|dis [--explain] [FILE]
+       tcpsim-model debug [--workers N] [--groups G] [--steps N] [--explain] FILE
 
 The scenario is the file's, or where none is named standard input's. Where `debug` has a file, standard input has lines
 typed at a prompt.
@@ -14,6 +14,7 @@ typed at a prompt.
   --every D    rows by time behind the table, in steps as 1.5s or 20ms
   --series     these rows without the table
   --names      the names of a text's flows and links in a last column
+  --explain    shows on standard error why an input is refused, as on a terminal
   --steps N    at a prompt: the grammar after the first N steps in which it was made; 0 is that of the other form
   --help       show this
 """
@@ -24,7 +25,7 @@ import signal
 import sys
 from collections import namedtuple
 
-from tcpsim_model import grammar, prompt
+from tcpsim_model import grammar, prompt, reasons
 from tcpsim_model.debugger import session, split
 from tcpsim_model.figures import are_too_many, figures, names_of, series
 from tcpsim_model.image import load, save
@@ -36,6 +37,7 @@ MOST_INPUT = 16_777_216
 GROUP = re.compile(r'0|[1-9][0-9]?')
 OPTIONS = {'run': ('--workers', '--groups'), 'debug': ('--workers', '--groups', '--steps'), 'figures': ('--from', '--every')}
 FLAGS = {'figures': ('--series', '--names')}
+EXPLAIN = '--explain'       # a flag of every command
 # What is said of words that are judged behind the input.
 NO_MOMENT = 'error: --from takes a moment, as 1.5s, 20ms or 10000ns'
 NO_STEP = 'error: --every takes a time above 0, as 1.5s or 20ms, and --series wants --every'
@@ -44,10 +46,14 @@ BEHIND_INPUT = 'refused groups', NO_MOMENT, NO_STEP, TOO_MANY_ROWS
 
 
 class WrongWords(Exception):
-    """A command line that can't be read."""
+    """A command line that can't be read: a note, and why, some lines that are shown behind it."""
+
+    def __init__(self, note='', why=''):
+        super().__init__(note)
+        self.why = why
 
 
-class CannotRead(Exception):
+class CannotRead(WrongWords):
     """A file that cannot be read."""
 
 
@@ -66,7 +72,7 @@ def options_of(words):
             file = word
             continue
         name, _, value = word.partition('=')
-        flag = word in FLAGS.get(command, ())
+        flag = word in (*FLAGS.get(command, ()), EXPLAIN)
         if not flag and name not in OPTIONS.get(command, ()) or name in given:
             raise WrongWords
         if not value and not flag:
@@ -80,7 +86,7 @@ def options_of(words):
     if not NUMBER.fullmatch(steps.encode()) or int(steps) > prompt.STEPS:
         raise WrongWords
     return Asked(command, given.get('--groups', 'one'), int(steps), None if file == '-' else file, given.get('--from', '0'),
-                 given.get('--every'), given.keys() & FLAGS.get(command, ()))
+                 given.get('--every'), given.keys() & {*FLAGS.get(command, ()), EXPLAIN})
 
 
 def check_groups(groups, nodes):
@@ -126,7 +132,7 @@ def scenario_of(asked, data):
     whole = asked.command == 'debug' and asked.file is None
     scenario = assemble(split(data)[0]) if whole else read(data)
     if not check_groups(asked.groups, len(scenario.nodes)):
-        raise WrongWords('refused groups')
+        raise WrongWords('refused groups', reasons.of_groups(asked.groups, len(scenario.nodes)))
     return scenario
 
 
@@ -157,26 +163,34 @@ def lines_typed(keys):
         yield line.removesuffix(b'\n')
 
 
-def main(words, keys, write, tell=lambda note: None, contents=contents):
+def main(words, keys, write, tell=lambda note: None, contents=contents, explains=False):
     """Status and note; `write` takes the output, `tell` what is noted at a prompt. Standard input is `keys`, bytes or
-    a file."""
+    a file. With `explains` a refusal is explained though the words do not wish it."""
+    data = b''
     try:
         asked = options_of(words)
+        explains = explains or EXPLAIN in asked.flags
         keys = io.BytesIO(keys) if isinstance(keys, bytes) else keys
+        data = keys.read() if asked.file is None else contents(asked.file)
         if asked.file is None or asked.command != 'debug':
-            for piece in output(asked, keys.read() if asked.file is None else contents(asked.file)):
+            for piece in output(asked, data):
                 write(piece)
         else:
-            for piece, note in prompt.typed(scenario_of(asked, contents(asked.file)), lines_typed(keys), asked.steps):
+            for piece, note in prompt.typed(scenario_of(asked, data), lines_typed(keys), asked.steps):
                 write(piece.encode())
                 tell(note.encode())
     except WrongWords as wrong:
-        return 2, str(wrong) or __doc__.strip()
+        note = str(wrong) or __doc__.strip()
+        return 3 if isinstance(wrong, CannotRead) else 2, explained(note, explains, lambda: wrong.why)
     except Refused as refusal:
-        return 1, refusal.note()
-    except CannotRead as fault:
-        return 3, str(fault)
+        text = split(data)[0] if asked.command == 'debug' and asked.file is None else data
+        return 1, explained(refusal.note(), explains, lambda: reasons.reason(text, refusal))
     return 0, ''
+
+
+def explained(note, explains, why):
+    """A note, and behind it what explains it, if that is wished."""
+    return f'{note}\n{why()}'.rstrip('\n') if explains else note
 
 
 def at_once(file):
@@ -195,7 +209,7 @@ def command():
         # Not a byte more of standard input is read than a line is long.
         with open(0, 'rb', buffering=0, closefd=False) as standard_input:
             write = at_once(out) if sys.argv[1:2] == ['debug'] else out.write
-            status, note = main(sys.argv[1:], standard_input, write, at_once(err))
+            status, note = main(sys.argv[1:], standard_input, write, at_once(err), explains=os.isatty(2))
         out.flush()
     except OSError:
         os.dup2(os.open(os.devnull, os.O_WRONLY), out.fileno())     # what is held is not tried again

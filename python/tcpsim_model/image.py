@@ -109,21 +109,25 @@ def flow_of(record):
     return Flow(*record[:7], *of_byte(record[7] if len(record) > 7 else 0))
 
 
+def parts_of(header, kinds, links, flows, routes):
+    """The parts that these numbers make, whether they make a scenario or not."""
+    return Scenario(header[1], kinds, [Link(*link[:4], link[4] == 1, *link[5:], lose) for link, lose in links],
+                    [flow_of(flow) for flow in flows], routes)
+
+
 def load(data):
     """The scenario of an image; raises `Refused` with its first fault."""
     try:
-        header, kinds, links, flows, routes, left = split(data)
+        *numbers, left = split(data)
     except TooShort:
         raise Refused('L1') from None
-    if header[0] not in MAGIC.values():
+    if numbers[0][0] not in MAGIC.values():
         raise Refused('L2')
-    if not numbers_are_right(header, kinds, links, flows, routes):
+    if not numbers_are_right(*numbers):
         raise Refused('L3')
     if left:
         raise Refused('L4')
-    scenario = Scenario(header[1], kinds,
-                        [Link(*link[:4], link[4] == 1, *link[5:], lose) for link, lose in links],
-                        [flow_of(flow) for flow in flows], routes)
+    scenario = parts_of(*numbers)
     fault = fault_of_whole(scenario)
     if fault:
         raise Refused(fault)

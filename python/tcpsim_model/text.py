@@ -7,18 +7,28 @@ from tcpsim_model.variants import TCPS, WINDOWS, of_words, words_of as variant_w
 
 NOT_PRINTABLE = re.compile(rb'[^ -~]')
 NUMBER = re.compile(rb'0|[1-9][0-9]*')
+WORD = re.compile(rb'[^ ]+')
 NAME = re.compile(rb'[a-z][a-z0-9]{0,14}')
 DIGITS_ENOUGH = 20          # a number of more digits is out of every range
 NODE, LINK, FLOW = 'node', 'link', 'flow'
 
 
 class Fault(Exception):
-    """What is wrong with a line."""
+    """What is wrong with a line: a code, and the word that is faulty, None where the line as a whole or a byte of it is."""
+
+    def __init__(self, code, word=None):
+        super().__init__(code)
+        self.code, self.word = code, word
 
 
-def refuse_if(wrong, code):
+class Word(bytes):
+    """A word of a line: which it is, and where in the line it begins, both counted from 0."""
+    place = start = 0
+
+
+def refuse_if(wrong, code, word=None):
     if wrong:
-        raise Fault(code)
+        raise Fault(code, word)
 
 
 def lines_of(data):
@@ -30,18 +40,23 @@ def lines_of(data):
 
 
 def words_of(line):
-    return [word for word in line.split(b'#', 1)[0].split(b' ') if word]
+    words = []
+    for place, found in enumerate(WORD.finditer(line.split(b'#', 1)[0])):
+        word = Word(found[0])
+        word.place, word.start = place, found.start()
+        words.append(word)
+    return words
 
 
 def number(word):
     """The value of a word that has to be a number (E4)."""
-    refuse_if(not NUMBER.fullmatch(word), 'E4')
+    refuse_if(not NUMBER.fullmatch(word), 'E4', word)
     return 10**DIGITS_ENOUGH if len(word) > DIGITS_ENOUGH else int(word)
 
 
 def number_in(name, word):
     value = number(word)
-    refuse_if(not in_range(name, value), 'E5')
+    refuse_if(not in_range(name, value), 'E5', word)
     return value
 
 
@@ -57,16 +72,16 @@ class Book:
         self.ports = {}         # node: how many links leave it
 
     def new_name(self, word):
-        refuse_if(not NAME.fullmatch(word), 'E4')
-        refuse_if(word in self.names, 'E6')
+        refuse_if(not NAME.fullmatch(word), 'E4', word)
+        refuse_if(word in self.names, 'E6', word)
         return word
 
     def used(self, word, sort, kinds=()):
         """The number of the node, link or flow that the word names."""
-        refuse_if(not NAME.fullmatch(word), 'E4')
-        refuse_if(word not in self.names, 'E7')
+        refuse_if(not NAME.fullmatch(word), 'E4', word)
+        refuse_if(word not in self.names, 'E7', word)
         found, place = self.names[word]
-        refuse_if(found != sort or (kinds and self.nodes[place] not in kinds), 'E8')
+        refuse_if(found != sort or (kinds and self.nodes[place] not in kinds), 'E8', word)
         return place
 
     def declare(self, name, sort, record, records, most):
@@ -80,7 +95,7 @@ class Book:
         if not words:
             return
         statement = self.STATEMENTS.get(words[0])
-        refuse_if(statement is None, 'E2')
+        refuse_if(statement is None, 'E2', words[0])
         counts, read = statement
         refuse_if(len(words) not in counts, 'E3')
         read(self, words)
@@ -91,7 +106,7 @@ class Book:
     def read_node(self, words):
         name = self.new_name(words[1])
         kind = words[2].decode()
-        refuse_if(kind not in KIND_NAMES, 'E4')
+        refuse_if(kind not in KIND_NAMES, 'E4', words[2])
         self.declare(name, NODE, KIND_NAMES.index(kind), self.nodes, MOST_NODES)
 
     def read_link(self, words):
@@ -100,9 +115,9 @@ class Book:
         name = self.new_name(words[1])
         source = self.used(words[2], NODE)
         to = self.used(words[3], NODE)
-        refuse_if(to == source, 'E8')
+        refuse_if(to == source, 'E8', words[3])
         link = Link(source, to, number_in('rate', words[4]), number_in('delay', words[5]), kind == b'codel', 0)
-        refuse_if(kind not in (b'droptail', b'codel'), 'E4')
+        refuse_if(kind not in (b'droptail', b'codel'), 'E4', kind)
         link.capacity = number_in('capacity', words[7])
         if link.codel:
             link.target = number_in('target', words[8])
@@ -121,26 +136,26 @@ class Book:
         segments = number_in('segments', words[5])
         start = number_in('start', words[6])
         rwnd = number_in('rwnd', words[7])
-        refuse_if(rwnd < mss, 'E5')
+        refuse_if(rwnd < mss, 'E5', words[7])
         flow = Flow(sender, receiver, mss, segments, start, rwnd, number_in('delack', words[8]))
         if len(words) > 9:
-            refuse_if(words[9] not in TCPS, 'E4')
-            refuse_if(words[10] not in WINDOWS, 'E4')
+            refuse_if(words[9] not in TCPS, 'E4', words[9])
+            refuse_if(words[10] not in WINDOWS, 'E4', words[10])
             vars(flow).update(of_words(*words[9:]))
         self.declare(name, FLOW, flow, self.flows, MOST_FLOWS)
 
     def read_route(self, words):
         router = self.used(words[1], NODE, (ROUTER,))
         destination = self.used(words[2], NODE, (SENDER, RECEIVER))
-        refuse_if((router, destination) in self.routes, 'E6')
+        refuse_if((router, destination) in self.routes, 'E6', words[2])
         link = self.used(words[3], LINK)
-        refuse_if(self.links[link].source != router, 'E8')
+        refuse_if(self.links[link].source != router, 'E8', words[3])
         self.routes[router, destination] = link
 
     def read_lose(self, words):
         lose = self.links[self.used(words[1], LINK)].lose
         offered = number_in('lose', words[2])
-        refuse_if(lose and offered <= lose[-1], 'E5')
+        refuse_if(lose and offered <= lose[-1], 'E5', words[2])
         refuse_if(len(lose) == MOST_LOSSES, 'E9')
         lose.append(offered)
 
@@ -153,11 +168,15 @@ class Book:
         b'lose': ((3,), read_lose),
     }
 
-    def whole(self):
-        """The scenario, where no line is faulty and the text as a whole is right."""
+    def parts(self):
+        """What is declared, where no line is faulty, whether it makes a scenario or not."""
         refuse_if(len(self.ends) != 1, 'E10')
         routes = sorted((*at, link) for at, link in self.routes.items())
-        scenario = Scenario(self.ends[0], self.nodes, self.links, self.flows, routes, names=self.names)
+        return Scenario(self.ends[0], self.nodes, self.links, self.flows, routes, names=self.names)
+
+    def whole(self):
+        """The scenario, where no line is faulty and the text as a whole is right."""
+        scenario = self.parts()
         late = any(flow.start >= scenario.end for flow in self.flows)
         refuse_if(late or len(self.nodes) < 2 or not self.links or not self.flows, 'L3')
         fault = fault_of_whole(scenario)
@@ -165,17 +184,28 @@ class Book:
         return scenario
 
 
+def read_lines(data):
+    """What the lines of a text declare, and of its first faulty line, if it has one, the number, the bytes and the fault."""
+    book = Book()
+    for number, line in enumerate(lines_of(data), 1):
+        try:
+            if line:
+                book.read(line)
+        except Fault as fault:
+            return book, (number, line, fault)
+    return book, None
+
+
 def assemble(data):
     """The scenario that a text (bytes) means; raises `Refused` with its first fault."""
-    book, line = Book(), 0
+    book, faulty = read_lines(data)
+    if faulty:
+        number, _, fault = faulty
+        raise Refused(fault.code, number)
     try:
-        for line, text in enumerate(lines_of(data), 1):
-            if text:
-                book.read(text)
-        line = 0
         return book.whole()
     except Fault as fault:
-        raise Refused(str(fault), line) from None
+        raise Refused(fault.code, 0) from None
 
 
 def disassemble(s):

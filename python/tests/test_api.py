@@ -155,6 +155,7 @@ def test_a_text_is_judged_as_it_is_read(there, tmp_path, monkeypatch):
         with pytest.raises(tcpsim.Refused) as wrong:
             call()
         assert (wrong.value.code, wrong.value.line) == ('E4', 2)
+        assert wrong.value.explained.splitlines()[2] == 'the kind of a node is sender, receiver or router'
     assert repr(tcpsim.ScenarioText(MISTAKEN)) == '<scenario: a text that is refused, E4 line 2>'
     assert tcpsim.from_text(one().scenario.text, 'mine').name == 'mine'
     (tmp_path / 'odd.txt').write_bytes(b'\xff')
@@ -176,7 +177,7 @@ def test_a_scenario_that_is_refused(engine):
             call(MISTAKEN, engine=engine)
         assert (wrong.value.code, wrong.value.line) == ('E4', 2)
         assert str(wrong.value).splitlines()[0] == 'E4 line 2'
-        assert ('^^^^^' in str(wrong.value)) == (engine == 'program')
+        assert '^^^^^\nthe kind of a node is' in str(wrong.value)
 
 
 def test_a_long_run_is_not_left_to_the_model_unasked(monkeypatch):

@@ -457,12 +457,11 @@ def test_a_refused_scenario(terminal, put):
     assert session.child.exitstatus == 1
     told = session.child.before.splitlines()
     assert told[0] == 'refused E4 line 1'
-    assert len(told) > 1 or PROGRAM == MODEL        # the program explains itself on a terminal
+    assert told[1:3] == ['sim 01', '    ^^']
 
 
 def test_words_that_are_refused(put):
     for words, status, said in ((['-'], 2, b'standard input has the commands'), ([], 2, b'SCENARIO'), ([TWO, TWO], 2, b''), (['--speed', TWO], 2, b''),
-                                (['--explain', '--model', TWO], 2, b'--explain wants the program'),
                                 (['--program', 'not-there', TWO], 1, b'not-there is no program')):
         done = tool('debug', *words)
         assert (done.returncode, done.stdout, said in done.stderr, done.stderr.count(b'\n')) == (status, b'', True, 1), done

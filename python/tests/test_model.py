@@ -3,12 +3,14 @@ dev/test_whole.py has, which asks the model too."""
 import glob
 import io
 import random
+import re
 from collections import namedtuple
+from fractions import Fraction
 
 import pytest
 
 from clone import EXAMPLES, TOP, of_model, read, read_text
-from tcpsim_model import command_line, grammar, image, prompt, simulate, texts as pages
+from tcpsim_model import advice, command_line, grammar, image, prompt, reasons, simulate, texts as pages
 from tcpsim_model.queues import COUNT_STOPS, Codel, gap
 from tcpsim_model.receiver import Receiver
 from tcpsim_model.scenario import Refused
@@ -45,6 +47,33 @@ def with_variant(words):
 
 
 VARIANTS = 'reno iw3', 'newreno iw3', 'reno iw10', 'newreno iw10'
+
+
+def test_what_a_code_means_is_what_the_page_says():
+    rows = [line for line in read_text('docs', 'FORMATS.md').splitlines() if line.startswith('|')]
+    for code, told in reasons.MEANINGS.items():
+        assert any(re.match(rf'\| `?(refused )?{code}`? \| {re.escape(told)}', row) for row in rows), code
+
+
+def test_what_is_meant_by_a_word():
+    """The number is what exact arithmetic makes of digits, fraction and unit, where that is whole and in range."""
+    pick = random.Random(1)
+    powers = {'nanoseconds': {'': 0, 'ns': 0, 'us': 3, 'ms': 6, 's': 9}, 'bits per second': {'': 0, 'bit': 0, 'kbit': 3, 'Mbps': 6, 'G': 9, 'tb/s': 12}}
+    found = set()
+    for _ in range(3000):
+        counted = pick.choice(list(powers))
+        unit = pick.choice(list(powers[counted]))
+        digits, fraction = (str(pick.randrange(10**pick.randint(1, 14))) for _ in range(2))
+        word = digits + pick.choice(('', '.' + fraction, '.' + '0' * pick.randint(0, 9) + fraction[:2]))
+        value = Fraction(word.rstrip('.')) * 10**powers[counted][unit]
+        right = int(value) if value.denominator == 1 and 1 <= value <= 10**12 and int(word.replace('.', '')) < 2**64 else None
+        assert advice.meant((word + unit).encode(), counted, 1, 10**12) == right, word + unit
+        found.add(right is None)
+    assert found == {False, True}
+    assert MISTAKEN_MEANT == [word for word in MISTAKEN_MEANT if advice.meant(word, 'nanoseconds', 0, 10**15) is None]
+
+
+MISTAKEN_MEANT = [b'', b's', b'.5s', b'1e6', b'1,000', b'-1', b'+1s', b'10 s', b'1h', b'1..0', b'1.0.0', b'1m', b'1S', b'0x10', b'9' * 5000]
 
 
 def positions(output):

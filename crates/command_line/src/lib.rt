@@ -2,7 +2,9 @@
 //! person is shown of an input that is refused.
 #![tactic(auto)]
 
+mod advice;
 pub mod notes;
+mod numbers;
 pub mod reasons;
 pub mod sharing;
 pub mod subcommand;

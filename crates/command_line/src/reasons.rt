@@ -1,5 +1,6 @@
 //! Why an input is refused, as a person is shown it.
 
+use crate::advice::push_advice;
 use explanations::{Names, image_parts, tell_counterexample, text_of};
 use scenario_asm::{FaultPlace, Part, fault_place, parts_of_text};
 use std::alloc::{AllocError, Global};
@@ -113,12 +114,16 @@ pub fn code_reason(alloc: Global, code: &str) -> Result<String, AllocError> {
     Ok(shown)
 }
 
-/// What is shown of a text that is refused by this code: the line, with carets under what is wrong, or, where no line is
-/// faulty, what shows the fault first, with a statement that would mend it; and what the code means.
+/// What is shown of a text that is refused by this code: the line, with carets under what is wrong and what to write
+/// instead, or, where no line is faulty, what shows the fault first, with a statement that would mend it; and what the
+/// code means.
 pub fn text_reason(alloc: Global, text: &[u8], code: &str) -> Result<String, AllocError> {
     let mut shown = String::new(alloc);
     match fault_place(alloc, text)? {
-        Some(place) => push_place(&mut shown, &place)?,
+        Some(place) => {
+            push_place(&mut shown, &place)?;
+            push_advice(&mut shown, text, &place)?;
+        }
         None => push_text_counterexample(alloc, &mut shown, text, code)?,
     }
     push_meaning(&mut shown, code)?;

@@ -13,6 +13,7 @@ from tcpsim.scenario.text import Scenario
 from tcpsim_model import queues as model_queues
 from tcpsim_model.figures import begun, csv_line, heading, rows
 from tcpsim_model.prompt import Prompt
+from tcpsim_model.reasons import reason
 from tcpsim_model.scenario import Refused as ModelRefused, Scenario as ModelScenario
 from tcpsim_model.simulate import trace
 from tcpsim_model.text import assemble
@@ -23,10 +24,11 @@ Maker = Callable[..., object]           # a class, or a function that gives a qu
 
 def assembled(text: str) -> ModelScenario:
     """The model's scenario of a text; Refused where it is refused."""
+    data = text.encode()
     try:
-        return assemble(text.encode())
+        return assemble(data)
     except ModelRefused as wrong:
-        raise Refused(wrong.code, wrong.line) from None
+        raise Refused(wrong.code, wrong.line, reason(data, wrong).rstrip()) from None
 
 
 class OwnQueueRun:

@@ -25,8 +25,7 @@ class Engine:
 
     def check(self, text: str) -> None:
         """Raises Refused where the scenario's text is refused."""
-        explained = [] if self.name == 'model' else ['--explain']
-        done = subprocess.run([self.path, 'asm', *explained], input=text.encode(), capture_output=True, check=False)
+        done = subprocess.run([self.path, 'asm', '--explain'], input=text.encode(), capture_output=True, check=False)
         if done.returncode:
             raise refusal(done.stderr.decode('utf-8', 'replace')) or as_raised(ProgramFailed(done.returncode, done.stderr))
 
@@ -69,8 +68,8 @@ def engine_of(name: str | None, text: str | None) -> Engine:
 
 
 def check_text(text: str) -> None:
-    """Raises Refused where a scenario's text is refused: by the program, or by the model in this process, which says less
-    with it, where the program is not there."""
+    """Raises Refused where a scenario's text is refused: by the program, or by the model in this process, where the program is not
+    there."""
     path = found()
     if is_program(path):
         Engine('program', path).check(text)

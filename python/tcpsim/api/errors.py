@@ -14,7 +14,7 @@ from tcpsim.program import NoProgram
 from tcpsim.scenario.text import Unreadable
 from tcpsim.whole_trace import ProgramFailed
 
-NOTE = re.compile(r'refused (\w+)(?: line (\d+))?\s*(.*)', re.S)
+NOTE = re.compile(r'refused (\w+)(?: line (\d+))?\s?(.*)', re.S)
 OPTION = re.compile(r'(?:\bargument )?(?<![\w-])--([a-z][\w-]*)(?:/--[a-z][\w-]*)*')      # of the tools, in a sentence
 IN_PYTHON = {'from': 'begin', 'to': 'end', 'flow': 'flows', 'link': 'links'}                # those with another name
 PACKAGES = {'pandas': 'python3-pandas', 'matplotlib': 'python3-matplotlib', 'IPython': 'python3-ipython'}
@@ -54,7 +54,7 @@ Error.__name__ = Error.__qualname__ = 'Error'
 def refusal(note: str) -> Refused | None:
     """The refusal that a note of the program's or the model's tells; None where it tells none."""
     found = NOTE.match(note)
-    return Refused(found[1], None if found[2] is None else int(found[2]), found[3].strip()) if found else None
+    return Refused(found[1], None if found[2] is None else int(found[2]), found[3].rstrip()) if found else None
 
 
 def as_raised(wrong: ProgramFailed) -> Error:

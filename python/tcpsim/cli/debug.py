@@ -17,7 +17,7 @@ from tcpsim.console.completion import Completion
 from tcpsim.console.screen import show, tell
 from tcpsim.console.session import Interrupted, Lost, Session, how_ended
 from tcpsim.console.times import Times
-from tcpsim.program import find_program, is_model
+from tcpsim.program import find_program
 from tcpsim.prompt import PROMPT, PromptEnded
 from tcpsim.whole_trace import scenario_bytes
 
@@ -31,16 +31,14 @@ def command_line() -> Words:
     words.add_argument('scenario', metavar='SCENARIO', help='a text or an image')
     words.add_argument('--workers', metavar='N', help='as of tcpsim debug: how many run its groups side by side')
     words.add_argument('--groups', metavar='G', help='as of tcpsim debug: which nodes are in which group')
-    words.add_argument('--explain', action='store_true', help='as of tcpsim debug, which the model has not; on a terminal it is given')
+    words.add_argument('--explain', action='store_true', help='as of tcpsim debug; on a terminal it is given')
     words.add_program('the program that is run')
     return words
 
 
-def options_of(given: argparse.Namespace, path: str, terminal: bool) -> list[str]:
+def options_of(given: argparse.Namespace, terminal: bool) -> list[str]:
     """The options that the program is given."""
-    if given.explain and is_model(path):
-        raise Wrong('--explain wants the program: build it with `make run`')
-    explained = ['--explain'] * (given.explain or terminal and not is_model(path))
+    explained = ['--explain'] * (given.explain or terminal)
     return explained + [word for name in ('workers', 'groups') if getattr(given, name) for word in (f'--{name}', getattr(given, name))]
 
 
@@ -89,7 +87,7 @@ def main() -> None:
         raise Wrong('standard input has the commands: name the file of the scenario')
     terminal = all(map(os.isatty, (0, 1)))
     path = find_program(given.program)
-    words = ['debug', *options_of(given, path, terminal)]
+    words = ['debug', *options_of(given, terminal)]
     if not terminal:
         become(path, [*words, given.scenario])
     source = scenario_bytes(given.scenario)

@@ -1,0 +1,167 @@
+//! What to write instead of a byte or a word of a text that is refused.
+
+use crate::numbers::{COUNTED, Counted, meant};
+use scenario_asm::{Fault, FaultPlace, Part};
+use std::alloc::AllocError;
+
+/// How captures of packets begin: pcap of either byte order, in microseconds and in nanoseconds, and pcapng.
+const CAPTURES: [[u8; 4]; 5] = [
+    *b"\xd4\xc3\xb2\xa1",
+    *b"\xa1\xb2\xc3\xd4",
+    *b"\x4d\x3c\xb2\xa1",
+    *b"\xa1\xb2\x3c\x4d",
+    *b"\x0a\x0d\x0d\x0a",
+];
+
+/// The longest name, in bytes.
+const LONGEST_NAME: usize = 15;
+
+/// A word of a statement that has to be one of some words.
+#[derive(Clone, Copy)]
+struct Chosen {
+    statement: &'static str,
+    /// Which word of the statement, counted from 0.
+    place: usize,
+    /// A sentence with these words.
+    sentence: &'static str,
+}
+
+const CHOSEN: [Chosen; 4] = [
+    Chosen {
+        statement: "node",
+        place: 2,
+        sentence: "the kind of a node is sender, receiver or router",
+    },
+    Chosen {
+        statement: "link",
+        place: 6,
+        sentence: "the kind of a queue is droptail or codel",
+    },
+    Chosen {
+        statement: "flow",
+        place: 9,
+        sentence: "the recovery of a flow is reno or newreno",
+    },
+    Chosen {
+        statement: "flow",
+        place: 10,
+        sentence: "the initial window of a flow is iw3 or iw10",
+    },
+];
+
+/// A word that is refused.
+#[derive(Clone, Copy)]
+struct Wrong<'a> {
+    /// The first word of its line.
+    statement: &'a [u8],
+    /// Which word it is, counted from 0.
+    place: usize,
+    word: &'a [u8],
+}
+
+/// The first word of a line.
+fn statement_of(line: &[u8]) -> &[u8] {
+    line.split(|byte| *byte == b' ')
+        .find(|word| !word.is_empty())
+        .unwrap_or(line)
+}
+
+/// The word of a line between these places.
+fn wrong_word<'a>(line: &'a [u8], place: usize, start: usize, end: usize) -> Wrong<'a> {
+    let last = end.min(line.len());
+    Wrong {
+        statement: statement_of(line),
+        place,
+        word: &line[start.min(last)..last],
+    }
+}
+
+/// What to write instead of this byte, which is not printable.
+fn byte_sentence(text: &[u8], byte: u8) -> Option<&'static str> {
+    if CAPTURES.iter().any(|begin| text.starts_with(begin)) {
+        Some("this is a capture of packets (pcap), and tcpsim reads scenarios")
+    } else if byte == b'\t' {
+        Some("words are parted by spaces: write a space for each tab")
+    } else if byte == b'\r' {
+        Some(
+            "lines end in a line feed alone, not CRLF: tr -d '\\r' takes the carriage returns away",
+        )
+    } else {
+        None
+    }
+}
+
+/// Adds what a name is, and the nearest name to a word that is none.
+fn push_name(shown: &mut String, word: &[u8]) -> Result<(), AllocError> {
+    shown.push_str("a name is a small letter and then up to 14 small letters or digits")?;
+    if !word.iter().any(|byte| byte.is_ascii_alphabetic()) {
+        return Ok(());
+    }
+    shown.push_str(": write ")?;
+    let mut kept = 0;
+    for byte in word {
+        let is_kept = byte.is_ascii_alphabetic() || kept > 0 && byte.is_ascii_digit();
+        if is_kept && kept < LONGEST_NAME {
+            shown.push(char::from(byte.to_ascii_lowercase()))?;
+            kept += 1;
+        }
+    }
+    Ok(())
+}
+
+/// Adds what a number is, and the number that a word means which is none, if it means one in range.
+fn push_number(shown: &mut String, row: &Counted, word: Option<&[u8]>) -> Result<(), AllocError> {
+    let (name, unit, more) = (row.name, row.unit.plural(), row.more);
+    let (least, greatest) = (row.least, row.greatest);
+    write!(
+        shown,
+        "{name} is a whole number of {unit}, {least} to {greatest}{more}"
+    )?;
+    match word.and_then(|word| meant(row, word)) {
+        Some(number) => write!(shown, ": write {number}"),
+        None => Ok(()),
+    }
+}
+
+/// Adds what a word of this place is, of another form or out of its range.
+fn push_word(shown: &mut String, wrong: &Wrong, fault: Fault) -> Result<(), AllocError> {
+    for row in &COUNTED {
+        if row.statement.as_bytes() == wrong.statement && row.place == wrong.place {
+            let word = (fault == Fault::E4).then_some(wrong.word);
+            return push_number(shown, row, word);
+        }
+    }
+    for row in &CHOSEN {
+        if row.statement.as_bytes() == wrong.statement && row.place == wrong.place {
+            return shown.push_str(row.sentence);
+        }
+    }
+    push_name(shown, wrong.word)
+}
+
+/// Adds a line that says what to write instead of what is wrong with a text's line, where that can be said of it alone.
+pub(crate) fn push_advice(
+    shown: &mut String,
+    text: &[u8],
+    place: &FaultPlace,
+) -> Result<(), AllocError> {
+    match (place.fault, place.part) {
+        (Fault::E1, Part::Byte(at)) => {
+            let byte = place.bytes.get(at).copied().unwrap_or(0);
+            let Some(sentence) = byte_sentence(text, byte) else {
+                return Ok(());
+            };
+            shown.push_str(sentence)?;
+        }
+        (Fault::E2, _) => shown.push_str("a statement is sim, node, link, flow, route or lose")?,
+        (Fault::E4 | Fault::E5, Part::Word { number, start, end }) => {
+            push_word(
+                shown,
+                &wrong_word(place.bytes, number, start, end),
+                place.fault,
+            )?
+        }
+        _ => return Ok(()),
+    }
+    shown.push('\n')
+}
