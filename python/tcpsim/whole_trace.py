@@ -26,6 +26,8 @@ BLOCK = 1 << 18                 # bytes of a trace that are read at once
 LONGEST_LINE = 1 << 27          # characters
 LONGEST_SCENARIO = 1 << 26      # bytes
 IMAGE_BEGINS = b'TCB'
+# How captures begin: pcap of either byte order, in microseconds and in nanoseconds, and pcapng.
+CAPTURES = b'\xd4\xc3\xb2\xa1', b'\xa1\xb2\xc3\xd4', b'\x4d\x3c\xb2\xa1', b'\xa1\xb2\x3c\x4d', b'\x0a\x0d\x0d\x0a'
 PATIENCE = 10                   # seconds in which a program ends that has closed its output
 S = 10**9
 PROGRAMS = []                   # those that run
@@ -108,6 +110,8 @@ def scenario_bytes(path: str) -> bytes:
     else:
         with open(path, 'rb') as file:
             source = file.read(LONGEST_SCENARIO + 1)
+    if source.startswith(CAPTURES):
+        raise Unreadable(f'{path} is a capture of packets (pcap), and no scenario')
     if len(source) > LONGEST_SCENARIO:
         raise Unreadable(f'{path} is no scenario: it is longer than {LONGEST_SCENARIO:,} bytes')
     return source

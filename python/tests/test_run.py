@@ -112,10 +112,41 @@ def test_refusals_are_those_of_who_runs(bare, tmp_path):
     for file, status, note in ((str(wrong), 1, b'refused E4 line 1\n'), ('not-there', 3, b'cannot read not-there\n')):
         done = bare('tcpsim-run', file)
         assert (done.returncode, done.stdout, done.stderr) == (status, b'', BY_MODEL + note)
-    for words in (('a', 'b'), ('--explain', str(wrong)), ('--program', 'not-there', str(wrong)), ('--speed',)):
+    for words in (('a', 'b'), ('--progress', str(wrong)), ('--program', 'not-there', str(wrong)), ('--speed',)):
         done = bare('tcpsim-run', *words)
         assert done.returncode in (1, 2) and done.stdout == b''
         assert done.stderr.removeprefix(BY_MODEL).count(b'\n') == 1, done.stderr
+
+
+def test_the_model_explains(bare, tmp_path):
+    wrong = tmp_path / 'wrong.txt'
+    wrong.write_text('sim 10s\n')
+    shown = (b'refused E4 line 1', b'sim 10s', b'    ^^^', b'END is a whole number of nanoseconds, 1 to 1000000000000000: write 10000000000')
+    for words in (('tcpsim-run',), ('tcpsim-debug',), ('tcpsim-model', 'run'), ('tcpsim-model', 'dis')):
+        done = bare(words[0], *words[1:], '--explain', str(wrong))
+        assert (done.returncode, done.stdout) == (1, b'')
+        assert done.stderr.removeprefix(BY_MODEL).splitlines()[:-1] == list(shown), words
+
+
+def test_a_word_that_is_no_command(bare, tmp_path, monkeypatch):
+    there = b'commands are run, figures, debug, asm, dis, and at the prompt of debug more'
+    for words, told in ((('rnu',), b'rnu is no command and no file: the nearest command is run'),
+                        (('figure', 'x.txt'), b'figure is no command and no file: the nearest command is figures'),
+                        (('why',), b'why is no command and no file: ' + there), (('stalls', 'f0'), b'stalls is no command and no file: ' + there),
+                        (('help',), b'help is no command and no file: ' + there)):
+        done = bare('tcpsim-run', *words)
+        assert (done.returncode, done.stdout, done.stderr) == (2, b'', b'tcpsim-run: ' + told + b'\n')
+    (tmp_path / 'rnu').write_bytes(read(ONE_SEGMENT))
+    monkeypatch.chdir(tmp_path)
+    assert bare('tcpsim-run', 'rnu').stdout == read(ONE_SEGMENT[:-3] + 'trace')
+
+
+def test_a_capture_of_packets_is_called_one(bare, tmp_path):
+    capture = tmp_path / 'trace.pcap'
+    capture.write_bytes(b'\xd4\xc3\xb2\xa1\2\0\4\0')
+    for name in ('tcpsim-flows', 'tcpsim-stalls', 'tcpsim-sweep'):
+        done = bare(name, str(capture), *(('--set', 'end=1s') if name == 'tcpsim-sweep' else ()))
+        assert (done.returncode, done.stdout) == (1, b'') and b'is a capture of packets (pcap), and no scenario' in done.stderr, done
 
 
 def test_help_and_version_end_well(bare):

@@ -6,6 +6,7 @@ from __future__ import annotations
 
 import argparse
 import contextlib
+import difflib
 import os
 import tempfile
 
@@ -16,9 +17,9 @@ from tcpsim.whole_trace import scenario_bytes, scenario_text
 
 COMMANDS = ('run', 'figures', 'debug', 'asm', 'dis')
 LASTING = ('run', 'figures')            # go to the run's end
-OWN = ('--progress', '--explain')       # options that the program alone has
+OWN = ('--progress',)                   # options that the program alone has
 VALUES = ('workers', 'groups', 'from', 'every')     # options of the program and of the model, and their flags
-FLAGS = ('series', 'names')
+FLAGS = ('series', 'names', 'explain')
 
 
 def command_line() -> Words:
@@ -35,16 +36,29 @@ def command_line() -> Words:
     words.add_argument('--every', metavar='D', help='of figures: print rows by time behind the table, in steps as 1.5s or 20ms')
     words.add_argument('--series', action='store_true', help='of figures: print these rows without the table')
     words.add_argument('--names', action='store_true', help='of figures: print the names of flows and links in a last column')
+    words.add_argument('--explain', action='store_true', help='show on standard error why an input is refused')
     for name in OWN:
         words.add_argument(name, action='store_true', help='as of tcpsim, which the model has not')
     words.add_program('the program that is run')
     return words
 
 
+def check_word(words: list[str]) -> None:
+    """Raises where the first word is a mistaken command rather than a file."""
+    if words and words[0].isalpha() and not os.path.exists(words[0]):
+        near = difflib.get_close_matches(words[0], COMMANDS, 1)
+        there = f'the nearest command is {near[0]}' if near else f'commands are {", ".join(COMMANDS)}, and at the prompt of debug more'
+        raise Wrong(f'{words[0]} is no command and no file: {there}')
+
+
 def call_of(given: argparse.Namespace) -> tuple[str, str | None]:
     """The command and the scenario's file, None where it is standard input's."""
     words = list(given.words)
-    command = words.pop(0) if words and words[0] in COMMANDS else 'run'
+    if words and words[0] in COMMANDS:
+        command = words.pop(0)
+    else:
+        command = 'run'
+        check_word(words)
     if len(words) > 1:
         raise Wrong(f'one scenario is run at a time, and not {words[1]} too')
     return command, words[0] if words and words[0] != '-' else None
