@@ -47,7 +47,8 @@ def opening(rows: Sequence[tuple]) -> list[list[str]]:
             if group:
                 lines.append([*of_link, title, *of_flows(group, of_run['span'])])
                 of_link = [name or '-', *[''] * (len(of_link) - 1)]
-    return lines
+    share = TITLES.index('share %')         # which a table of the program has not
+    return lines if any(line[share] != '-' for line in lines[1:]) else [line[:share] + line[share + 1:] for line in lines]
 
 
 def of_flows(flows: Sequence[Figures], span: int) -> list[str]:

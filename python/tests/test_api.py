@@ -396,7 +396,15 @@ def test_a_run_with_an_own_queue_can_be_pickled():
 def test_tables_are_shown():
     figures = tcpsim.run(example('one_segment'), engine='model').figures
     assert repr(figures).splitlines()[-1] == '5 events, span 0.003080 s'
-    assert figures._repr_html_().count('<tr>') == 5
+    assert figures._repr_html_().count('<tr>') == 7
+    assert repr(figures).splitlines()[1].split() == 'a 33.8 0.000 0.000 0.00 1 2.597 0 -'.split()
+
+
+def test_tables_fold_mice_and_links_that_carried_little():
+    figures = tcpsim.run(tcpsim.dumbbell(flows=2, rate='2M', rtt='40ms', spread=1, mice=5, end='3s'), engine='model').figures
+    lines = [line.split() for line in repr(figures).splitlines()]
+    assert [words[0] for words in lines] == ['bottleneck', 'pq', 'pq', 'flow', 'f0', 'f1', 'link', 'pq', f'{figures.events:,}', *(words.split()[0] for words in figures.too_short)]
+    assert '5 mice' in repr(figures) and len(figures.flows) == 7 and len(repr(figures.links).splitlines()) == len(figures.links) + 1
 
 
 def test_pictures_and_pages(tmp_path):

@@ -1,6 +1,7 @@
 """A trace as records: each event of a run with the scenario's names, read as the trace is written."""
 from __future__ import annotations
 
+import itertools
 import os
 from collections.abc import Callable, Iterable, Iterator
 from typing import TYPE_CHECKING, NamedTuple
@@ -188,8 +189,7 @@ class Trace(Iterable[Event]):
     def __repr__(self) -> str:
         first = []
         try:
-            with as_api(), self._opened() as blocks:
-                first = next(blocks, [])[:3]
+            first = list(itertools.islice(self.lines(), 3))     # a block can have fewer, as they are written
         except Exception as wrong:      # of a class of Python's whatever it raises: a repr shows what there is
             first = [f'<{type(wrong).__name__}: {wrong}>']
         return '\n'.join([*first, '..'])

@@ -15,8 +15,10 @@ from tcpsim.api.errors import wanted
 from tcpsim.engine import BUSY, WAITED, EngineRun
 from tcpsim.fairness import compared, jain
 from tcpsim.fairness import in_words as of_flows
+from tcpsim.figures import engine_figures
 from tcpsim.output import aligned
 from tcpsim.settled import too_short
+from tcpsim.summary import carried_little, opening
 
 if TYPE_CHECKING:
     from pandas import DataFrame
@@ -149,7 +151,8 @@ def html_table(rows: list[list[str]]) -> str:
 
 
 class Results:
-    """The figures of a run: `flows` and `links` by name, and those of the run.
+    """The figures of a run: `flows` and `links` by name, and those of the run. Its text, and what a notebook shows, begins with the
+    bottlenecks, and leaves out mice, which have their line there, and links that carried little.
 
     The span is from the first flow's start to the last event where every flow is complete, else to the scenario's end.
     """
@@ -197,12 +200,18 @@ class Results:
         fair = '' if self.jain is None else f', Jain\'s index {self.jain:.4f}, {of_flows(self._counts)}'
         return [f'{self.events:,} events, span {self.span_ns / 1e9:.6f} s{fair}', *self.too_short]
 
+    def _tables(self) -> list[list[list[str]]]:
+        """What is shown: the bottlenecks, the flows without mice, and the links that carried more than little."""
+        rows = engine_figures(self._run)
+        little, mice = carried_little(rows), self.mice if len(self.mice) > 1 else ()
+        return [opening(rows), self.flows.shown(lambda flow: flow.name not in mice),
+                self.links.shown(lambda link: is_used(link) and link.name not in little)]
+
     def __repr__(self) -> str:
-        links = self.links.shown(is_used)
-        return '\n'.join([repr(self.flows), *aligned(links), *self._last_lines()])
+        return '\n'.join([*(line for rows in self._tables() for line in aligned(rows)), *self._last_lines()])
 
     def _repr_html_(self) -> str:
-        return f'{self.flows._repr_html_()}{html_table(self.links.shown(is_used))}<p>{html.escape(" ".join(self._last_lines()))}</p>'
+        return f'{"".join(map(html_table, self._tables()))}<p>{html.escape(" ".join(self._last_lines()))}</p>'
 
 
 class Stalls(list):
