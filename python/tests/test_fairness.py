@@ -134,13 +134,23 @@ def test_sweeps_compare_the_four(mice):
     for words in ((), ('--exact',)):
         row, = csv.DictReader(io.StringIO(tool('sweep', path, '--set', 'pq.queue=droptail:BDP', '--csv', '--program', PROGRAM, *words)
                                           .stdout.decode()))
-        assert (row['jain'], row['timeouts']) == (f'{wanted:.6f}', str(of_the_four))
+        assert (row['jain'], row['jain_flows'], row['timeouts']) == (f'{wanted:.6f}', '4', str(of_the_four))
         row, = csv.DictReader(io.StringIO(tool('sweep', path, '--set', 'pq.queue=droptail:BDP', '--csv', '--program', PROGRAM, *words, '--show',
                                                'run.jain,run.jain_flows,run.timeouts,run.mice_timeouts,f0+f1+f2+f3.jain,*.jain')
                                           .stdout.decode()))
         assert (row['run.jain'], row['f0+f1+f2+f3.jain'], row['run.jain_flows']) == (f'{wanted:.6f}', f'{wanted:.6f}', '4')
         assert (row['run.timeouts'], row['run.mice_timeouts']) == (str(of_the_four), str(of_all - of_the_four))
         assert float(row['*.jain']) < .5
+
+
+def test_a_sweep_says_how_many_flows_it_compares(mice):
+    """In the table's first line, where not all rows compare as many from the least on."""
+    for words, said in (((), 'figures of link pq, Jain\'s index of 4 of 14 flows'),
+                        (('--over', 'f1.start=0,5ms'), 'figures of link pq, Jain\'s index of 4 of 14 flows, means over f1.start=0..5ms, ± 95 %'),
+                        (('--set', 'f0.segments=9,1000000'), 'figures of link pq, Jain\'s index of 3 to 4 of 14 flows'),
+                        (('--show', 'run.jain'), None)):
+        lines = tool('sweep', mice[1], '--set', 'pq.queue=droptail:5,9', '--program', PROGRAM, *words).stdout.decode().splitlines()
+        assert lines[0] == said if said else 'flows' not in lines[0]
 
 
 def test_a_sum_of_an_index_is_no_sum(mice):

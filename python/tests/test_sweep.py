@@ -45,7 +45,7 @@ flow f s r 1000 8 0 64000 0
 '''
 ROW = {'a.queue': 'droptail:2', 'a.queue_packets': '2', 'status': 'done', 'link': 'a', 'goodput_bit_s': f'{7000 * 8 / .012:.6f}',
        'utilization': f'{7 * 1.04 / 12:.6f}', 'wait_median_ns': str(2**20 - 1), 'wait_p99_ns': '2080000',
-       'loss_percent': f'{200 / 9:.6f}', 'timeouts': '0', 'jain': '1.000000', 'from_ns': '0',
+       'loss_percent': f'{200 / 9:.6f}', 'timeouts': '0', 'jain': '1.000000', 'jain_flows': '1', 'from_ns': '0',
        'scenario_sha256': hashlib.sha256(BY_HAND.replace('droptail 7 ', 'droptail 2').encode()).hexdigest()[:16],
        'options': '--link a', 'program_sha256': clone.digest(PROGRAM)}
 

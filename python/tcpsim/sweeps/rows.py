@@ -24,7 +24,7 @@ from tcpsim.sweeps.pattern import Pattern, Setting
 from tcpsim.whole_trace import BLOCK, ProgramFailed, Rest, Running, blocks, running
 
 # The figures of a row where none are named. The first four are of one link, or of the whole run.
-FIGURES = ('goodput_bit_s', 'utilization', 'wait_median_ns', 'wait_p99_ns', 'loss_percent', 'timeouts', 'jain')
+FIGURES = ('goodput_bit_s', 'utilization', 'wait_median_ns', 'wait_p99_ns', 'loss_percent', 'timeouts', 'jain', 'jain_flows')
 OF_THE_LINK = FIGURES[1:4]
 # What each row ends with: the question that it answers, and how a row of another one is told from it.
 QUESTION = {'from_ns': 'from another moment on', 'scenario_sha256': 'of another scenario', 'options': 'by other options',
@@ -174,7 +174,7 @@ def values_of(run: Figures | EngineRun, asked: AskedOfRun) -> dict[str, object]:
         return (of.trace if traced else of.table)(run, number)
     used = used_of(run, at)
     values = (figure(RUN['goodput']), used, figure(LINK['wait50'], at), figure(LINK['wait99'], at),
-              figure(RUN['loss']) if traced else table_loss(run, 0), figure(RUN['timeouts']), figure(RUN['jain']))
+              figure(RUN['loss']) if traced else table_loss(run, 0), figure(RUN['timeouts']), figure(RUN['jain']), figure(RUN['jain_flows']))
     return {'link': run.scenario.links[at].name, **dict(zip(FIGURES, values))}
 
 

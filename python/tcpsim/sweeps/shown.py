@@ -1,7 +1,7 @@
 """The rows of a sweep, and their means, as tables for people."""
 from __future__ import annotations
 
-from collections.abc import Sequence
+from collections.abc import Iterable, Sequence
 
 from tcpsim.fairness import can_fill
 from tcpsim.output import aligned
@@ -36,9 +36,12 @@ def fixed_and_varied(grid: Grid, settings: Sequence[Setting], count: int) -> tup
     return ([f'{each.key}={each.label(each.values[0])}' for each in fixed], [each.key for each in settings if each not in fixed])
 
 
-def heads(grid: Grid, links: set[str]) -> list[str]:
-    """What else stands above a table: of which link figures are, and from which moment on."""
-    return [f'figures of link {next(iter(links))}'] if grid.link() and len(links) == 1 else []
+def heads(grid: Grid, links: set[str], compared: Iterable[object]) -> list[str]:
+    """What else stands above a table: of which link figures are, and of how many flows Jain's index is."""
+    counts = sorted({float(count) for count in compared if count not in ('', None)})
+    return ([f'figures of link {next(iter(links))}'] if grid.link() and len(links) == 1 else []) + (
+        [f'Jain\'s index of {" to ".join(f"{count:g}" for count in dict.fromkeys((counts[0], counts[-1])))} of '
+         f'{len(grid.pattern.named("flow"))} flows'] if counts and len(grid.pattern.named('flow')) > 1 else [])
 
 
 def table(grid: Grid, rows: list) -> list[str]:
@@ -52,7 +55,7 @@ def table(grid: Grid, rows: list) -> list[str]:
     refused = [' '.join(f'{key}={row[key]}' for key in keys) + f': {row["status"]}' for row in rows if row['status'] != 'done']
     if not keys:
         titles, lines = ['run', *titles], [['1', *words] for words in lines]
-    head = fixed + heads(grid, links)
+    head = fixed + heads(grid, links, [row.get('jain_flows') for row in rows])
     return [', '.join(head)] * bool(head) + aligned([titles, *lines]) + refused + too_short(grid)
 
 
@@ -95,7 +98,8 @@ def mean_table(grid: Grid, means: Sequence[Averaged], pairs: Sequence[Averaged] 
         titles, lines = ['', *titles], [['mean', *words] for words in lines]
     said = [' '.join(f'{key}={each.values[key]}' for key in keys) + f': {each.status}' for each in every if each.status != 'done']
     links = {each.link for each in means if each.link}
-    head = [*fixed, *heads(grid, links), *([f'means over {over}, ± 95 %'] if over else [])]
+    compared = [each.means['jain_flows'].mean for each in means if 'jain_flows' in each.means]
+    head = [*fixed, *heads(grid, links, compared), *([f'means over {over}, ± 95 %'] if over else [])]
     return [', '.join(head)] * bool(head) + aligned([titles, *lines]) + said + (too_short(grid) if means else [])
 
 
