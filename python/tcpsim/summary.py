@@ -45,15 +45,16 @@ def opening(rows: Sequence[tuple]) -> list[list[str]]:
         others = [flow for flow in at[name] if flow not in mice]
         for group, title in ((others, f'{len(others)}'), (mice, f'{len(mice)} mice')):
             if group:
-                lines.append([*of_link, title, *of_flows(group, of_run['span'])])
+                lines.append([*of_link, title, *of_flows(group, at[name], of_run['span'])])
                 of_link = [name or '-', *[''] * (len(of_link) - 1)]
-    share = TITLES.index('share %')         # which a table of the program has not
-    return lines if any(line[share] != '-' for line in lines[1:]) else [line[:share] + line[share + 1:] for line in lines]
+    return lines
 
 
-def of_flows(flows: Sequence[Figures], span: int) -> list[str]:
-    """What these flows get together: goodput, the least and the greatest share, timeouts, and Jain's index."""
-    shares = sorted(100 * flow['share of the bottleneck'] for flow in flows if 'share of the bottleneck' in flow)
+def of_flows(flows: Sequence[Figures], beside: Sequence[Figures], span: int) -> list[str]:
+    """What these flows get together: goodput, the least and the greatest part of what all flows of the bottleneck get, timeouts,
+    and Jain's index."""
+    every = sum(flow['delivered'] for flow in beside)
+    shares = sorted(100 * flow['delivered'] / every for flow in flows) if every else ()
     compared = [flow['goodput'] for flow in flows if flow['compared'] == 'yes']
     return [shown(sum(flow['delivered'] for flow in flows) * BITS_NS / span, '{:.3f}', 1e6),
             ' to '.join(f'{share:.1f}' for share in dict.fromkeys((shares[0], shares[-1]))) if shares else '-',

@@ -397,7 +397,7 @@ def test_tables_are_shown():
     figures = tcpsim.run(example('one_segment'), engine='model').figures
     assert repr(figures).splitlines()[-1] == '5 events, span 0.003080 s'
     assert figures._repr_html_().count('<tr>') == 7
-    assert repr(figures).splitlines()[1].split() == 'a 33.8 0.000 0.000 0.00 1 2.597 0 -'.split()
+    assert repr(figures).splitlines()[1].split() == 'a 33.8 0.000 0.000 0.00 1 2.597 100.0 0 -'.split()
 
 
 def test_tables_fold_mice_and_links_that_carried_little():

@@ -141,7 +141,7 @@ class TestCommand(Files):
         """17 segments, 5 lost; 12 * 1.04 ms of 3.01752 s; the queue summed is 10.4 packet-ms, the median of twelve waits
         1.04 ms, whose class ends at 2^20 - 1 ns."""
         lines = self.lines(self.scenario, '--engine')
-        assert lines[1].split() == 'a 0.4 1.049 3.120 29.41 1 0.027 2 -'.split()
+        assert lines[1].split() == 'a 0.4 1.049 3.120 29.41 1 0.027 100.0 2 -'.split()
         del lines[:3]
         assert lines[0].split() == ('flow bytes Mbit/s bottleneck sent timeouts sent again: fast after timeouts '
                                     'timed RTT ms: least median 95th 99th took s completed s'.split())

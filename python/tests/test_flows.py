@@ -177,10 +177,11 @@ class TestChosenFlows(Files):
             elif what == 'run':
                 of_run[figure] = value
         titles, four, mice = self.every[0].splitlines()
+        every = sum(int(values['delivered']) for values in flows.values())
         assert titles.split() == 'bottleneck used % wait ms: median 99th loss % flows goodput Mbit/s share % timeouts Jain'.split()
         for line, number, names in ((four, 4, list(flows)[:4]), (mice, 10, list(flows)[4:])):
             delivered = sum(int(flows[name]['delivered']) for name in names)
-            shares = [100 * float(flows[name]['share of the bottleneck']) for name in names]
+            shares = [100 * int(flows[name]['delivered']) / every for name in names]
             assert f' {8e3 * delivered / int(of_run["span"]):.3f} ' in line
             assert f' {min(shares):.1f} to {max(shares):.1f} ' in line
             assert line.split()[-2:] == [str(sum(int(flows[name]['timeouts']) for name in names)),
