@@ -9,7 +9,7 @@ from collections.abc import Iterable, Mapping, Sequence
 from tcpsim.fairness import jain
 from tcpsim.scenario.units import BITS_NS
 
-TITLES = ('bottleneck', 'used %', 'wait ms: median', '99th', 'loss %', 'flows', 'goodput Mbit/s', 'share %', 'timeouts', 'Jain')
+TITLES = ('bottleneck', 'used %', 'wait ms: median', '99th', 'loss %', 'flows', 'goodput Mbit/s', 'each %', 'timeouts', 'Jain')
 LITTLE = .1             # of what the busiest link is used: whose part is less, and which dropped nothing, carried little
 FEW = 4                 # so many links that carried little are shown
 

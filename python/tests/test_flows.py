@@ -178,7 +178,7 @@ class TestChosenFlows(Files):
                 of_run[figure] = value
         titles, four, mice = self.every[0].splitlines()
         every = sum(int(values['delivered']) for values in flows.values())
-        assert titles.split() == 'bottleneck used % wait ms: median 99th loss % flows goodput Mbit/s share % timeouts Jain'.split()
+        assert titles.split() == 'bottleneck used % wait ms: median 99th loss % flows goodput Mbit/s each % timeouts Jain'.split()
         for line, number, names in ((four, 4, list(flows)[:4]), (mice, 10, list(flows)[4:])):
             delivered = sum(int(flows[name]['delivered']) for name in names)
             shares = [100 * int(flows[name]['delivered']) / every for name in names]
