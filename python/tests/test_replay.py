@@ -16,7 +16,6 @@ import re
 import shutil
 import sys
 import tempfile
-import time
 
 import pytest
 
@@ -312,6 +311,7 @@ class TestPages(Files):
             packed = text.partition('id="trace">')[2].partition('</script>')[0]
             events = int(done.stdout.split(': ')[1].split()[0].replace(',', ''))
             assert len(packed) <= 40 * events, name
+            assert done.stdout.endswith(f', {os.path.getsize(out):,} bytes\n') and os.path.getsize(out) > len(text)
 
     @pytest.mark.built
     def test_program_is_run_without_a_trace(self):
@@ -701,6 +701,18 @@ class TestInBrowser(WithBrowser):
             assert times[0] <= times[2]
             self.browser.press('Home')
 
+    def step_the_clock(self):
+        """From here on frames come as `pass_time` has it, however busy the browser is."""
+        self.browser.value('''window.frames_due = [];
+            window.requestAnimationFrame = frame => frames_due.push(frame);
+            window.passed = 0;
+            window.passTime = ms => {
+                for (const end = passed + ms; passed <= end; passed += 50) frames_due.splice(0).forEach(frame => frame(passed)); };''')
+
+    def pass_time(self, ms):
+        """As many milliseconds pass, a frame each 50."""
+        self.browser.value(f'passTime({ms})')
+
     def test_speed(self):
         """A thousandth to ten times real time, or events a second; what is shown keeps the pace."""
         self.browser.open(self.made('two_flows_share_fairly'))
@@ -712,24 +724,25 @@ class TestInBrowser(WithBrowser):
                                   ('events', 0, '1 a second'), ('events', 400, '10000 a second')):
             self.browser.value(f'set("{unit}", {value})')
             assert self.browser.value(said) == says
+        self.step_the_clock()
         for unit, value, measure, pace in (('time', 100, 'page.time', 10**7), ('events', 150, 'page.record.at', 31.6)):
             self.browser.value(f'set("{unit}", {value})')
-            at, asked = self.browser.value(measure), time.monotonic()
+            at = self.browser.value(measure)
             self.browser.press(' ')
-            time.sleep(1.5)
+            self.pass_time(1500)
             self.browser.press(' ')
-            passed, moved = time.monotonic() - asked, self.browser.value(measure) - at
-            assert moved < 1.1 * pace * passed
-            assert moved > 0.3 * pace * passed
+            self.pass_time(0)
+            assert self.browser.value(measure) - at == pytest.approx(1.5 * pace, rel=0, abs=1)
 
     def test_space_plays_and_pauses(self):
         self.browser.open(self.made('slow_start_into_a_full_queue'))
+        self.step_the_clock()
         self.browser.press(' ')
-        time.sleep(.6)
+        self.pass_time(600)
         self.browser.press(' ')
         shown = int(self.browser.shown()['event'])
         assert shown > 0
-        time.sleep(.2)
+        self.pass_time(200)
         assert int(self.browser.shown()['event']) == shown
 
 

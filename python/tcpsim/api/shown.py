@@ -88,4 +88,4 @@ class ReplayPage(Shown):
                 'text/plain': repr(self)}
 
     def __repr__(self) -> str:
-        return f'<a page of {self.events:,} events, {len(self.text):,} bytes{f": {self.path}" if self.path else ""}>'
+        return f'<a page of {self.events:,} events, {len(self.text.encode()):,} bytes{f": {self.path}" if self.path else ""}>'

@@ -32,7 +32,7 @@ def make(given: argparse.Namespace, file: Output) -> str:
         said.append(f'{len(part.lines):,} events from event {part.first + 1:,} on')
     whole = page_of_two(pages, given.slide) if given.beside else pages[0][1]
     file.write(whole)
-    return f'{", and ".join(said)}, {len(whole):,} bytes'
+    return f'{", and ".join(said)}, {len(whole.encode("utf-8", "surrogateescape")):,} bytes'
 
 
 def title_of(path: str) -> str:
