@@ -1,8 +1,11 @@
 """What pytest does for the tests of python/tests and dev/: options, marks, fixtures, and that with CI=true nothing is left out.
 What else they share is in dev/clone.py."""
 import functools
+import glob
+import importlib.util
 import os
 import shutil
+import sys
 
 import pytest
 
@@ -20,6 +23,14 @@ def pytest_configure(config):
     clone.STEPS = config.option.steps
     if config.option.program:
         clone.PROGRAM = os.path.abspath(config.option.program)
+
+
+def pytest_sessionstart():
+    """Has matplotlib find the machine's fonts before the first test: a tool for which that takes long says so on standard error."""
+    caches = os.environ.get('XDG_CACHE_HOME') or os.path.expanduser('~/.cache')
+    folder = os.environ.get('MPLCONFIGDIR') or os.path.join(caches, 'matplotlib')
+    if importlib.util.find_spec('matplotlib') and not glob.glob(os.path.join(folder, 'fontlist-*.json')):
+        clone.ran(sys.executable, '-c', 'import matplotlib.font_manager')
 
 
 def pytest_runtest_setup(item):

@@ -128,6 +128,13 @@ class TestPicturesOfTheDocuments:
         assert plot.drawn(figure) != before
 
 
+def test_fonts_are_found_before_the_first_test(tmp_path):
+    done = subprocess.run([sys.executable, '-m', 'pytest', '-p', 'no:cacheprovider', '--collect-only', os.path.join(TOP, 'python/tests/test_net.py')],
+                          capture_output=True, cwd=TOP, check=False, env={**os.environ, 'MPLCONFIGDIR': str(tmp_path)})
+    assert done.returncode == 0, done.stdout
+    assert [file.suffix for file in tmp_path.glob('fontlist-*')] == ['.json']
+
+
 class TestWhatIsShown(Drawn):
     def test_axes_fit_what_is_shown(self):
         panels = self.panels(*self.hand, '--from', '8.5ms', '--to', '12ms')
