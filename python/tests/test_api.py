@@ -403,7 +403,9 @@ def test_tables_are_shown():
 def test_tables_fold_mice_and_links_that_carried_little():
     figures = tcpsim.run(tcpsim.dumbbell(flows=2, rate='2M', rtt='40ms', spread=1, mice=5, end='3s'), engine='model').figures
     lines = [line.split() for line in repr(figures).splitlines()]
-    assert [words[0] for words in lines] == ['bottleneck', 'pq', 'pq', 'flow', 'f0', 'f1', 'link', 'pq', f'{figures.events:,}', *(words.split()[0] for words in figures.too_short)]
+    assert [words[0] for words in lines] == ['bottleneck', 'pq', 'pq', 'flow', 'f0', 'f1', 'link', 'pq', str(len(figures.links) - 1),
+                                           f'{figures.events:,}', *(words.split()[0] for words in figures.too_short)]
+    assert figures._repr_html_().count('<p>') == 2 + len(figures.too_short)
     assert '5 mice' in repr(figures) and len(figures.flows) == 7 and len(repr(figures.links).splitlines()) == len(figures.links) + 1
 
 

@@ -198,12 +198,19 @@ class Results:
 
     def _last_lines(self) -> list[str]:
         fair = '' if self.jain is None else f', Jain\'s index {self.jain:.4f}, {of_flows(self._counts)}'
-        return [f'{self.events:,} events, span {self.span_ns / 1e9:.6f} s{fair}', *self.too_short]
+        left = [f'{len(self._carried_little)} links carried less than a tenth of the busiest, and dropped nothing: `links` has them'
+                ] if self._carried_little else []
+        return [*left, f'{self.events:,} events, span {self.span_ns / 1e9:.6f} s{fair}', *self.too_short]
+
+    @functools.cached_property
+    def _carried_little(self) -> list[str]:
+        """The links that are left out of what is shown."""
+        return carried_little(engine_figures(self._run))
 
     def _tables(self) -> list[list[list[str]]]:
         """What is shown: the bottlenecks, the flows without mice, and the links that carried more than little."""
-        rows = engine_figures(self._run)
-        little, mice = carried_little(rows), self.mice if len(self.mice) > 1 else ()
+        rows, little = engine_figures(self._run), self._carried_little
+        mice = self.mice if len(self.mice) > 1 else ()
         return [opening(rows), self.flows.shown(lambda flow: flow.name not in mice),
                 self.links.shown(lambda link: is_used(link) and link.name not in little)]
 
@@ -211,7 +218,7 @@ class Results:
         return '\n'.join([*(line for rows in self._tables() for line in aligned(rows)), *self._last_lines()])
 
     def _repr_html_(self) -> str:
-        return f'{"".join(map(html_table, self._tables()))}<p>{html.escape(" ".join(self._last_lines()))}</p>'
+        return f'{"".join(map(html_table, self._tables()))}{"".join(f"<p>{html.escape(line)}</p>" for line in self._last_lines())}'
 
 
 class Stalls(list):
