@@ -302,7 +302,7 @@ def test_resume_runs_what_is_missing(hand, put, tmp_path):
     lines = text.splitlines(True)
     cut = lines[4].split(',')
     for rest, count in ((lines[:4] + lines[7:9], 5), (lines[:3] + [lines[3][:20]], 8), (lines[:1], 10), (lines, 0),
-                        (lines[:4] + [','.join([*cut[:4], 'the program was ended by signal 9', *[''] * 8, *cut[-4:]])] + lines[5:], 1)):
+                        (lines[:4] + [','.join([*cut[:4], 'the program was ended by signal 9', *[''] * (len(cut) - 9), *cut[-4:]])] + lines[5:], 1)):
         file.write_text(''.join(rest))
         done = tool(hand, *STARTS, '--csv', '--resume', str(file), program=program)
         assert (done.returncode, done.stdout) == (0, whole.stdout), done.stderr
