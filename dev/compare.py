@@ -43,7 +43,7 @@ import threading
 import time
 
 from clone import TOP
-from tcpsim_model import command_line, debugger, figures, grammar, image, nets, prompt, sessions, simulate, spelling
+from tcpsim_model import command_line, debugger, figures, grammar, image, nets, prompt, sessions, simulate, spelling, unread
 from tcpsim_model.scenario import Refused
 from tcpsim_model.smaller import smaller
 from tcpsim_model.text import assemble, disassemble, lines_of
@@ -234,7 +234,7 @@ def refused(pick, args):
         for _ in range(args.count):
             scenario = short_scenario(pick)
             for _ in range(3):
-                yield ('asm', '--explain'), spelling.unread(spelling.spelt(scenario, pick), pick)
+                yield ('asm', '--explain'), unread.unread(spelling.spelt(scenario, pick), pick)
             groups = ','.join('0' * pick.randint(1, 2 * len(scenario.nodes)))
             yield ('run', '--explain', '--groups', pick.choice((groups, 'On', ',', '0,64'))), spelling.spelt(scenario, pick)
 
