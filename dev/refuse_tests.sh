@@ -15,6 +15,7 @@ net_tests nets::two_flows::every_event_is_run_also_where_memory_was_refused
 net_tests nets::by_nodes::nodes_run_their_events_as_the_net_does
 net_tests nets::by_nodes::receivers_hold_segments_and_codel_drops_as_in_the_net
 net_tests nets::copies::a_refused_copy_leaves_the_net
+net_tests nets::late::a_fault_behind_the_millionth_event_is_told
 net_tests windows::refused::a_refused_window_gives_the_net_back
 net_tests windows::refused::a_refused_turn_leaves_the_window
 net_tests windows::refused::a_refused_group_stands_after_whole_events

@@ -1,5 +1,6 @@
 mod by_nodes;
 mod copies;
+mod late;
 mod two_flows;
 
 use self::by_nodes::{copied, copied_in};
