@@ -1,8 +1,8 @@
 """Tests that no wake-up of the thread pool is lost.
 
 spin searches the model dev/spin/thread_pool.pml whole, for two and for three threads, and has to refuse the models that
-are wrong. The model has each line of the functions that it stands for, in their order. What the pool does wrong where its
-code is, is for the tests of crates/thread_pool to see; a wake-up lost between two steps they hardly meet.
+are wrong. The model has each line of the functions that it stands for, in their order. The tests of crates/thread_pool
+find wrong lines by what the pool then does, but hardly a wake-up that is lost between two steps; spin does.
 """
 import os
 import re
