@@ -53,6 +53,29 @@ def same(scenario, path, una, tagged_event):
     assert path.parts() == parts and path.trips == trips and path.acknowledged == una
 
 
+def awaited_by_model(net, scenario, number):
+    """What a flow can wait for where the model's run ends, in words: of a packet each place where one of the sort is."""
+    flow = scenario.flows[number]
+    sender, names = net.ends[flow.sender], [link.name for link in scenario.links]
+    if simulate.START in net.alarms[flow.sender]:
+        return {f'its start at {flow.start / 1e9:.9f} s'}
+    places = [(packet, f'in the queue of {names[port.number]}') for port in net.ports for packet, _ in port.queue.entries]
+    for time, node, source, _, packet in net.pending:
+        if source:
+            port = net.ports[source - 1]
+            sends = port.alarm in net.alarms[scenario.links[source - 1].source] and time == net.last[source - 1][2] + scenario.links[source - 1].delay
+            places.append((packet, f'{"sent by" if sends else "under way on"} {names[source - 1]}'))
+    own = [(packet, where) for packet, where in places if packet.flow == number]
+    acks = {f'acknowledgement {packet.number}, {where}' for packet, where in own if packet.is_ack and packet.number > sender.una}
+    if acks:
+        return acks
+    if net.ends[flow.receiver].alarm is not None and net.ends[flow.receiver].next > sender.una:
+        return {f'the delayed acknowledgement, due at {net.ends[flow.receiver].alarm / 1e9:.9f} s'}
+    copies = {f'segment {packet.number}, {where}' for packet, where in own if not packet.is_ack and packet.number == sender.una}
+    more = f', or for duplicates: {len(own)} of its packets are in the net' if own else ''
+    return copies or {f'its retransmission timer, due at {sender.deadline / 1e9:.9f} s{more}'}
+
+
 def compare(text, model):
     """Every flow's path, of the trace and of the model's tags; counts the flows that are complete and that are not."""
     net, lines = tags_of(model)
@@ -69,6 +92,8 @@ def compare(text, model):
             assert path.is_whole == (tags[-1][0] == flow.mss * flow.segments)
         assert sum(path.parts().values()) == path.time == (tags[-1][1].time - flow.start if tags else 0)
         assert gapless(path)
+        if not path.is_whole:
+            assert walk.awaited(number) in awaited_by_model(net, scenario, number)
         found['complete' if path.is_whole else 'incomplete' if tags else 'without an acknowledgement'] += 1
         for part in path.parts():
             found[part.kind if part.kind != QUEUE else 'own queue' if part.behind == flow.name else 'queue behind others'] += 1

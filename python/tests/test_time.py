@@ -204,7 +204,7 @@ def test_a_bar_has_the_parts(name):
                 sums[look] = sums.get(look, 0) + ns
             wanted = {}
             for part, ns in each.path.parts().items():
-                look = bars.look_of(part, each.flows)
+                look = bars.look_of(part, each.flows, each.name)
                 wanted[look] = wanted.get(look, 0) + ns
             assert at == each.path.time and sums == wanted
             assert set(wanted) <= set(bars.all_looks(each.flows))

@@ -12,27 +12,34 @@ from tcpsim.plot.clock import length_text
 from tcpsim.plot.style import HALO, HEAD, KEY, LINE, NOTE, PURPLE, SERIES, TICKS, TIMEOUT, columns_that_fit, delay_unit, new_figure, series, text_width
 
 WIDTH = 10                      # inches
-MARGIN, ROW = .25, .52          # inches: around, and of a bar
-FINEST = 900                    # parts of the axis that are told apart
-HATCHES = '', '///', '...', 'xxx'       # one for each four flows, as lines have dashes
+MARGIN = .25                    # inches, around
+ROW, LEAST_ROW, MOST = .52, .22, 8  # inches: of a bar, of one of many, and of all bars where they are many
+FINEST, COARSEST = 900, 200     # parts of the axis that are told apart, and where the bars are many
+HATCHES = '', '///'             # one for each four flows, as lines have dashes
+MOST_FLOWS = len(SERIES) * len(HATCHES)     # that have looks of their own
 LOOKS = {SERIALIZATION: ('#3A3A3A', 'serialization'), PROPAGATION: ('#C8C8C8', 'propagation'), TIMER: (TIMEOUT, 'retransmission timer'),
          DELAY: (PURPLE, 'delayed acknowledgement')}
 Look = tuple[str, str, str]     # a colour, a hatch, and what the key says
+OWN, OTHERS = (SERIES[0], '', 'queue, behind its own packets'), (SERIES[1], '', 'queue, behind packets of others')
 
 
-def look_of(part: Part, numbers: dict[str, int]) -> Look:
-    """How a part looks: waits have the colour of the flow behind whose packets they are; `numbers` has the flows' numbers."""
+def look_of(part: Part, numbers: dict[str, int], own: str) -> Look:
+    """How a part of a flow's own path looks: waits have the colour of the flow behind whose packets they are. `numbers` has the
+    flows' numbers; where they are many, waits are told apart as its own and those behind others."""
     if part.kind != QUEUE:
         color, words = LOOKS[part.kind]
         return color, '', words
+    if len(numbers) > MOST_FLOWS:
+        return OWN if part.behind == own else OTHERS
     number = numbers[part.behind]
-    return series(number)['color'], HATCHES[number // len(SERIES) % len(HATCHES)], f'queue, behind packets of {part.behind}'
+    return series(number)['color'], HATCHES[number // len(SERIES)], f'queue, behind packets of {part.behind}'
 
 
 def all_looks(numbers: dict[str, int]) -> list[Look]:
     """Every look, in the key's order."""
-    kinds = [Part(QUEUE, '', name) for name in sorted(numbers, key=numbers.get)] + [Part(kind, '') for kind in LOOKS]
-    return [look_of(part, numbers) for part in kinds]
+    queues = [OWN, OTHERS] if len(numbers) > MOST_FLOWS else [look_of(Part(QUEUE, '', name), numbers, '')
+                                                             for name in sorted(numbers, key=numbers.get)]
+    return queues + [look_of(Part(kind, ''), numbers, '') for kind in LOOKS]
 
 
 def pieces(each: Breakdown, numbers: dict[str, int], finest: int) -> list[tuple[Look, int, int]]:
@@ -40,7 +47,7 @@ def pieces(each: Breakdown, numbers: dict[str, int], finest: int) -> list[tuple[
     until they last `finest` ns, so that each can be seen."""
     found, sums, begin = [], {}, 0
     for part, since, until in each.path.spans():
-        look = look_of(part, numbers)
+        look = look_of(part, numbers, each.name)
         sums[look] = sums.get(look, 0) + until - since
         if until - each.path.begin - begin >= finest:
             begin = put(found, sums, begin)
@@ -67,23 +74,26 @@ def draw(runs: Sequence[tuple[str, Sequence[Breakdown]]]) -> Figure:
     for _, each in bars:
         numbers.update(each.flows)
     longest = max([each.path.time for _, each in bars if each.path.events], default=0) or 1
-    shown = [(label, each, pieces(each, numbers, longest // FINEST) if each.path.events else []) for label, each in bars]
+    finest = longest // max(COARSEST, FINEST // (1 + len(bars) // 10))
+    shown = [(label, each, pieces(each, numbers, finest) if each.path.events else []) for label, each in bars]
     looks = [look for look in all_looks(numbers) if any(look == its for _, _, parts in shown for its, *_ in parts)]
-    scale, unit = delay_unit(longest)
+    scale, unit = delay_unit(2 * longest)       # as in the words behind the bars
     left = max(text_width(label, TICKS) for label, _ in bars) / 72 + .2
     right = max(text_width(end_words(each), NOTE) for _, each in bars) / 72 + .15
     width = (WIDTH - MARGIN - left - right) * 72
     handles = [Patch(facecolor=color, hatch=hatch, edgecolor='#FFFFFF', lw=0, label=words) for color, hatch, words in looks]
     columns = columns_that_fit([handle.get_label() for handle in handles], width + (right - MARGIN) * 72) if handles else 1
     above = MARGIN + (HEAD + 8 + LINE * -(-len(handles) // columns)) / 72
-    height = above + ROW * len(bars) + .55
+    rows = len(bars) * max(LEAST_ROW, min(ROW, MOST / len(bars)))
+    height = above + rows + .55
     figure = new_figure(figsize=(WIDTH, height))
-    axes = figure.add_axes((left / WIDTH, .55 / height, width / 72 / WIDTH, ROW * len(bars) / height))
+    axes = figure.add_axes((left / WIDTH, .55 / height, width / 72 / WIDTH, rows / height))
     for place, (_, each, parts) in enumerate(shown):
-        for look in dict.fromkeys(look for look, *_ in parts):
-            color, hatch, _ = look
-            axes.broken_barh([(begin / scale, ns / scale) for its, begin, ns in parts if its == look], (place - .34, .68), facecolors=color,
-                             hatch=hatch, edgecolor='#FFFFFF', lw=0)
+        by_look = {}
+        for look, begin, ns in parts:
+            by_look.setdefault(look, []).append((begin / scale, ns / scale))
+        for (color, hatch, _), spans in by_look.items():
+            axes.broken_barh(spans, (place - .34, .68), facecolors=color, hatch=hatch, edgecolor='#FFFFFF', lw=0)
         axes.annotate(end_words(each), ((each.path.time if each.path.events else 0) / scale, place), xytext=(4, 0), textcoords='offset points',
                       va='center', fontsize=NOTE, path_effects=HALO, annotation_clip=False)
     axes.set_xlim(0, longest / scale)
