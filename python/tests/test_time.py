@@ -125,6 +125,7 @@ def test_a_path_has_the_lines_of_the_trace(name):
 def test_a_byte_and_several_flows():
     whole, part = (rows(*paths('bufferbloat'), '--flow', 'g,0', *more) for more in ((), ('--to', '999')))
     assert [row['flow'] for row in whole if row['part'] == 'whole'] == ['g', 'f']
+    assert whole == rows(*paths('bufferbloat'), '--flow', 'g', '--flow', 'f')
     ends = [[int(row['ns']) for row in found if row['part'] == 'whole'] for found in (whole, part)]
     assert all(early < late for early, late in zip(*ends[::-1]))
 
@@ -137,7 +138,8 @@ def test_a_flow_that_is_not_complete_says_what_it_waits_for(tmp_path):
         cut.write_text('\n'.join(lines[:count]) + '\n')
         assert says in told(paths('two_timeouts_in_a_row')[0], str(cut), '--partial')
     assert told(paths('two_timeouts_in_a_row')[0], str(cut), '--partial', '--path').splitlines()[2].startswith('goto 1 ')
-    assert rows(paths('two_timeouts_in_a_row')[0], str(cut), '--partial')[0]['ns'] == '0'
+    only, = rows(paths('two_timeouts_in_a_row')[0], str(cut), '--partial')
+    assert (only['part'], only['ns'], only['percent']) == ('whole', '0', '')
 
 
 def test_alone_is_run_where_it_is_asked_for(tmp_path):

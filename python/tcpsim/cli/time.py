@@ -36,7 +36,8 @@ def words_of_tool() -> argparse.Namespace:
     words = Words(description='Where the time of each flow went: its critical path, from the acknowledgement that completed it '
                   'back to its start.')
     words.add_argument('inputs', metavar='SCENARIO [TRACE]', nargs='+', help='a text, - is standard input; without TRACE the program is run')
-    words.add_argument('--flow', metavar='NAMES', help='these flows, by names or numbers with commas between them: a row for each part')
+    words.add_argument('--flow', metavar='NAMES', action='append', help='these flows, by names or numbers with commas between them, also '
+                                                                         'where it is said again: a row for each part')
     words.add_argument('--to', metavar='BYTE', type=as_type(count), help='up to the acknowledgement of this byte; else of all')
     words.add_argument('--path', action='store_true', help='the events of the path, with their lines and the debugger\'s goto')
     words.add_argument('--csv', action='store_true',
@@ -85,7 +86,7 @@ def breakdowns_of(given: argparse.Namespace, scenario_path: str, trace: str | No
     """The scenario, the flows that are asked for with their parts, and whether each part has a row."""
     words = argparse.Namespace(**{**vars(given), 'scenario': scenario_path, 'trace': trace})
     with opened(words) as (scenario, lines):
-        wanted = range(len(scenario.flows)) if given.flow is None else [flow_named(scenario, name) for name in given.flow.split(',')]
+        wanted = range(len(scenario.flows)) if given.flow is None else [flow_named(scenario, name) for name in ','.join(given.flow).split(',')]
         walk = critical_paths(scenario, lines, wanted, given.to)
     by_part = given.flow is not None or len(scenario.flows) == 1
     alone = (by_part and trace is None and len(scenario.flows) > 1 and not given.plot) if given.alone is None else given.alone
@@ -101,7 +102,8 @@ def write_csv(found: list[Breakdown], file: Output) -> None:
     for each in found:
         for row in each.rows():
             out.writerow((each.name, *row.part, row.ns, f'{100 * row.share:.6f}', row.alone))
-        out.writerow((each.name, 'whole', None, None, None, each.path.time, '100.000000', each.alone.time if each.alone else None))
+        out.writerow((each.name, 'whole', None, None, None, each.path.time, '100.000000' if each.path.time else None,
+                      each.alone.time if each.alone else None))
 
 
 # ---- paths
