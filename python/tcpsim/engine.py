@@ -5,8 +5,9 @@ nanoseconds, all sizes bytes.
 """
 from __future__ import annotations
 
+import functools
+import itertools
 from collections.abc import Callable
-from functools import partial
 
 from tcpsim.command_line import MODEL
 from tcpsim.program import find_program
@@ -78,24 +79,35 @@ def portions_of(path: str, source: bytes, first: Callable[[], None] | None, run:
     return found
 
 
+@functools.lru_cache(maxsize=1)
+def places_of(names: tuple[str, ...]) -> dict:
+    """Which line has a figure, by what and number, and then by figure and unit; ValueError with a line that has none. All
+    tables of a scenario have the same lines, but for their values."""
+    places = {}
+    for at, name in enumerate(names):
+        words = name.split(',')
+        of = places.setdefault(tuple(words[:2]), {})
+        if len(words) != 4 or tuple(words[2:]) in of:
+            raise ValueError(at)
+        of[tuple(words[2:])] = at
+    return places
+
+
 def read_table(table: str) -> dict:
     """The values of a whole table, by what and number, and then by figure and unit; None where there is none."""
     heading, *lines = table.splitlines() or ['']
-    values = {}
+    split, values = [line.rpartition(',') for line in lines], []
     try:
-        for line in lines:
-            what, number, figure, unit, value = line.split(',')
-            of = values.setdefault((what, number), {})
-            if (figure, unit) in of:
-                raise ValueError('a figure twice')
-            of[figure, unit] = None if value == '-' else int(value)
-    except ValueError:
-        heading = line
+        for _, _, value in split:
+            values.append(None if value == '-' else int(value))
+        places = places_of(tuple(name for name, _, _ in split))
+    except ValueError as wrong:
+        heading = lines[wrong.args[0] if len(values) == len(lines) else len(values)]
     if heading != HEADING or not lines:
         raise Unreadable(f'the program wrote no table of figures: {heading[:100]}')
     if not lines[-1].startswith(LAST_ROW) or not table.endswith('\n'):
         raise Unreadable(f'the table of figures is cut: it ends with {lines[-1][:100]}')
-    return values
+    return {whose: {figure: values[at] for figure, at in of.items()} for whose, of in places.items()}
 
 
 def figures_of(values: dict[tuple, dict], of: tuple[str, str], wanted: dict[tuple, bool]) -> dict:
@@ -148,13 +160,10 @@ class EngineRun:
 
     def data_dropped(self) -> int | None:
         """Segments that were dropped at any link; None where a link dropped something to which acknowledgements come too."""
-        total = 0
-        for number in range(len(self.links)):
-            back = any(number in way for _, way in self.scenario.ways)
-            if back and any(number in way for way, _ in self.scenario.ways) and self.dropped(number):
-                return None
-            total += 0 if back else self.dropped(number)
-        return total
+        there, back = (set(itertools.chain.from_iterable(ways)) for ways in zip(*self.scenario.ways))
+        if any(map(self.dropped, there & back)):
+            return None
+        return sum(self.dropped(number) for number in range(len(self.links)) if number not in back)
 
     def is_busy(self, number: int) -> bool:
         """Whether a link dropped a packet, or one waited longer than the greatest that can come to it takes to be sent."""
@@ -182,4 +191,4 @@ def engine_run(path: str, program: str | None = None) -> EngineRun:
     with naming(path, source=source):
         program = find_program(program, lambda: [scenario_text(source, 'the scenario', MODEL)])
         table = table_of(source, program)
-        return EngineRun(Scenario(scenario_text(source, path, program)), table, partial(portions_of, program, source, None))
+        return EngineRun(Scenario(scenario_text(source, path, program)), table, functools.partial(portions_of, program, source, None))

@@ -10,6 +10,7 @@ import argparse
 import codecs
 import contextlib
 import itertools
+import os
 import re
 import subprocess
 import sys
@@ -221,7 +222,7 @@ class Running:
 def running(words: list[str], source: bytes, first: Callable[[], None] | None = None) -> Iterator[Running]:
     """Runs a program on the bytes of a scenario, and ends it where not all that it writes is wanted. Its input and its
     notes are files, so that neither of us waits for the other. The process does `first` before it is the program."""
-    with tempfile.TemporaryFile() as given, tempfile.TemporaryFile() as note:
+    with unnamed() as given, unnamed() as note:
         with named(tempfile.gettempdir()):
             given.write(source)
             given.seek(0)
@@ -238,6 +239,11 @@ def running(words: list[str], source: bytes, first: Callable[[], None] | None = 
                 process.stdout.close()
                 process.kill()
                 PROGRAMS.remove(process)
+
+
+def unnamed() -> BinaryIO:
+    """A new file without a name: in memory, which costs least, where the system has such files."""
+    return open(os.memfd_create('tcpsim'), 'w+b') if hasattr(os, 'memfd_create') else tempfile.TemporaryFile()
 
 
 class ProgramFailed(Unreadable):

@@ -178,7 +178,7 @@ def row_in(folder: str, grid: Grid, number: int) -> dict[str, str] | None:
     titles = ['status', *grid.link(), *grid.figures(), *QUESTION]
     if fault := fault_of(rows[0], grid, titles):
         return {'status': f'its row {fault}'}
-    if fault := difference(rows[0], grid.begin_of(number)):
+    if fault := difference(rows[0], grid.begin_of(number, grid.text(number))):
         return {'status': f'its row is {fault}'}
     return {name: rows[0][name] for name in titles[:-len(QUESTION)]}
 

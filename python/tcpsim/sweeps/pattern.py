@@ -77,6 +77,7 @@ class Pattern:
                 self.sorts.setdefault(words[1], words[0])
             elif words and words[0] == 'sim':
                 self.places['sim'], self.sorts['sim'] = number, 'sim'
+        self.packet = greatest_packet(self.lines)
 
     def named(self, sort: str) -> list[str]:
         """The names of all nodes, links or flows."""
@@ -93,7 +94,7 @@ class Pattern:
                     lose(lines, name, value)
                 else:
                     self._put(lines, name, setting.field, [f'iw{value}' if setting.field == 'iw' else str(value)])
-        packet = greatest_packet(lines)
+        packet = greatest_packet(lines) if any(each.field == 'mss' for each in settings) else self.packet
         for product in (False, True):           # the delays of all queues' links stand before a product is asked for
             for name, queue in queues:
                 limit = product_of(lines, name, packet) if product and queue.capacity is None else 1

@@ -18,21 +18,30 @@ from types import FrameType
 from tcpsim import output
 from tcpsim.command_line import ENDS, Refused, note
 from tcpsim.sweeps.files import Journal, csv_line
-from tcpsim.sweeps.rows import Grid, row_of
+from tcpsim.sweeps.rows import Grid
 from tcpsim.whole_trace import PROGRAMS
 
 # What runs points: of a grid and the numbers of points it yields the number and the figures of each as it ends.
 Runner = Callable[[Grid, Sequence[int]], Iterator[tuple[int, dict]]]
 
 
-def begin_worker(ends: tuple[int, int]) -> None:
+GRID = []                       # that of a worker
+
+
+def begin_worker(ends: tuple[int, int], grid: Grid) -> None:
     """A signal ends a worker at once, with its program; and so does the end of its parent. `ends` are those of a pipe
     into which nobody writes: once the parent is gone, it is at its end."""
+    GRID.append(grid)
     os.close(ends[1])
     for number in ENDS:
         signal.signal(number, end_worker)
     signal.pthread_sigmask(signal.SIG_UNBLOCK, ENDS)
     threading.Thread(target=end_with_parent, args=(ends[0],), daemon=True).start()
+
+
+def run_in_worker(number: int) -> dict[str, object]:
+    """The values of a point's row, by a worker, which has the grid."""
+    return GRID[0].run(number)
 
 
 def end_with_parent(pipe: int) -> None:
@@ -75,15 +84,15 @@ def rows_of(grid: Grid, numbers: Sequence[int], jobs: int) -> Iterator[tuple[int
     """(number, figures) of each run as it ends; `jobs` runs go side by side."""
     if jobs == 1 or len(numbers) < 2:
         for number in numbers:
-            yield number, row_of(grid.text(number), grid.asked)
+            yield number, grid.run(number)
         return
     ends, others = os.pipe(), set(active_children())
-    pool = ProcessPoolExecutor(min(jobs, len(numbers)), get_context('fork'), begin_worker, (ends,))
+    pool = ProcessPoolExecutor(min(jobs, len(numbers)), get_context('fork'), begin_worker, (ends, grid))
     try:
         runs = {}
         for number in numbers:
             with output.held_back(ENDS if not runs else ()):        # the first makes the workers
-                runs[pool.submit(row_of, grid.text(number), grid.asked)] = number
+                runs[pool.submit(run_in_worker, number)] = number
         for done in as_completed(runs):
             yield runs[done], done.result()
     except BaseException as wrong:
@@ -122,18 +131,18 @@ def run_all(grid: Grid, engine: Runner, file: output.Output | None = None, journ
             there: dict[int, dict] | None = None, progress: bool = True) -> list[dict]:
     """Every run's row, in the grid's order; those that are `there` are not run again. Into `file` each row goes as soon as
     those before it are there, into `journal` as soon as it is there."""
-    rows = dict(there or {})
+    rows, columns = dict(there or {}), grid.columns()
     numbers = [number for number in range(len(grid.points)) if number not in rows]
     said, written = Progress(len(numbers)), 0
 
     def write_ready():
         nonlocal written
         while file and written in rows:
-            file.write(csv_line(rows[written], grid.columns()))
+            file.write(csv_line(rows[written], columns))
             file.flush()
             written += 1
     if file:
-        file.write(csv_line(dict(zip(grid.columns(), grid.columns())), grid.columns()))
+        file.write(csv_line(dict(zip(columns, columns)), columns))
         write_ready()
     for number, figures in engine(grid, numbers):
         rows[number] = grid.row(number, figures)

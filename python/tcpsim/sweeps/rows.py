@@ -238,17 +238,24 @@ class Grid:
         """The titles of the settings' values: the word, and behind it its numbers."""
         return [title for each in settings for title in (each.key, *each.titles())]
 
-    def begin_of(self, number: int) -> dict[str, object]:
-        """What a row begins and ends with, whatever came out: the values, in words and in numbers, and of which run it is."""
-        text, row = self.text(number), {}
+    def begin_of(self, number: int, text: str) -> dict[str, object]:
+        """What a row begins and ends with, whatever came out: the values, in words and in numbers, and which question it is of.
+        `text` is that of the point."""
+        row = {}
         for each, value in zip(self.settings, self.points[number]):
             row[each.key] = each.label(value)
             row.update(each.numbers(value, text))
         return {**row, **dict(zip(QUESTION, (self.asked.skip, digest(text.encode('latin-1')), self.asked.options(), self.asked.digest)))}
 
+    def run(self, number: int) -> dict[str, object]:
+        """The values of a point's row, with the figures of its run."""
+        text = self.text(number)
+        return {**self.begin_of(number, text), **row_of(text, self.asked)}
+
     def row(self, number: int, figures: dict[str, object]) -> dict[str, str]:
-        """A run's row, each value as CSV has it."""
-        return {name: as_csv(value) for name, value in {**self.begin_of(number), **figures}.items()}
+        """A run's row, each value as CSV has it; `figures` have the other values too where it was run here."""
+        begin = {} if figures.keys() >= QUESTION.keys() else self.begin_of(number, self.text(number))
+        return {name: as_csv(value) for name, value in {**begin, **figures}.items()}
 
 
 def digest(contents: bytes) -> str:
