@@ -464,6 +464,18 @@ class TestPictures:
         assert '19 panels' in done.stderr
 
 
+def test_progress(monkeypatch, capsys):
+    """Four runs, each of 30 s: done, left, and how long the others take."""
+    seconds = iter(range(0, 150, 30))
+    monkeypatch.setattr(pool.clock, 'monotonic', lambda: next(seconds))
+    progress = pool.Progress(4)
+    for status in ('done', 'refused E5 line 1', 'done', 'done'):
+        progress.note({'a.queue': '2'}, {'status': status})
+    assert capsys.readouterr().err.splitlines() == [
+        '1 of 4 runs, 30 s, about 90 s left: a.queue=2', '2 of 4 runs, 1 without figures, 60 s, about 60 s left: a.queue=2: refused E5 line 1',
+        '3 of 4 runs, 1 without figures, 90 s, about 30 s left: a.queue=2', '4 of 4 runs, 1 without figures, 120 s: a.queue=2']
+
+
 def ends_at_the_second_signal(ready):
     """A process that sees a signal only once another has come, as one does that was about to wait."""
     seen = []

@@ -107,8 +107,8 @@ def rows_of(grid: Grid, numbers: Sequence[int], jobs: int) -> Iterator[tuple[int
 
 
 class Progress:
-    """A line on standard error: how many runs are done, and how long it took. On a terminal it is
-    written over."""
+    """A line on standard error: how many runs are done, how long that took, and how long the others take where they are like
+    them. On a terminal it is written over."""
 
     def __init__(self, count: int):
         self.count, self.done, self.refused, self.began = count, 0, 0, clock.monotonic()
@@ -119,7 +119,9 @@ class Progress:
         self.done += 1
         self.refused += row['status'] != 'done'
         failed = f', {self.refused} without figures' if self.refused else ''
-        line = f'{self.done} of {self.count} runs{failed}, {clock.monotonic() - self.began:.0f} s'
+        spent = clock.monotonic() - self.began
+        left = f', about {spent / self.done * (self.count - self.done):.0f} s left' if self.done < self.count else ''
+        line = f'{self.done} of {self.count} runs{failed}, {spent:.0f} s{left}'
         if self.terminal:
             note(f'\r{line}\x1b[K', '\n' if self.done == self.count else '')
         else:
