@@ -102,7 +102,7 @@ class TestPicturesOfTheDocuments:
     def test_none_is_left_over(self):
         with open(os.path.join(TOP, 'docs', 'TUTORIAL.md'), encoding='utf-8') as file:
             named = set(re.findall(r'\(pictures/(\w+)\.svg\)', file.read()))
-        assert named - {'sweep', 'dumbbell'} == set(pictures.PICTURES)
+        assert named - {'sweep', 'dumbbell'} == {*pictures.PICTURES, *pictures.BARS}
 
     def test_no_label_covers_another_or_a_span_that_is_left_out(self):
         for name in ('two_timeouts_in_a_row', 'a_lost_retransmission', 'sawtooth_of_congestion_avoidance'):

@@ -172,8 +172,9 @@ def test_refusals():
 
 
 def test_the_page_shows_what_is_told():
-    """Each command of docs/TIME.md that has an answer below it; `..` stands for lines that are left out."""
-    shown = re.findall(r'^```\n\$ (bin/tcpsim-time .*)\n((?:.*\n)+?)```$', read_text('docs', 'TIME.md'), re.M)
+    """Each command of docs/TIME.md and of the tutorial that has an answer below it; `..` stands for lines that are left out."""
+    pages = read_text('docs', 'TIME.md') + read_text('docs', 'TUTORIAL.md')
+    shown = re.findall(r'^```\n\$ (bin/tcpsim-time .*)\n((?:.*\n)+?)```$', pages, re.M)
     assert len(shown) == 3
     for command, text in shown:
         done = subprocess.run(['sh', '-c', f'{command} --program {PROGRAM}' if '|' not in command else command], cwd=TOP, check=True,
