@@ -45,6 +45,9 @@ class Wire:
             if answer.get('id') == message['id']:
                 return answer
             self.events.append(answer)
+            if answer.get('method') == 'Page.javascriptDialogOpening':      # whether to leave the page: a test means to
+                await self._socket.send(json.dumps({'id': 0, 'method': 'Page.handleJavaScriptDialog', 'params': {'accept': True},
+                                                    'sessionId': answer['sessionId']}))
 
     def ask(self, message):
         """Sends a command; answers its answer."""
@@ -93,6 +96,19 @@ class Browser:
                 return found
             time.sleep(.1)
         raise Gone(f'it does not become true: {script}')
+
+    def reload(self):
+        """Loads the page anew, as the key F5 does; where it asks, whoever uses it wants to leave."""
+        self.value('(window.loaded = 1) && setTimeout(() => location.reload(), 0)')
+        until = time.monotonic() + START
+        while time.monotonic() < until:
+            try:
+                if self.value('!window.loaded && document.readyState === "complete"'):
+                    return
+            except Gone:        # between both
+                pass
+            time.sleep(.1)
+        raise Gone('the page is not loaded anew')
 
     def middle(self, script):
         """The middle of an element, brought into view."""
@@ -143,6 +159,7 @@ class Chromium(Browser):
 
     def open(self, address):
         """Opens a page, and waits until it is loaded."""
+        self.value('window.onbeforeunload = null')      # a page that would ask keeps the answer to the command back
         self.call('Page.navigate', url='about:blank')
         self.call('Page.navigate', url=address)
         self.wait('location.href !== "about:blank" && document.readyState === "complete"')
@@ -193,7 +210,7 @@ class Firefox(Browser):
         super().__init__([FIREFOX, '--headless', '--no-remote', '--profile', profile, '--remote-debugging-port=0', 'about:blank'],
                          folder, 'WebDriver BiDi listening on', {'MOZ_DISABLE_CONTENT_SANDBOX': '1'})
         self.wire = Wire(self.address + '/session')
-        self.call('session.new', capabilities={})
+        self.call('session.new', capabilities={'alwaysMatch': {'unhandledPromptBehavior': {'beforeUnload': 'accept'}}})
         self.context = self.call('browsingContext.getTree')['contexts'][0]['context']
         if before:
             self.call('script.addPreloadScript', functionDeclaration=f'() => {{ {before} }}')

@@ -20,6 +20,7 @@ import zlib
 import page_lessons
 import page_module
 from clone import TOP
+from tcpsim import VERSIONS
 from tcpsim.cli import net
 from tcpsim.command_line import Refused, Words, run
 from tcpsim.output import opened, written
@@ -27,7 +28,7 @@ from tcpsim.replay import page as replay
 from tcpsim.scenario import units
 
 WEB = os.path.join(TOP, 'page', 'web')
-SCRIPTS = ('engine.js', 'scenario.js', 'editor.js', 'figures.js', 'trace_list.js', 'completion.js', 'prompt.js', 'lessons.js', 'units.js',
+SCRIPTS = ('engine.js', 'scenario.js', 'editor.js', 'fairness.js', 'figures.js', 'stall_list.js', 'trace_list.js', 'completion.js', 'prompt.js', 'lessons.js', 'units.js',
            'net_text.js', 'shapes.js', 'template_form.js', 'compare.js', 'share.js', 'picture.js', 'save.js', 'lecture.js',
            'simulator.js')
 EXAMPLES = os.path.join(TOP, 'examples')
@@ -77,7 +78,7 @@ def examples():
 def data_of(program, record, lessons):
     """What the page holds as data."""
     ones = examples()
-    about = {**record, 'wasm': hashlib.sha256(program).hexdigest()}
+    about = {'version': VERSIONS, **record, 'wasm': hashlib.sha256(program).hexdigest()}
     yield held('about', replay.for_script(about), 'application/json')
     yield held('grammar', replay.for_script(json.loads(read(GRAMMAR))), 'application/json')
     yield held('examples', replay.for_script({name: text for name, (text, _) in ones.items()}), 'application/json')

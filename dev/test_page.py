@@ -25,9 +25,11 @@ import page_cases
 import page_module
 from clone import TOP
 from page_use import choose, element, look, run, text_of, wanted
+from tcpsim import VERSIONS
 from tcpsim.command_line import Refused
 from tcpsim.replay.page import about
 from tcpsim.scenario.text import Scenario
+from tcpsim.stalls import stalls_of
 
 pytest_plugins = 'page_fixtures'
 DRAWN = 2000            # cases
@@ -178,6 +180,24 @@ def test_the_page_says_of_which_proof_it_is(chromium, made):
     said = chromium.json('JSON.parse(document.getElementById("about").textContent)')
     assert {key: said[key] for key in made[1]} == made[1]
     assert said['program'] == build.sum_of_file(page_cases.PROGRAM)
+    chromium.click(element('#about-open'))
+    assert text_of(chromium, '#about-text').startswith(f'tcpsim {VERSIONS}\n')
+    chromium.click(element('#about-close'))
+
+
+@pytest.mark.parametrize('kind', ['Chromium', 'Firefox'])
+def test_nothing_in_the_page_is_against_its_own_policy(made, tmp_path, kind):
+    """No element of the page, and of no lesson, is refused by the page's policy: a console without red lines."""
+    wanted(getattr(browsers, kind.upper()), f'no {kind}')
+    (tmp_path / kind).mkdir()
+    browser = getattr(browsers, kind)(str(tmp_path / kind), before='window.seen = []; document.addEventListener("securitypolicyviolation", event => seen.push(event.effectiveDirective));')
+    try:
+        browser.open(f'file://{made[0]}')
+        browser.wait('document.documentElement.dataset.ready')
+        browser.value('simulator.lessons.lessons.forEach(({number}) => simulator.openLesson(number))')
+        assert browser.json('window.seen') == []
+    finally:
+        browser.close()
 
 
 # ---- what is shown
@@ -221,12 +241,19 @@ def test_lesson_3_as_a_new_user(browser):
     browser.click(element('#all-lines form button'))
     browser.wait('page.record.at !== 62')
     at = browser.value('page.record.at')
-    assert 'drop=full' in lines[at - 1] and text_of(browser, '.seen .present') == lines[at - 1]
+    number, time, *_ = lines[at - 1].split()
+    shown = text_of(browser, '.seen .present')
+    assert 'drop=full' in lines[at - 1] and shown.split()[:3] == [number, f'{int(time) / 1e9:.6f}', 's'] and 'drops f ' in shown and ' B ' in shown
+    assert browser.value('document.querySelector(".seen .present").title') == lines[at - 1]
     look(browser, 'trace')
+    browser.click(element('#all-lines [type=checkbox]'))
+    assert text_of(browser, '.seen .present') == lines[at - 1]
+    browser.click(element('#all-lines [type=checkbox]'))
     browser.click(f'document.querySelector(\'.seen [data-event="{at + 1}"]\')')
     assert browser.value('page.record.at') == at + 1
     browser.click(element('[data-tab=figures]'))
     rows = browser.json('[...document.querySelectorAll("#figures-table tr")].map(row => [...row.cells].map(cell => cell.textContent))')
+    assert rows[0][:4] == ['flow', 'goodput', 'share', 'bottleneck'] and rows[1][0] == 'f' and rows[1][3] == 'a'
     assert ['figure', 'f'] in rows and ['figure', 'a', 'b'] in rows
     assert ['dropped as full (packets)', '1', '0'] in rows and ['greatest round trip', '11.08 ms'] in rows
     look(browser, 'figures')
@@ -276,6 +303,93 @@ def test_a_text_is_judged_as_it_is_typed(browser):
     looks = browser.json('[...document.querySelectorAll(".CodeMirror-line")].find(e => e.textContent.startsWith("link a")).querySelectorAll("[class^=cm]").length')
     assert looks == 6       # the statement, its name, rate, delay, the queue, and its places
     assert browser.value('document.querySelectorAll(".CodeMirror-linenumber").length') >= 8
+
+
+# ---- figures and stalls
+
+def figures_of(browser, text):
+    """What the tab of figures says of a text's run: its sentences, and its tables by their first heads."""
+    browser.value(f'simulator.openText({json.dumps(text)}, "own")')
+    browser.value('simulator.start()')
+    browser.wait('document.getElementById("said").textContent.startsWith("done in")')
+    tables = browser.json('[...document.querySelectorAll("#figures-table table")].map(table => [...table.rows].map(row => [...row.cells].map(cell => cell.textContent)))')
+    return browser.json('[...document.querySelectorAll(".says li")].map(it => it.textContent)'), tables
+
+
+def test_figures_begin_with_what_people_ask(browser):
+    """Goodput, share, utilization and waits, as tcpsim-flows has them; links that carried little are folded, exact numbers in tooltips."""
+    text = page_cases.read('examples', 'parking_lot_of_three_routers.txt').decode()
+    said, tables = figures_of(browser, text)
+    assert said[0] == 'Bottleneck: qu, 90.6 % utilized in 8.000 s.' and said[1].startswith("Jain's index of goodput: 0.8491, of 3 flows")
+    assert tables[0][1:] == [['fa', '64 kbit/s', '26.7 %', 'qu', '13.6 %', '2', '184 ms', '361 ms', '-'], ['fb', '113 kbit/s', '63.3 %', 'pq', '8.4 %', '3', '71 ms', '111 ms', '-'],
+                             ['fc', '189 kbit/s', '73.3 %', 'qu', '5.8 %', '1', '71 ms', '168 ms', '-']]
+    assert [row[0] for row in tables[1]] == ['link', 'pq', 'qu'] and len(tables[2]) == 15
+    closed = browser.json('[...document.querySelectorAll("#figures-table details")].map(it => [it.open, it.firstChild.textContent])')
+    assert closed == [[False, '14 links carried less than a tenth of the busiest, and dropped nothing'], [False, 'all figures, as the program counts them']]
+    assert browser.value('document.querySelector("#figures-table td").title') == '64,000 bit/s'
+
+
+FLOWS_OF_SORTS = """sim 20000000000
+node p router
+node q router
+""" + ''.join(f"""node s{k} sender
+node r{k} receiver
+link u{k} s{k} p 100000000 1000000 droptail 1000
+link v{k} p s{k} 100000000 1000000 droptail 1000
+link w{k} q r{k} 100000000 1000000 droptail 1000
+link x{k} r{k} q 100000000 1000000 droptail 1000
+""" for k in range(4)) + """link pq p q 1000000 10000000 droptail 20
+link qp q p 1000000 10000000 droptail 20
+flow f0 s0 r0 1000 1000000 0 64000 0
+flow f1 s1 r1 1000 1000000 100000000 64000 0
+flow f2 s2 r2 100 1000000 200000000 100 0
+flow f3 s3 r3 1000 20 300000000 64000 0
+""" + ''.join(f'route p r{k} pq\nroute q r{k} w{k}\nroute q s{k} qp\nroute p s{k} v{k}\n' for k in range(4))
+
+
+def test_jain_compares_the_flows_that_can_fill_their_share(browser):
+    """A mouse, with one segment in flight, and a flow that has ended are no part of the index, and the sentence says so."""
+    said, _ = figures_of(browser, FLOWS_OF_SORTS)
+    index = re.fullmatch(r"Jain's index of goodput: (0\.\d{4}|1\.0000), of 2 of 4 flows \(without 1 mice, 1 that ended\)\.", said[1])
+    assert index and float(index.group(1)) > .9, said
+    said, _ = figures_of(browser, page_cases.read('examples', 'bufferbloat.txt').decode())
+    assert said[1] == "Jain's index of goodput: -, of none of 2 flows (without 2 that ended)."
+
+
+def test_a_run_that_is_too_short_says_so(browser):
+    """A tooth that is longer than the run, and a goodput that still changes: a sentence with what would do; none of a run that has settled."""
+    said, _ = figures_of(browser, FLOWS_OF_SORTS.replace('sim 20000000000', 'sim 3000000000').replace('droptail 20\n', 'droptail 200\n').replace(' 64000 0', ' 1000000 0'))
+    assert any(it.startswith("Too short: a tooth of f") and 'For 5 teeth count from' in it for it in said), said
+    assert not [it for it in figures_of(browser, FLOWS_OF_SORTS)[0] if it.startswith(('Too short', 'Not settled'))]
+
+
+def test_stalls_have_the_causes_of_tcpsim_stalls(browser):
+    """Of every example: each stall that the net has, the longest first, with its cause; a click goes there."""
+    compared = 0
+    for name in browser.json('Object.keys(simulator.examples)'):
+        text, trace = (page_cases.read('examples', f'{name}.{ending}').decode() for ending in ('txt', 'trace'))
+        causes = {(row.flow, row.begin, row.end): row.cause for row in stalls_of(Scenario(text), trace.split('\n')[:-1])}
+        browser.value(f'simulator.openExample({json.dumps(name)})')
+        browser.value('simulator.start()')
+        browser.value('simulator.showTab("stalls")')
+        browser.wait('!!document.querySelector("#stall-list table") || document.getElementById("stall-list").textContent.startsWith("No stall")')
+        told = browser.json("""[...document.querySelectorAll('#stall-list tbody tr')].map(({cells}, k) => [page.facts.flows[simulator.stalls.stalls[k].flow].name,
+          simulator.stalls.stalls[k].from, simulator.stalls.stalls[k].to, cells[3].textContent, cells[4].textContent])""")
+        assert told == sorted(told, key=lambda row: row[1] - row[2])
+        for flow, begin, end, cause, found in told:
+            # Whether a timer had doubled the page does not ask.
+            assert {'the timer had doubled': 'an acknowledgement was lost'}.get(causes[flow, begin, end], causes[flow, begin, end]) == cause, (name, flow, begin)
+            assert found.startswith(('missing at the ', 'waits: ', 'under way: ', 'all its packets waited at link', 'flow ')), found
+            compared += 1
+    assert compared > 150
+    choose(browser, 'example parking_lot_of_three_routers')
+    assert run(browser).startswith('done in')
+    browser.click(element('[data-tab=stalls]'))
+    browser.wait('!!document.querySelector("#stall-list table")')
+    look(browser, 'stalls')
+    browser.click(element('#stall-list tbody button'))
+    assert browser.json('[page.record.at === simulator.stalls.stalls[0].event, document.getElementById("run-side").dataset.view]') == [True, 'net']
+    assert 'fa: no new acknowledgement for 1.35' in text_of(browser, '#notice')
 
 
 def opened_file(browser, name, data):
@@ -413,7 +527,7 @@ def test_long_runs_are_asked_about(browser):
         look(browser, 'asked')
         browser.click(element('#ask-figures'))
         browser.wait('document.getElementById("said").textContent.startsWith("figures alone, in")')
-        assert browser.value('!page && document.querySelectorAll("#figures-table table").length === 3')
+        assert browser.value('!page && document.querySelectorAll("#figures-table table").length >= 5')
         browser.click(element('#run'))
         browser.wait('document.getElementById("ask").open')
         browser.click(element('#ask-keep'))

@@ -498,8 +498,14 @@ def test_one_scenario_and_another_queue_in_a_lecture(calm):
         browser.wait(BOTH_SHOWN)
         found = browser.json(f'simulator.compare.records.map(it => it.facts.links.find(link => link.name === {json.dumps(most)}).queue)')
         assert found == queues, value
-        differ = browser.json('(([one, two]) => one.split("\\n").filter((line, k) => line !== two.split("\\n")[k]).length)(simulator.compare.runs.map(it => it.text))')
+        differ = browser.json('(([one, two]) => one.filter((words, k) => String(words) !== String(two[k])).length)(simulator.compare.runs.map(it => [...statementsOf(it.text)]))')
         assert differ == 1
+        # The lesson's own CoDel: 5 ms would be less than a packet takes at 1 Mbit/s.
+        if link:
+            names = browser.json('simulator.compare.runs.map(it => Object.keys(simulator.examples).find(name => simulator.examples[name] === it.text))')
+            assert {*names} == {'bufferbloat', 'bufferbloat_with_codel'}
+        else:
+            assert browser.json('codelFor({flows: [{mss: 1000}], links: [{rate: 1e6}]}, 0)') == 'codel:13ms:130ms'
         readable_both(browser, value)
         look(browser, f'lecture_queue_of_{value.split()[1]}')
     browser.value('simulator.compare.end()')

@@ -142,6 +142,88 @@ def test_from_a_server_the_whole_address_is_shared(chromium, made):
         server.server_close()
 
 
+# ---- loaded anew
+
+def load_anew(browser):
+    """As the key F5 does; waits until the program is ready."""
+    browser.reload()
+    browser.wait('document.documentElement.dataset.ready')
+
+
+def type_at_the_end(browser, text):
+    """Types behind the scenario. A headless Firefox's window has no focus, without which CodeMirror reads no letters."""
+    browser.value('(() => { const {box} = simulator.editor; box.focus(); box.setCursor({line: box.lineCount(), ch: 0}); })()')
+    if isinstance(browser, browsers.Firefox):
+        browser.value(f'simulator.editor.box.replaceSelection({json.dumps(text)})')
+    else:
+        browser.type(text)
+
+
+def test_nothing_typed_is_lost(browser, made):
+    """A lesson, its view and position, and what was typed, are there again where the page is loaded anew."""
+    opened_with(browser, f'file://{made[0]}')
+    choose(browser, 'lesson 4')
+    assert run(browser).startswith('done in')
+    browser.value('simulator.goTo(33)')
+    browser.wait('location.hash === "#lesson=4&name=fast_recovery&view=net&event=33"')
+    load_anew(browser)
+    browser.wait('window.page && page.record.at === 33')
+    assert text_of(browser, '#lesson h2').startswith('4. ') and browser.value('document.getElementById("choose").value') == 'lesson 4'
+    type_at_the_end(browser, '# my own remark')
+    text = browser.value('simulator.editor.text')
+    assert text.endswith('# my own remark') and browser.value('simulator.editor.edited')
+    load_anew(browser)          # before the address has it
+    assert browser.value('simulator.editor.text') == text and text_of(browser, '#lesson h2').startswith('4. ')
+    browser.wait('location.hash.includes("scenario=")')
+    assert browser.value('simulator.editor.edited')
+    if isinstance(browser, browsers.Chromium):
+        assert any(it.get('method') == 'Page.javascriptDialogOpening' and it['params']['type'] == 'beforeunload' for it in browser.wire.events)
+    # A text that is too long for the address; and one that nobody edited asks nothing.
+    long = ''.join(f'# {k} {k * k % 9973}\n' for k in range(9999)) + text
+    browser.value(f'simulator.openText({json.dumps(long)}, "long")')
+    browser.wait('location.hash === "#name=long"')
+    load_anew(browser)
+    assert browser.value('simulator.editor.text') == long and browser.value('simulator.title') == 'long'
+    choose(browser, 'example a_slow_way_back')
+    assert not browser.value('simulator.editor.edited')
+    browser.wait('location.hash === "#name=a_slow_way_back"')
+    load_anew(browser)
+    assert browser.value('simulator.editor.text === simulator.examples.a_slow_way_back && document.getElementById("choose").value') == 'example a_slow_way_back'
+
+
+def test_two_runs_are_shared_and_loaded_anew(browser, made):
+    """What is compared, and its moment, are in what is shared and in the address."""
+    opened_with(browser, f'file://{made[0]}')
+    choose(browser, 'lesson 10')
+    browser.click(element('[data-tab=compare]'))
+    pick(browser, '#compare-second', 'queue')
+    browser.value('(() => { const e = document.getElementById("compare-word"); e.value = "codel:20ms:200ms"; })()')
+    browser.click(element('#compare-go'))
+    browser.wait('simulator.compare.clock && document.getElementById("compare-said").textContent === ""')
+    browser.value('simulator.compare.clock.jump(3e9)')
+    texts = browser.json('simulator.compare.runs.map(it => it.text)')
+    assert texts[0] != texts[1] and 'codel 1000 20000000 200000000' in texts[1]
+    fragment = shared(browser)
+    browser.wait('location.hash.includes("&second=") && location.hash.includes("time=3000000000")')
+    for again in (load_anew, lambda it: opened_with(it, f'file://{made[0]}{fragment}')):
+        again(browser)
+        browser.wait('simulator.compare.clock && simulator.compare.clock.time === 3e9')
+        assert browser.json('simulator.compare.runs.map(it => it.text)') == texts
+        assert browser.json('[simulator.lessons.now.number, document.getElementById("run-side").dataset.view]') == [10, 'compare']
+    opened_with(browser, f'file://{made[0]}')
+
+
+def test_the_editor_shows_all_of_a_template(browser):
+    """The lesson above it goes, and the editor fills its room at once."""
+    choose(browser, 'lesson 3')
+    browser.click(element('#template-open'))
+    browser.click(element('#template-dialog .make'))
+    browser.wait('simulator.editor.text.startsWith("# A dumbbell") && !document.getElementById("template-dialog").open')
+    browser.wait("""(() => { const lines = [...document.querySelectorAll('.CodeMirror-line')].map(it => it.getBoundingClientRect().bottom);
+      const {bottom} = document.getElementById('editor').getBoundingClientRect();
+      return lines.length === simulator.editor.box.lineCount() || Math.max(...lines) >= bottom - 4; })()""", 10)
+
+
 # ---- files
 
 def folder_of(browser, tmp_path):

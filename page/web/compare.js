@@ -3,7 +3,13 @@
 
 const SOLID = '', DASHED = '7 4', MOST_WHOLE = 2;
 const HEAD = 36;                        // pixels of a lecture's frame above its net
-const OTHER_QUEUE = 'queue', QUEUE_MEANT = 'codel:5ms:100ms';
+const OTHER_QUEUE = 'queue';
+
+// CoDel for a link, by docs/SCENARIOS.md: RFC 8289's target and interval, or more where a packet and a half take longer than that.
+function codelFor(facts, l) {
+  const greatest = HEADER_BYTES + Math.max(...facts.flows.map(({mss}) => mss)), target = Math.max(5, Math.ceil(1.5 * greatest * 8e3 / facts.links[l].rate));
+  return `codel:${target}ms:${Math.max(100, 10 * target)}ms`;
+}
 
 // The text with another queue at a link; `word` is one of tcpsim-net's, as codel:5ms:100ms. Throws Wrong.
 function withQueue(text, facts, link, word, ranges) {
@@ -40,7 +46,7 @@ class Compare {
     Object.assign(this, {place, engine, texts, ranges, most, lecture, at: name => byId(`both-${name}`)});
     this.form = byId('compare-form');
     this.form.addEventListener('submit', event => { event.preventDefault(); this.start(); });
-    for (const id of ['first', 'second']) byId(`compare-${id}`).addEventListener('change', () => this.offer());
+    for (const id of ['first', 'second', 'link']) byId(`compare-${id}`).addEventListener('change', () => this.offer());
   }
   say(text) { byId('compare-said').textContent = text; }
   // The texts that there are, and the links of the first.
@@ -56,28 +62,45 @@ class Compare {
     byId('compare-queue').hidden = byId('compare-second').value !== OTHER_QUEUE;
     const link = byId('compare-link'), kept = link.value;
     link.textContent = '';
+    let facts;
     try {
-      factsOf(this.textOf('first'), '').links.forEach(({name}, l) => link.append(new Option(name, l)));
+      facts = factsOf(this.textOf('first'), '');
     } catch { return; }         // a text that the program refuses
+    facts.links.forEach(({name}, l) => link.append(new Option(name, l)));
     if (kept && link.options[kept]) link.value = kept;
+    byId('compare-word').placeholder = codelFor(facts, +link.value);
   }
   // Chooses the scenario as it is and what a lecture has beside it: the example that is named, else the same with CoDel at the link
   // that is given, or without it where that has it.
   suggest(example, l) {
-    this.offer();
-    byId('compare-first').value = 'editor';
-    byId('compare-second').value = example ? `example ${example}` : OTHER_QUEUE;
-    this.offer();
+    this.choose(example ? `example ${example}` : OTHER_QUEUE);
     const link = byId('compare-link');
     if (example || !link.options[l]) return;
     link.value = l;
+    this.offer();
     const {queue, limit} = factsOf(this.textOf('first'), '').links[l];
     byId('compare-word').value = queue === 'codel' ? `droptail:${limit}` : '';
+  }
+  // The scenario as it is, and another.
+  choose(second) {
+    this.offer();
+    byId('compare-first').value = 'editor';
+    byId('compare-second').value = second;
+    this.offer();
+  }
+  // What is shared of two runs that are shown, where one is of this text: the other, and the moment.
+  beside(text) {
+    if (!this.shows(text)) return null;
+    const {text: other, title} = this.runs.find(run => run.text !== text) || this.runs[1];
+    return {second: {name: title, text: other}, time: Math.round(this.clock.time)};
   }
   // Whether one of the two that are shown is of this text.
   shows(text) { return !!this.clock && this.runs.some(run => run.text === text); }
   textOf(id) { return this.texts().find(([value]) => value === byId(`compare-${id}`).value)[2]; }
-  nameOf(id) { return byId(`compare-${id}`).selectedOptions[0].textContent; }
+  nameOf(id) {
+    const {value, textContent} = byId(`compare-${id}`).selectedOptions[0];
+    return value.startsWith('example ') ? value.slice(8) : textContent;
+  }
 
   // ---- running both
 
@@ -100,7 +123,7 @@ class Compare {
   }
   second(first) {
     if (byId('compare-second').value !== OTHER_QUEUE) return this.runOf(this.textOf('second'), this.nameOf('second'));
-    const word = byId('compare-word').value.trim() || QUEUE_MEANT, link = +byId('compare-link').value;
+    const word = byId('compare-word').value.trim() || byId('compare-word').placeholder, link = +byId('compare-link').value;
     return this.runOf(withQueue(first.text, first.record.facts, link, word, this.ranges), `${first.record.facts.links[link].name} with ${word}`);
   }
   // A run of a text: {text, record, csv}.
@@ -111,11 +134,11 @@ class Compare {
     };
     const figures = await this.engine.run(['figures'], toBytes(text));
     if (figures.why || figures.status) refuse(figures);
-    const record = new Record(factsOf(text, title)), run = this.engine.start(['run'], toBytes(text), {most: this.most});
+    const record = new Record(factsOf(text, title.replace(/_/g, ' '))), run = this.engine.start(['run'], toBytes(text), {most: this.most});
     await fill(record, run.pieces);
     const ended = await run.ended;
     if (ended.why || ended.status) refuse(ended);
-    return {text, record, csv: new TextDecoder().decode(figures.bytes)};
+    return {text, title, record, csv: new TextDecoder().decode(figures.bytes)};
   }
 
   // ---- showing both
@@ -131,7 +154,7 @@ class Compare {
     const windows = [window, ...frames.map(frame => frame.contentWindow)];
     const within = event => event.view !== window || this.place.contains(event.target) || event.target === document.body && !this.place.closest('[hidden]');
     this.drawCharts();
-    this.clock = new Clock(pages, {at: this.at, windows, told: time => this.charts.forEach(chart => chart.mark(time)),
+    this.clock = new Clock(pages, {at: this.at, windows, told: time => { this.charts.forEach(chart => chart.mark(time)); this.lecture.simulator.note(); },
       listens: event => within(event) && !['SELECT', 'TEXTAREA'].includes(event.target.tagName)});
     this.drawFigures(runs);
     this.layNow();
@@ -219,17 +242,16 @@ class Compare {
   }
   drawFigures(runs) {
     const {ones, all} = differing(runs.map(run => run.csv), runs.map(run => run.record.facts)), table = document.createElement('table');
-    const make = (row, tag, text) => { const cell = document.createElement(tag); cell.textContent = text; row.append(cell); return cell; };
     table.createCaption().textContent = ones.length ? `${number(ones.length)} of ${number(all)} figures differ` : `all ${number(all)} figures are the same`;
     const head = table.createTHead().insertRow();
-    for (const word of ['of', 'figure', ...runs.map(run => run.record.facts.title), 'difference']) make(head, 'th', word).scope = 'col';
+    for (const word of ['of', 'figure', ...runs.map(run => run.record.facts.title), 'difference']) addCell(head, 'th', word).scope = 'col';
     const body = table.createTBody();
     for (const {of, figure, unit, values} of ones) {
       const row = body.insertRow();
-      make(row, 'th', of).scope = 'row';
-      make(row, 'td', UNITS_IN_CELLS.includes(unit) || unit === figure ? figure : `${figure} (${unit})`).className = 'word';
-      for (const value of values) make(row, 'td', value ? inUnits(value, unit) : 'has none').title = value && value !== '-' ? `${number(value)} ${unit}` : 'there is none';
-      make(row, 'td', changeOf(values, unit));
+      addCell(row, 'th', of).scope = 'row';
+      addCell(row, 'td', UNITS_IN_CELLS.includes(unit) || unit === figure ? figure : `${figure} (${unit})`).className = 'word';
+      for (const value of values) addCell(row, 'td', value ? inUnits(value, unit) : 'has none').title = value && value !== '-' ? `${number(value)} ${unit}` : 'there is none';
+      addCell(row, 'td', changeOf(values, unit));
     }
     this.at('figures').append(table);
   }

@@ -88,7 +88,7 @@ class Editor {
   // `judged` is told what the program says of the present text, once it has said it.
   constructor(place, grammar, run) {
     defineColours(grammar);
-    Object.assign(this, {run, marks: [], whole: null, locked: false});
+    Object.assign(this, {run, marks: [], whole: null, locked: false, changed: () => {}});
     this.box = CodeMirror(place, {lineNumbers: true, mode: 'tcpsim', gutters: ['CodeMirror-linenumbers', 'faults'],
       lineWrapping: true, inputStyle: 'textarea', dragDrop: false, extraKeys: {Tab: false, 'Shift-Tab': false}});
     this.box.getInputField().setAttribute('aria-label', 'the scenario');
@@ -98,13 +98,21 @@ class Editor {
       change.cancel();
       this.say('bad', 'this is too long to be edited here: open it as a file');
     });
-    this.box.on('change', () => { clearTimeout(this.timer); this.timer = setTimeout(() => this.judge(), JUDGE_AFTER); });
+    this.box.on('change', (box, {origin}) => {
+      this.edited = origin !== 'setValue';
+      this.changed();
+      clearTimeout(this.timer);
+      this.timer = setTimeout(() => this.judge(), JUDGE_AFTER);
+    });
     new ResizeObserver(() => this.box.refresh()).observe(place);
     this.verdict = document.getElementById('verdict');
     this.explained = document.getElementById('explained');
     this.meaning = document.getElementById('meaning');
     this.meaning.addEventListener('toggle', () => this.explain());
   }
+  // Whether the text was edited since it was opened or saved: then whoever leaves the page is asked.
+  get edited() { return window.onbeforeunload !== null; }
+  set edited(edited) { window.onbeforeunload = edited ? event => event.preventDefault() : null; }
   get text() { return this.whole === null ? this.box.getValue() : this.whole; }
   set text(text) {
     const part = partOf(text);

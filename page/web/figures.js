@@ -1,5 +1,5 @@
 'use strict';
-// The program's figures as tables: of flows, of links and of the run, with names and units.
+// A run's figures: first what people ask, goodput, share, utilization and waits; below them the program's own table, with names and units.
 
 // The rows of the program's table: {what, number, figure, unit, value}.
 function readFigures(csv) {
@@ -8,6 +8,7 @@ function readFigures(csv) {
     return {what, number, figure, unit, value};
   });
 }
+const LITTLE = 0.1, FEW = 4;            // of what the busiest link is used; so many links that carried little are shown
 const UNITS_IN_CELLS = ['ns', 'packet-ns'];
 // A value, of times in the unit that suits it.
 function inUnits(value, unit) {
@@ -16,38 +17,130 @@ function inUnits(value, unit) {
   if (unit === 'packet-ns') return `${+(value / 1e9).toPrecision(6)} packet-s`;
   return number(value);
 }
-
-function drawFigures(place, csv, facts) {
-  const rows = readFigures(csv);
-  place.textContent = '';
-  for (const [what, title, names] of [['flow', 'Flows', facts.flows.map(flow => flow.name)],
-    ['link', 'Links', facts.links.map(link => link.name)], ['run', 'The run', ['']]]) {
-    const own = rows.filter(row => row.what === what), kinds = [];
-    const values = new Map();
-    for (const row of own) {
-      const kind = `${row.figure}|${row.unit}`;
-      if (!values.has(kind)) { values.set(kind, []); kinds.push(row); }
-      values.get(kind)[+row.number] = row.value;
-    }
-    const head = document.createElement('h2');
-    head.textContent = title;
-    const table = document.createElement('table');
-    const make = (row, tag, text) => { const cell = document.createElement(tag); cell.textContent = text; row.append(cell); return cell; };
-    if (what !== 'run') {
-      const row = table.createTHead().insertRow();
-      make(row, 'th', 'figure').scope = 'col';
-      names.forEach(name => { make(row, 'th', name).scope = 'col'; });
-    }
-    const body = table.createTBody();
-    for (const kind of kinds) {
-      const row = body.insertRow();
-      make(row, 'th', UNITS_IN_CELLS.includes(kind.unit) || kind.unit === kind.figure ? kind.figure : `${kind.figure} (${kind.unit})`).scope = 'row';
-      for (const value of values.get(`${kind.figure}|${kind.unit}`))
-        make(row, 'td', inUnits(value, kind.unit)).title = value === '-' ? 'there is none' : `${number(value)} ${kind.unit}`;
-    }
-    const around = document.createElement('div');
-    around.className = 'table';
-    around.append(table);
-    place.append(head, around);
+function addCell(row, tag, text) {
+  const cell = document.createElement(tag);
+  cell.textContent = text;
+  row.append(cell);
+  return cell;
+}
+// A table with these heads; each row has [text, tooltip, part] or a text for each cell. A part from 0 to 1 is a bar too.
+function tableOf(heads, rows) {
+  const around = document.createElement('div'), table = document.createElement('table'), head = table.createTHead().insertRow(), body = table.createTBody();
+  around.className = 'table';
+  around.append(table);
+  for (const text of heads) addCell(head, 'th', text).scope = 'col';
+  for (const cells of rows) {
+    const row = body.insertRow();
+    cells.map(cell => [cell].flat()).forEach(([text, title, part], k) => {
+      const cell = addCell(row, k ? 'td' : 'th', text);
+      if (!k) cell.scope = 'row';
+      if (title) cell.title = title;
+      if (part === undefined) return;
+      const bar = document.createElement('meter');
+      Object.assign(bar, {value: part || 0, ariaHidden: 'true'});
+      cell.append(bar);
+    });
   }
+  return around;
+}
+
+// What people ask of a run, of the program's table and of the trace, where that was kept: `record` or null.
+class Overview {
+  constructor(csv, facts, record) {
+    const values = new Map(readFigures(csv).map(({what, number, figure, value}) => [`${what} ${number} ${figure}`, value === '-' ? null : +value]));
+    Object.assign(this, {facts, record, of: (what, number, figure) => values.get(`${what} ${number} ${figure}`)});
+    const flows = d3.range(facts.flows.length);
+    this.completed = flows.map(f => this.of('flow', f, 'completed'));
+    this.begin = d3.min(facts.flows, ({start}) => start);
+    this.end = Math.max(this.completed.includes(null) ? facts.end : this.of('run', '', 'end'), this.begin + 1);
+    this.goodputs = flows.map(f => {
+      const {start} = facts.flows[f], until = this.completed[f] === null ? this.end : this.completed[f];
+      return start < until ? this.of('flow', f, 'delivered') * 8e9 / (until - start) : null;
+    });
+    this.used = facts.links.map((_, l) => this.of('link', l, 'busy') / (this.end - this.begin));
+    this.compared = comparedFlows(facts, this.goodputs, this.completed);
+  }
+  dropped(l) { return d3.sum(['lost', 'full'], reason => this.of('link', l, `dropped as ${reason}`)) + this.of('link', l, 'dropped by CoDel'); }
+  // The links that carried little beside the busiest and dropped nothing, and that are no bottleneck; none where these are few.
+  carriedLittle() {
+    const most = Math.max(...this.used), bottlenecks = this.facts.flows.map((_, f) => this.bottleneck(f));
+    const found = d3.range(this.used.length).filter(l => this.used[l] < LITTLE * most && !this.dropped(l) && !bottlenecks.includes(l));
+    return found.length > FEW ? found : [];
+  }
+  // The link of a flow's way that was busiest, the first where equal.
+  bottleneck(f) { return this.facts.ways[f][0].reduce((best, l) => this.used[l] > this.used[best] ? l : best); }
+  // The part that a flow has of what its bottleneck sent; null where no trace was kept.
+  share(f) {
+    const {record} = this;
+    if (!record) return null;
+    const track = record.tracks[this.bottleneck(f)], size = entry => HEADER_BYTES + (track.sort[entry] === DATA ? this.facts.flows[track.flow[entry]].mss : 0);
+    return d3.sum(track.sent.filter(entry => track.flow[entry] === f), size) / (d3.sum(track.sent, size) || 1);
+  }
+  // The segments of a flow that were dropped; null where no trace was kept.
+  lost(f) { return this.record && this.record.drops.filter(({flow, sort}) => flow === f && sort === DATA).length; }
+  words() {
+    const {facts, used, begin, end} = this, index = jain(this.compared[0].map(f => this.goodputs[f])), most = used.indexOf(Math.max(...used));
+    return [`Bottleneck: ${facts.links[most].name}, ${percent(used[most])} utilized in ${seconds(end - begin, 3)}.`,
+      `Jain's index of goodput: ${index === null ? '-' : index.toFixed(4)}, ${ofFlows(this.compared)}.`,
+      ...tooShort(facts, begin, end, this.compared[0], portionsOf(this.record, begin, end))];
+  }
+  flowRows() {
+    return this.facts.flows.map(({name}, f) => {
+      const goodput = this.goodputs[f], share = this.share(f), lost = this.lost(f), sent = this.of('flow', f, 'sent'), done = this.completed[f];
+      const least = this.of('flow', f, 'least round trip'), median = this.of('flow', f, 'median round trip');
+      return [name, goodput === null ? '-' : [rateText(+goodput.toPrecision(4)), `${number(Math.round(goodput))} bit/s`, goodput / (Math.max(...this.goodputs) || 1)],
+        share === null ? '-' : [percent(share), `of the bytes that ${this.facts.links[this.bottleneck(f)].name} sent`, share], this.facts.links[this.bottleneck(f)].name,
+        lost === null ? '-' : [percent(lost / (sent || 1)), `${number(lost)} of ${number(sent)} segments`], number(this.of('flow', f, 'timeouts')),
+        ...[least, median].map(trip => trip === null ? '-' : [waitText(trip), `${number(trip)} ns`]), done === null ? '-' : [seconds(done, 3), `${number(done)} ns`]];
+    });
+  }
+  linkRows(links) {
+    return links.map(l => {
+      const wait = part => { const value = this.of('link', l, `${part} delay in the queue`); return value === null ? '-' : [value ? waitText(value) : '0', `${number(value)} ns`]; };
+      const dropped = this.dropped(l), offered = this.of('link', l, 'offered');
+      return [this.facts.links[l].name, [percent(this.used[l]), `${number(this.of('link', l, 'busy'))} ns busy`, Math.min(1, this.used[l])], wait('median'),
+        wait('99th percentile of'), number(this.of('link', l, 'greatest queue')), number(dropped), [percent(dropped / (offered || 1)), `of ${number(offered)} packets`]];
+    });
+  }
+}
+const percent = part => `${(100 * part).toFixed(1)} %`;
+const FLOW_HEADS = ['flow', 'goodput', 'share', 'bottleneck', 'loss', 'timeouts', 'least RTT', 'median RTT', 'complete at'];
+const LINK_HEADS = ['link', 'utilization', 'median wait', '99 % wait', 'most waiting', 'dropped', 'loss'];
+
+function headOf(text) {
+  const head = document.createElement('h2');
+  head.textContent = text;
+  return head;
+}
+function folded(words, ...parts) {
+  const made = document.createElement('details'), summary = document.createElement('summary');
+  summary.textContent = words;
+  made.append(summary, ...parts);
+  return made;
+}
+function drawFigures(place, csv, facts, record) {
+  const seen = new Overview(csv, facts, record), idle = seen.carriedLittle(), busy = d3.range(facts.links.length).filter(l => !idle.includes(l));
+  const said = document.createElement('ul');
+  said.className = 'says';
+  for (const words of seen.words()) said.append(Object.assign(document.createElement('li'), {textContent: words}));
+  place.replaceChildren(said, headOf('Flows'), tableOf(FLOW_HEADS, seen.flowRows()), headOf('Links'), tableOf(LINK_HEADS, seen.linkRows(busy)),
+    ...(idle.length ? [folded(`${many(idle.length, 'link')} carried less than a tenth of the busiest, and dropped nothing`, tableOf(LINK_HEADS, seen.linkRows(idle)))] : []),
+    folded('all figures, as the program counts them', ...wholeTables(csv, facts)));
+}
+// The program's table, whole: of flows, of links and of the run.
+function wholeTables(csv, facts) {
+  const rows = readFigures(csv);
+  return [['flow', 'Flows', facts.flows.map(flow => flow.name)], ['link', 'Links', facts.links.map(link => link.name)], ['run', 'The run', ['the run']]].flatMap(([what, title, names]) => {
+    const values = new Map();
+    for (const {what: of, number: n, figure, unit, value} of rows) {
+      if (of !== what) continue;
+      const kind = `${figure}|${unit}`;
+      if (!values.has(kind)) values.set(kind, []);
+      values.get(kind)[+n] = [inUnits(value, unit), value === '-' ? 'there is none' : `${number(value)} ${unit}`];
+    }
+    return [headOf(title), tableOf(['figure', ...names], [...values].map(([kind, cells]) => {
+      const [figure, unit] = kind.split('|');
+      return [UNITS_IN_CELLS.includes(unit) || unit === figure ? figure : `${figure} (${unit})`, ...cells];
+    }))];
+  });
 }

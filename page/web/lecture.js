@@ -52,7 +52,7 @@ class Lecture {
     else if (simulator.engine) simulator.start();
   }
   // Two runs, or one again. Which two: those that were compared, where one is of the scenario as it is; else the lesson's two
-  // examples, or the scenario and the same with another queue where most packets waited.
+  // examples, or the scenario and the same with another queue: an example, or one where most packets waited.
   compareOrNot() {
     const {simulator} = this, {compare, page, run, editor, title} = simulator, {now} = simulator.lessons;
     if (this.both) { this.show(); return; }
@@ -60,7 +60,7 @@ class Lecture {
     simulator.showTab('compare');
     if (compare.shows(editor.text)) { this.showBoth(); return; }
     const ones = now && now.examples.includes(title) ? now.examples : [], {longest} = page && run.text === editor.text ? page.record : {longest: [0]};
-    compare.suggest(ones.find(name => name !== title), longest.indexOf(Math.max(...longest)));
+    compare.suggest(ones.find(name => name !== title) || simulator.twinOf(editor.text), longest.indexOf(Math.max(...longest)));
     this.setPanel(this.panel);
     compare.start();
   }

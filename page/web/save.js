@@ -7,7 +7,10 @@ class Save {
   constructor(dialog, simulator) {
     Object.assign(this, {dialog, simulator});
     const on = (id, does) => byId(id).addEventListener('click', does), name = ending => `${nameOfFile(simulator.title)}${ending}`;
-    on('save', () => this.give(name('.txt'), [simulator.editor.text], 'text/plain'));
+    on('save', () => {
+      this.give(name('.txt'), [simulator.editor.text], 'text/plain');
+      simulator.editor.edited = false;
+    });
     on('save-image', async () => {
       const {status, note, bytes} = await simulator.engine.run(['asm'], toBytes(simulator.editor.text));
       if (status) this.say(note.trim()); else this.give(name('.tcb'), [bytes], 'application/octet-stream');

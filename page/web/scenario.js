@@ -9,17 +9,18 @@ function* statementsOf(text) {
 
 // The facts that a record and the net's drawing go by, as python/tcpsim/replay/page.py makes them of a file.
 function factsOf(text, title) {
-  const facts = {title, end: 0, nodes: [], links: [], flows: [], ways: [], first: 0, whole: false};
+  const facts = {title, end: 0, nodes: [], links: [], flows: [], ways: [], targets: [], first: 0, whole: false};
   const node = new Map(), link = new Map(), routes = new Map(), leaves = [];
   const read = {
     sim: ([end]) => { facts.end = +end; },
     node: ([name, kind]) => { node.set(name, facts.nodes.length); facts.nodes.push({name, kind}); leaves.push([]); },
-    link: ([name, from, to, rate, delay, queue, limit]) => {
+    link: ([name, from, to, rate, delay, queue, limit, target]) => {
       const port = leaves[node.get(from)];
       link.set(name, facts.links.length);
       facts.links.push({name, from: node.get(from), to: node.get(to), rate: +rate, delay: +delay, queue, own: false, limit: +limit,
         port: port.length});
       port.push(facts.links.length - 1);
+      facts.targets.push(+target);       // of CoDel
     },
     flow: ([name, sender, receiver, mss, segments, start, rwnd, delack, , window]) => {
       facts.flows.push({name, sender: node.get(sender), receiver: node.get(receiver), mss: +mss, segments: +segments,

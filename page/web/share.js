@@ -2,7 +2,8 @@
 // What is shared: a fragment behind the page's address, which has the scenario packed, the view and the position.
 
 const MOST_SHARED = 16777216;           // bytes of a text, as the program takes at most
-const VIEWS = ['net', 'figures', 'trace', 'debug', 'compare'];
+const VIEWS = ['net', 'figures', 'stalls', 'trace', 'debug', 'compare'];
+const MOST_IN_ADDRESS = 8192;           // letters of the page's own address
 const ON_A_DISK = 'This page lies on a disk, so its address means nothing elsewhere. Send this fragment alone: who has the page opens it, puts the ' +
   'fragment behind the page\u2019s address, as tcpsim.html#.., and presses Enter.';
 const ON_A_SERVER = 'Who opens this address sees the scenario, the view and the position.';
@@ -32,18 +33,41 @@ async function unpackedText(word) {
   return new Blob(parts).text();
 }
 
-// The fragment of {text, name, lesson, view, event}; and what a fragment has, null where it is none of these. A lesson alone, as
-// #lesson=3, has no text.
-async function fragmentOf({text, name, lesson, view, event}) {
-  const given = {...(lesson ? {lesson} : {}), name, view, ...(event ? {event} : {}), scenario: await packedText(text)};
-  return `#${new URLSearchParams(Object.entries(given))}`;
+// The fragment of {text, name, lesson, view, event, time, second}; and what a fragment has, null where it is none of these. Texts are
+// those of `examples` by their names, or packed. A lesson alone, as #lesson=3, has no text. `second`, {name, text}, is the run beside.
+async function fragmentOf({text, name, lesson, view, event, time, second}, examples = {}) {
+  const given = {lesson, name, view, event, time}, plain = (one, title) => one === undefined || examples[title] === one;
+  if (!plain(text, name)) given.scenario = await packedText(text);
+  if (second) given.beside = second.name;
+  if (second && !plain(second.text, second.name)) given.second = await packedText(second.text);
+  return `#${new URLSearchParams(Object.entries(given).filter(([, value]) => value))}`;
 }
-async function readFragment(fragment) {
-  const given = new URLSearchParams(fragment.slice(1)), scenario = given.get('scenario');
-  const whole = name => /^\d{1,16}$/.test(given.get(name) || '') ? +given.get(name) : null;
-  if (!scenario && !whole('lesson')) return null;
-  return {text: scenario ? await unpackedText(scenario) : null, name: (given.get('name') || 'scenario').slice(0, 80), lesson: whole('lesson'),
-    view: VIEWS.includes(given.get('view')) ? given.get('view') : 'net', event: whole('event'), runs: given.has('view') || given.has('event')};
+// `kept` is the text where the fragment has none that is packed.
+async function readFragment(fragment, examples = {}, kept = null) {
+  const given = new URLSearchParams(fragment.slice(1)), named = name => (given.get(name) || 'scenario').slice(0, 80);
+  const whole = name => /^\d{1,18}$/.test(given.get(name) || '') ? +given.get(name) : null;
+  const textOf = async (packed, name) => given.has(packed) ? unpackedText(given.get(packed)) : Object.hasOwn(examples, named(name)) ? examples[named(name)] : null;
+  const text = kept === null ? await textOf('scenario', 'name') : kept, lesson = whole('lesson');
+  if (text === null && !lesson) return null;
+  const beside = given.has('beside') ? await textOf('second', 'beside') : null;
+  return {text, name: named('name'), lesson, view: VIEWS.includes(given.get('view')) ? given.get('view') : 'net', event: whole('event'), time: whole('time'),
+    second: beside === null ? null : {name: named('beside'), text: beside}, runs: given.has('view') || given.has('event')};
+}
+
+// The text that the session keeps of a fragment, for when the page is loaded anew.
+const DRAFT = 'tcpsim';
+function keepDraft(fragment, text) {
+  try {
+    sessionStorage.setItem(DRAFT, JSON.stringify({fragment, text}));
+  } catch {         // no room, or no right to it
+    try { sessionStorage.removeItem(DRAFT); } catch { /* the same */ }
+  }
+}
+function draftOf(fragment) {
+  try {
+    const kept = JSON.parse(sessionStorage.getItem(DRAFT));
+    return kept && kept.fragment === fragment && typeof kept.text === 'string' ? kept.text : null;
+  } catch { return null; }
 }
 
 class Share {

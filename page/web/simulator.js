@@ -3,7 +3,7 @@
 
 const byId = id => document.getElementById(id);
 const dataOf = id => JSON.parse(byId(id).textContent);
-const LAY_AFTER = 60;                   // ms after the last change of size
+const LAY_AFTER = 60, NOTE_AFTER = 300;         // ms after the last change of size; of what the address says
 // Whether all stands below each other, as simulator.css has it.
 const isNarrow = () => matchMedia('(max-width: 900px)').matches;
 const BYTE_ORDER_MARK = [0xef, 0xbb, 0xbf];         // of UTF-8
@@ -16,6 +16,7 @@ class Simulator {
     this.examples = dataOf('examples');
     this.lessons = new Lessons(byId('lesson'), dataOf('lessons'), name => this.openExample(name), event => this.goFromLesson(event));
     this.editor = new Editor(byId('editor'), dataOf('grammar'), null);
+    this.editor.changed = () => this.note();
     this.title = 'scenario';
     this.typed = [];                    // at the debugger's prompt
     this.templates = new TemplateForm(byId('template-dialog'), dataOf('templates'), (text, name) => this.openText(text, name));
@@ -89,21 +90,28 @@ class Simulator {
     this.lessons.show(null);
     byId('choose').selectedIndex = -1;
   }
+  // An example that differs from a text by its queues alone.
+  twinOf(text) {
+    const plain = one => [...statementsOf(one)].map(words => (words[0] === 'link' ? words.slice(0, 6) : words).join(' ')).join('\n'), wanted = plain(text);
+    return Object.keys(this.examples).find(name => this.examples[name] !== text && plain(this.examples[name]) === wanted);
+  }
   // What a fragment behind the address has: answers whether it had a scenario.
   async openFragment(fragment = location.hash) {
     const mine = this.asked = {};
     try {
-      const given = await readFragment(fragment);
+      const kept = draftOf(fragment), given = await readFragment(fragment, this.examples, kept);
       if (this.asked !== mine) return true;         // another came while this one was unpacked
       if (!given) return false;
-      history.replaceState(null, '', location.pathname + location.search);
       const lesson = this.lessons.lessons.find(({number}) => number === given.lesson);
       if (lesson) this.openLesson(lesson.number); else if (given.text === null) return false;
       if (given.text !== null) {
-        this.openText(given.text, given.name, 'from the address');
+        this.openText(given.text, given.name, kept === null ? '' : 'as it was edited');
+        this.editor.edited = kept !== null;
         this.lessons.show(lesson || null);
         if (lesson) byId('choose').value = `lesson ${lesson.number}`;
       }
+      const example = `example ${given.name}`;
+      if (!lesson && this.examples[given.name] === given.text) byId('choose').value = example;
       this.wanted = given.runs ? given : null;
       if (this.engine && this.wanted) await this.showShared(this.wanted);
       return true;
@@ -113,19 +121,43 @@ class Simulator {
       return false;
     }
   }
-  async showShared({view, event}) {
+  async showShared({view, event, time, second}) {
     const done = this.start(), {run} = this;
     await done;
+    this.wanted = null;
     if (this.run !== run || !this.page) return;
     if (event) this.goTo(event);
     if (view === 'debug' && event) this.prompt.type(`step ${event}`);
     this.showTab(view);
+    if (!second) return;
+    this.second = second;
+    this.compare.choose(Object.hasOwn(this.examples, second.name) && this.examples[second.name] === second.text ? `example ${second.name}` : 'second');
+    await this.compare.start();
+    if (time && this.compare.clock) this.compare.clock.go(time);
   }
-  // What is shared of the page as it is.
+  // What is shared of the page as it is: its text, and what is seen of its run, or of two.
   shared() {
-    const event = this.page && this.run.text === this.editor.text ? this.page.record.at : null;
-    return {text: this.editor.text, name: this.title, lesson: this.lessons.now && this.lessons.now.number, view: byId('run-side').dataset.view, event};
+    const {text} = this.editor, shown = this.page && this.run.text === text, both = this.view === 'compare' && this.compare ? this.compare.beside(text) : null;
+    return {text, name: this.title, lesson: this.lessons.now && this.lessons.now.number, view: this.view, event: shown ? this.page.record.at : null, ...both};
   }
+  get view() { return byId('run-side').dataset.view; }
+
+  // The address says what is seen, so that it is seen again where the page is loaded anew.
+  note() {
+    clearTimeout(this.noting);
+    this.noting = setTimeout(() => this.keep(), NOTE_AFTER);
+  }
+  async keep() {
+    if (this.wanted) return;            // what the address says is not yet shown
+    const {noting} = this, {view, ...state} = this.shared();
+    if (this.run && this.run.text === state.text || state.second) state.view = view;
+    let fragment = await fragmentOf(state, this.examples);
+    if (fragment.length > MOST_IN_ADDRESS) fragment = await fragmentOf({...state, text: undefined, second: null});
+    if (this.noting !== noting) return;
+    if (location.hash !== fragment) history.replaceState(null, '', fragment);
+    this.keepText();
+  }
+  keepText() { if (this.examples[this.title] !== this.editor.text) keepDraft(location.hash, this.editor.text); }
 
   // ---- the program
 
@@ -152,6 +184,7 @@ class Simulator {
   // Without the program only runs that the page carries are shown.
   withoutProgram() {
     document.documentElement.dataset.ready = 'without';
+    this.wanted = null;
     for (const id of ['run', 'figures', 'save-image']) byId(id).disabled = true;
     this.editor.lock(true);
     byId('verdict').textContent = '';
@@ -200,11 +233,13 @@ class Simulator {
     const counted = await run.ended;
     if (this.run !== mine || counted.why || counted.status) return counted;
     mine.csv = await new Blob(parts).text();
-    drawFigures(byId('figures-table'), mine.csv, factsOf(mine.text, mine.title));
+    this.drawFigures(mine);
     byId('save-figures').disabled = false;
     if (!mine.record) this.showTab('figures');
     return counted;
   }
+  // What is known of the run by now.
+  drawFigures({csv, text, title, record}) { if (csv) drawFigures(byId('figures-table'), csv, factsOf(text, title), this.page && this.page.record === record ? record : null); }
   // Keeps the trace, and shows it. Answers what is to be said, '' where there is nothing, null where there were too many events.
   async keepTrace(input, mine, most, wanted) {
     const run = mine.trace = this.engine.start(['run', '--explain'], input, {most, pages: this.mostPages});
@@ -235,6 +270,7 @@ class Simulator {
     if (lacks) { record = mine.record = null; return 'no memory in this page for the trace: figures alone want none'; }
     if (ended.why === 'long') { mine.record = null; return null; }
     if (record.count) this.showRun(record, mine.title);
+    this.drawFigures(mine);
     return ended.why || ended.status ? `${this.reason(ended)}: what is shown ends at ${seconds(record.times[record.count])}` : '';
   }
   // A run that has more events than are kept unasked.
@@ -257,6 +293,7 @@ class Simulator {
   }
   // Ends what runs, of which nothing is shown: the scenario is another.
   endRun() {
+    this.wanted = null;
     if (byId('stop').disabled) return;
     this.stop();
     this.run = {...this.run};
@@ -274,7 +311,8 @@ class Simulator {
   // What can be compared: [value, name, text] each.
   texts() {
     const shown = this.page && this.run ? [['run', `the run shown: ${this.run.title.replace(/_/g, ' ')}`, this.run.text]] : [];
-    return [['editor', `${this.title.replace(/_/g, ' ')}, as it is now`, this.editor.text], ...shown,
+    const second = this.second ? [['second', this.second.name.replace(/_/g, ' '), this.second.text]] : [];
+    return [['editor', `${this.title.replace(/_/g, ' ')}, as it is now`, this.editor.text], ...shown, ...second,
       ...Object.entries(this.examples).map(([name, text]) => [`example ${name}`, name.replace(/_/g, ' '), text])];
   }
 
@@ -285,11 +323,11 @@ class Simulator {
     if (this.page) this.page.end();
     if (this.list) this.list.end();
     if (this.prompt) this.prompt.end();
-    this.page = this.list = this.prompt = window.page = null;
-    for (const id of ['tab-net', 'all-lines', 'figures-table', 'debugger']) byId(id).textContent = '';
+    if (this.stalls) this.stalls.end();
+    this.page = this.list = this.prompt = this.stalls = window.page = null;
+    for (const id of ['tab-net', 'all-lines', 'figures-table', 'stall-list', 'debugger']) byId(id).textContent = '';
     byId('save-trace').disabled = byId('save-figures').disabled = true;
     byId('progress').value = 0;
-    if (/^#event=/.test(location.hash)) history.replaceState(null, '', location.pathname + location.search);
   }
   showRun(record, title) {
     if (this.page) this.page.end();
@@ -300,19 +338,22 @@ class Simulator {
     place.append(byId('view').content.cloneNode(true));
     this.lecture.addKeys(place.querySelector('#keys'));
     this.lessons.putHead(place.querySelector('h1'), title);
-    this.page = window.page = new Page(record);
+    this.page = window.page = new Page(record, {told: () => this.note(), causes: 'the tab stalls says why'});
     this.lecture.arrange();
     this.list = new TraceList(byId('all-lines'), record, event => this.goTo(event));
     byId('save-trace').disabled = false;
     // Where all stands below each other, the run is brought into view.
     if (this.engine && isNarrow()) byId('run-side').scrollIntoView();
-    if (this.engine)
-      this.prompt = new Prompt(byId('debugger'), this.engine, this.run.text, {facts: record.facts, go: event => this.goTo(event), history: this.typed});
+    if (!this.engine) return;
+    this.stalls = new StallList(byId('stall-list'), this.engine, this.run.text, record, stall => this.goToStall(stall));
+    this.prompt = new Prompt(byId('debugger'), this.engine, this.run.text, {facts: record.facts, go: event => this.goTo(event), history: this.typed});
   }
   // Of which proof the program is, and the licenses of what the page has besides.
   showAbout() {
-    const {verdict, module, program, wasm} = dataOf('about');
-    byId('about-text').textContent = `The program in this page and the native one are made of one module, of which the prover said:
+    const {version, verdict, module, program, wasm} = dataOf('about');
+    byId('about-text').textContent = `tcpsim ${version}
+
+The program in this page and the native one are made of one module, of which the prover said:
 
 ${verdict}
 
@@ -327,6 +368,11 @@ ${dataOf('licenses').join('\n\n')}`;
     if (!this.page) return;
     this.page.jump(event);
     this.list.show(this.page.record.at);
+  }
+  goToStall({event, flow, from, to}) {
+    this.showTab('net');
+    this.goTo(event);
+    this.page.say(`${this.page.facts.flows[flow].name}: no new acknowledgement for ${seconds(to - from)}`);
   }
   goFromLesson(event) {
     if (!this.page) { this.say('run the scenario first: then a line of the text leads to its event'); return; }
@@ -343,7 +389,9 @@ ${dataOf('licenses').join('\n\n')}`;
     }
     // The debugger has the net above it, which goes to its position.
     byId('run-side').dataset.view = name;
+    this.note();
     if (name === 'debug') byId('tab-net').hidden = false;
+    if (name === 'stalls' && this.stalls) this.stalls.show();
     if (name === 'compare' && this.compare) this.compare.offer();
     if (name === 'trace' && this.list) this.list.show(this.page.record.at);
   }
@@ -397,6 +445,7 @@ ${dataOf('licenses').join('\n\n')}`;
       clearTimeout(timer);
       timer = setTimeout(() => { if (this.page && byId('tab-net').clientWidth) this.page.lay(); }, LAY_AFTER);
     }).observe(byId('tab-net'));
+    window.addEventListener('pagehide', () => this.keepText());
     window.addEventListener('hashchange', async ({newURL}) => {
       if (!await this.openFragment(new URL(newURL).hash) && this.list && this.page) this.list.show(this.page.record.at);
     });

@@ -3,9 +3,29 @@
 
 const LINE = 18, MOST_TALL = 8e6;       // pixels: a line's height, and what a browser lets an element be high
 
+// A line with names and units beside its numbers, in columns: number, moment, node, what happens to which flow or link, the state.
+function readable(facts, line, wide) {
+  const [n, time, node, , , kind, name, ...rest] = line.split(' '), packet = kind === 'data' || kind === 'ack';
+  const whose = kind === 'free' ? facts.links[name].name : `${facts.flows[name].name}${packet ? ` ${number(rest.shift())}` : ''}`;
+  const state = rest.map(word => {
+    const [key, value] = word.split('='), [first, flow, seq] = value.split(':');
+    if (key === 'tx') return `${facts.links[first].name} sends ${facts.flows[flow].name} ${number(seq)}`;
+    if (key === 'drop') return `drops ${facts.flows[flow].name} ${number(seq)} (${first})`;
+    return key === 'phase' ? word : `${key}=${number(value)} B`;
+  });
+  return `${number(n).padStart(wide.number)}  ${seconds(+time, 6).padStart(wide.time)}  ${facts.nodes[node].name.padEnd(wide.node)}  ` +
+    `${`${kind} ${whose}`.padEnd(wide.what)}  ${state.join('  ')}`;
+}
+// How wide the columns are of a record's lines.
+function widthsOf({facts, last, times, count}) {
+  const name = ones => Math.max(...ones.map(({name: one}) => one.length));
+  return {number: number(last).length, time: seconds(times[count], 6).length, node: name(facts.nodes),
+    what: Math.max(name(facts.flows) + 16, name(facts.links) + 5)};
+}
+
 class TraceList {
   constructor(place, record, go) {
-    Object.assign(this, {place, record, go, at: 0, rows: []});
+    Object.assign(this, {place, record, go, at: 0, rows: [], wide: widthsOf(record)});
     place.textContent = '';
     this.box = document.createElement('div');
     this.box.className = 'lines';
@@ -24,7 +44,12 @@ class TraceList {
     const button = document.createElement('button');
     button.textContent = 'find next';
     this.told = document.createElement('output');
-    find.append(word, button, this.told);
+    const exact = document.createElement('label'), box = this.exact = document.createElement('input');
+    box.type = 'checkbox';
+    box.addEventListener('change', () => this.draw());
+    exact.append(box, ' exact lines');
+    exact.title = 'the lines as the program writes them; a line\u2019s tooltip has it too';
+    find.append(word, button, exact, this.told);
     find.addEventListener('submit', event => { event.preventDefault(); this.find(word.value); });
     place.append(find, this.box);
     this.tall = Math.min(MOST_TALL, record.count * LINE);
@@ -60,7 +85,8 @@ class TraceList {
       row.hidden = k >= many;
       if (k >= many) { delete row.dataset.event; return; }
       const event = record.first + top + k + 1, line = record.line(event);
-      row.textContent = line;
+      row.textContent = this.exact.checked ? line : readable(record.facts, line, this.wide);
+      row.title = line;
       row.dataset.event = event;
       row.className = (event === this.at ? 'present' : '') + (line.includes(' drop=') ? ' dropping' : '');
     });
@@ -75,7 +101,7 @@ class TraceList {
     }
     this.draw();
   }
-  // Goes to the next line that has these words, from the present one on and then from the first on.
+  // Goes to the next line that has these words, exact or as it is shown, from the present one on and then from the first on.
   async find(text) {
     const {record} = this, token = this.searching = {};
     if (!text || !record.count) return;
@@ -83,7 +109,8 @@ class TraceList {
     let begun = performance.now();
     for (let k = 0; k < count; k++) {
       const event = record.first + (start - record.first + k) % count + 1;
-      if (record.line(event).includes(text)) { this.told.textContent = `line ${number(event)}`; this.go(event); return; }
+      const line = record.line(event);
+      if (line.includes(text) || readable(record.facts, line, this.wide).includes(text)) { this.told.textContent = `line ${number(event)}`; this.go(event); return; }
       if (k % 64 || performance.now() - begun < TURN) continue;
       this.told.textContent = `looked at ${number(k)} lines`;
       await pause();

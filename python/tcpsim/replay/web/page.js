@@ -24,10 +24,11 @@ function fit(element) {
 }
 
 class Page {
-  // Shows a record in the elements of view.html, until `end`.
-  constructor(record) {
+  // Shows a record in the elements of view.html, until `end`. A page around it that has an address of its own is `told` where
+  // this one is; `causes` says where a stall's cause is found.
+  constructor(record, {told = null, causes = 'tcpsim-stalls says why'} = {}) {
     this.ended = new AbortController();
-    Object.assign(this, {record, facts: record.facts, time: record.times[0], playing: false, picked: null, frames: 0});
+    Object.assign(this, {told, causes, record, facts: record.facts, time: record.times[0], playing: false, picked: null, frames: 0});
     this.sayLeft();
     this.makeTicks();
     this.keepRoom();
@@ -107,12 +108,13 @@ class Page {
     this.show();
   }
   fromAddress() {
-    const found = /^#event=(\d{1,16})$/.exec(location.hash);
+    const found = !this.told && /^#event=(\d{1,16})$/.exec(location.hash);
     if (!found) { this.show(); return; }
     if (this.playing) this.play(false);
     this.goEvent(+found[1]);
   }
   address() {
+    if (this.told) { this.told(this.record.at); return; }
     if (document.documentElement.classList.contains('within')) return;      // the page around it has the address
     const words = `#event=${this.record.at}`;
     if (location.hash !== words) history.replaceState(null, '', words);
@@ -349,7 +351,7 @@ class Page {
     if (what === 'stall') {
       const stalls = this.record.stalls.filter(stall => stall.event === this.record.at);
       this.say(stalls.map(stall => `${this.facts.flows[stall.flow].name}: no new acknowledgement for ${seconds(stall.to - stall.from)}`).join('; ') +
-        ' (tcpsim-stalls says why)');
+        ` (${this.causes})`);
     }
   }
   say(words) {
