@@ -150,6 +150,8 @@ def test_by_the_keyboard_alone(calm):
     assert browser.value('document.activeElement.dataset.tab') == 'figures'
     assert browser.value('!!document.querySelector("#tab-figures table").checkVisibility()')
     press(browser, 'ArrowRight')
+    assert browser.value('document.activeElement.dataset.tab') == 'stalls'
+    press(browser, 'ArrowRight')
     tab_to(browser, '.lines')
     press(browser, 'ArrowDown', 'ArrowDown', 'ArrowDown')
     assert browser.value('page.record.at') == 4
