@@ -15,6 +15,7 @@ import clone
 def pytest_addoption(parser):
     parser.addoption('--program', metavar='FILE', help='the program to try (left out: the built one, or else the model)')
     parser.addoption('--steps', type=int, metavar='N', help='how many steps of its grammar the prompt has (left out: all)')
+    parser.addoption('--every-picture', action='store_true', help='draw all that test_plot_layout has (left out: some, at random)')
 
 
 def pytest_configure(config):

@@ -4,6 +4,7 @@
 Usage: dev/pictures.py [NAME...]
 """
 import os
+import shlex
 import sys
 
 from clone import TOP
@@ -58,6 +59,12 @@ BARS = {'where_the_time_went': ({'drop-tail': 'bufferbloat', 'CoDel': 'bufferblo
 
 def file_of(name):
     return os.path.join(FOLDER, name + '.svg')
+
+
+def command_of(name):
+    """The command that draws it, from the top of a clone."""
+    words = [os.path.relpath(word, TOP) if word.startswith(TOP) else word for word in PICTURES[name] if not word.endswith('.trace')]
+    return shlex.join(['bin/tcpsim-plot', *words, '-o', f'{name}.svg'])
 
 
 def figure_of(name):

@@ -9,6 +9,7 @@ import html
 import io
 import os
 import re
+import shlex
 import signal
 import subprocess
 import sys
@@ -17,7 +18,7 @@ from types import SimpleNamespace
 
 import pytest
 
-from clone import BIN, TOP, Folder
+from clone import BIN, TOP, Folder, read_text
 
 pytest.importorskip('matplotlib', reason='no matplotlib: apt-get install python3-matplotlib')
 import numpy as np  # noqa: E402
@@ -86,6 +87,12 @@ def marks(axes):
     return found
 
 
+def key_of(drawn):
+    """The texts of the key of a figure or of a panel."""
+    legend = drawn.legends[0] if isinstance(drawn, Figure) else drawn.get_legend()
+    return [text.get_text() for text in legend.get_texts()]
+
+
 class TestPicturesOfTheDocuments:
     def test_each_shows_what_is_drawn_anew(self):
         for name in pictures.PICTURES:
@@ -103,6 +110,18 @@ class TestPicturesOfTheDocuments:
         with open(os.path.join(TOP, 'docs', 'TUTORIAL.md'), encoding='utf-8') as file:
             named = set(re.findall(r'\(pictures/(\w+)\.svg\)', file.read()))
         assert named - {'sweep', 'dumbbell'} == {*pictures.PICTURES, *pictures.BARS}
+
+    def test_below_each_is_its_command(self):
+        page = read_text('docs', 'TUTORIAL.md')
+        for name in pictures.PICTURES:
+            below = page.partition(f'(pictures/{name}.svg)\n')[2]
+            assert below.startswith((f'`{pictures.command_of(name)}`\n', f'\n```\n{pictures.command_of(name)}\n```\n')), name
+        command = pictures.command_of('reno_and_newreno')
+        assert command.startswith('bin/tcpsim-plot examples/three_losses_in_a_window.txt --beside examples/three')
+        words = shlex.split(command)[1:]
+        paths = [word if not word.startswith('examples/') else os.path.join(TOP, word) for word in words]
+        given, whole = plot.words_of(paths), plot.words_of([*pictures.PICTURES['reno_and_newreno'], '-o', 'reno_and_newreno.svg'])
+        assert vars(given) == {**vars(whole), 'trace': None, 'beside': [whole.beside[0][:1]]}
 
     def test_no_label_covers_another_or_a_span_that_is_left_out(self):
         for name in ('two_timeouts_in_a_row', 'a_lost_retransmission', 'sawtooth_of_congestion_avoidance'):
@@ -262,8 +281,8 @@ class TestWindows(Drawn):
         # At most 6000 bytes are in flight: a window of 6500 has no room for one segment more, one of 7000 has.
         def drawn(rwnd):
             run = self.write(f'rwnd{rwnd}', BY_HAND.replace('64000', str(rwnd)), TRACE.replace('64000', str(rwnd)))
-            key, window = self.figure(*run, '--panels', 'window').get_axes()
-            return curves(window).get(style.RECEIVER), [text.get_text() for text in key.get_legend().get_texts()]
+            figure = self.figure(*run, '--panels', 'window')
+            return curves(*figure.get_axes()).get(style.RECEIVER), key_of(figure)
         line, key = drawn(6500)
         assert line == [(0, 6.5), (12, 6.5)]
         assert 'receiver\'s window, 6.5 kB' in key
@@ -316,7 +335,7 @@ class TestWindows(Drawn):
 
     def test_the_key_names_what_is_in_sight(self):
         def key(*run):
-            return [text.get_text() for text in self.figure(*run).get_axes()[0].get_legend().get_texts()]
+            return key_of(self.figure(*run))
         assert 'ssthresh (first above: 64 kB)' in key(*self.hand)
         # from 9 ms on it is 2500 and nothing above
         assert 'ssthresh' in key(*self.hand, '--from', '9ms')
@@ -368,7 +387,7 @@ class TestStalls(Drawn):
         assert '1,00' in ''.join(text.get_text() for text in sequence.get_xticklabels())
         texts = [text.get_text() for text in sequence.texts]
         assert '0 lost' in texts
-        assert [text for text in texts if text.endswith('without an event')], texts
+        assert 'no event\nfor 1 s' in texts
         assert len(marks(sequence)['+']) == 1
         assert len(marks(sequence)['o']) == 1
 
@@ -437,7 +456,7 @@ class TestLinks(Drawn):
             figure = self.figure(*words)
             figure.draw_without_rendering()
             all_axes = figure.get_axes()
-            for legend in filter(None, (axes.get_legend() for axes in all_axes)):
+            for legend in [*figure.legends, *filter(None, (axes.get_legend() for axes in all_axes))]:
                 box = legend.get_window_extent()
                 for axes in all_axes:
                     if axes.axison:

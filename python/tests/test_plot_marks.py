@@ -15,17 +15,12 @@ from tcpsim.plot import broken, link_panels, losses, spans, style, timers  # noq
 from tcpsim.plot.picture import FlowView, LinkView, Picture  # noqa: E402
 from tcpsim.walk import Walk  # noqa: E402
 from tcpsim.whole_trace import opened_run  # noqa: E402
-from test_plot import MS, Drawn, S, marks  # noqa: E402
+from test_plot import MS, Drawn, S, key_of, marks  # noqa: E402
 
 
 def panels_of(figure):
     """The panels of a figure by their titles."""
     return {axes.get_title(loc='left'): axes for axes in figure.get_axes() if axes.axison}
-
-
-def key_of(axes):
-    """The texts of a panel's key."""
-    return [text.get_text() for text in axes.get_legend().get_texts()]
 
 
 class Timers(Walk):
@@ -73,7 +68,7 @@ class TestTheTimer(Drawn):
         assert [x for x, _ in marks(axes)['.']][0] == pytest.approx(3.08)
         assert 'D' not in marks(axes)
         assert axes.get_title(loc='right') != 'no round trip is measured'
-        assert 'new ack, measures a round trip' in key_of(self.figure(*self.hand, '--panels', 'timer').get_axes()[0])
+        assert 'new ack, measures a round trip' in key_of(self.figure(*self.hand, '--panels', 'timer'))
 
     def test_of_several_flows(self):
         words = [*pictures.run_of('lock_out_at_equal_times'), '--panels', 'timer']
@@ -180,7 +175,7 @@ class TestSignsAreApart:
     def test_lost_and_ack_lost_have_other_shapes(self):
         axes = panels_of(pictures.figure_of('a_timer_that_stays_doubled'))['flow f: sequence numbers']
         assert len(marks(axes)['+']) == 4 and len(marks(axes)['1']) == 1
-        key = key_of(pictures.figure_of('a_timer_that_stays_doubled').get_axes()[0])
+        key = key_of(pictures.figure_of('a_timer_that_stays_doubled'))
         assert '4 lost by the scenario\'s list' in key and '1 ack lost by the scenario\'s list' in key
 
 
@@ -195,7 +190,7 @@ class TestBands:
 
     def test_each_has_its_colour_and_its_name(self):
         figure = pictures.figure_of('a_lost_retransmission')
-        key = figure.get_axes()[0].get_legend()
+        key, = figure.legends
         names = [text.get_text() for text in key.get_texts()]
         assert 'recovery, no new ack' in names and 'no new ack for over 200 ms' in names
         drawn = {patch.get_facecolor() for patch in panels_of(figure)['flow f: congestion window'].patches if not patch.get_hatch()}

@@ -12,7 +12,7 @@ from tcpsim.curves import read_run  # noqa: E402
 from tcpsim.plot import notes, spans, style  # noqa: E402
 from tcpsim.plot.points import growth  # noqa: E402
 from tcpsim.scenario.text import Scenario  # noqa: E402
-from test_plot import MS, Drawn, S, marks  # noqa: E402
+from test_plot import MS, Drawn, S, key_of, marks  # noqa: E402
 from test_trace import TRACE  # noqa: E402
 
 
@@ -64,7 +64,7 @@ class TestNotes(Drawn):
         assert 'flow fa, round trip ≥ 43 ms: congestion window' in titles
         assert 'flow fb, round trip ≥ 441 ms: congestion window' in titles
         texts = [text.get_text() for axes in figure.get_axes() for text in axes.texts]
-        assert 'beyond ssthresh +3.2 kB a second' in texts and 'sb→p→q→rb, beyond ssthresh +1.1 kB a second' in texts
+        assert 'beyond ssthresh +3.2 kB a second' in texts and 'beyond ssthresh +1.1 kB a second' in texts
         progress = figure.get_axes()[-1].get_legend().get_texts()
         assert [text.get_text() for text in progress] == ['fa, round trip ≥ 43 ms: 335 kB', 'fb, round trip ≥ 441 ms: 69 kB']
         alike = pictures.figure_of('two_flows_share_fairly')
@@ -82,16 +82,13 @@ class TestNotes(Drawn):
 
 
 class TestSigns(Drawn):
-    def key(self, axes):
-        return [text.get_text() for text in axes.get_legend().get_texts()]
-
     def test_losses_have_a_row_for_each_link_where_these_are_several(self):
         figure = pictures.figure_of('parking_lot_of_three_routers')
         panels = {axes.get_title(loc='left'): axes for axes in figure.get_axes() if axes.axison}
         names = {'fa': ' 102 ms', 'fb': ' 71 ms', 'fc': ' 71 ms'}
         of = {name: panels[f'flow {name}, round trip ≥{trip}'] for name, trip in names.items()}
         rows = {name: {y for line in axes.lines if line.get_marker() == 'x' for y in line.get_ydata()} for name, axes in of.items()}
-        assert len(rows['fa']) == 2 and rows['fb'] == {max(rows['fa'])} and rows['fc'] == {min(rows['fa'])}
+        assert len(rows['fa']) == 2 and rows['fb'] == rows['fc'] == {max(rows['fa'])}        # of a link at which none was lost none
         named = {name: [text.get_text() for text in axes.texts if text.get_text() in ('pq', 'qu')] for name, axes in of.items()}
         assert named == {'fa': ['pq', 'qu'], 'fb': ['pq'], 'fc': ['qu']}
         # a colour is a flow's, in each panel
@@ -100,8 +97,8 @@ class TestSigns(Drawn):
             assert crosses[of[name].get_title(loc='left')] == {color}
         assert crosses['packets that wait at pq'] == {style.BLUE, style.RUST}
         assert crosses['packets that wait at qu'] == {style.BLUE, style.GREEN}
-        assert self.key(figure.get_axes()[0])[-1] == '35 dropped: queue full'
-        assert [self.key(panels[f'packets that wait at {link}'])[-1] for link in ('pq', 'qu')] == ['17 dropped: queue full',
+        assert key_of(figure)[-1] == '35 dropped: queue full'
+        assert [key_of(panels[f'packets that wait at {link}'])[-1] for link in ('pq', 'qu')] == ['17 dropped: queue full',
                                                                                                   '18 dropped: queue full']
         low, high = panels['packets that wait at pq'].get_ylim(), panels['packets that wait at qu'].get_ylim()
         assert low == high
@@ -118,7 +115,7 @@ class TestSigns(Drawn):
         assert sorted(line.get_xdata()) == pytest.approx(dropped)
         assert sign not in marks(panels['flow f: congestion window'])
         queue = panels['packets that wait in the queue']
-        assert self.key(queue) == ['33 acks dropped: queue full']
+        assert key_of(queue) == ['33 acks dropped: queue full']
         assert {line.get_color() for line in queue.lines if line.get_marker() == sign} == {style.OF_ACKS}
 
     def test_duplicates_and_acknowledgements_that_were_held_back(self):
@@ -134,7 +131,7 @@ class TestSigns(Drawn):
         arrived = max(read_run(*pictures.run_of('delayed_acks_and_their_alarm')).flows[0].next_times)
         assert list(read_run(*pictures.run_of('delayed_acks_and_their_alarm')).flows[0].alarm_times) == [arrived + 100 * MS]
         assert [y for _, y in marks(sequence)['>']] == [9]
-        assert 'ack that was held back for 100 ms' in self.key(figure.get_axes()[2])
+        assert 'ack that was held back for 100 ms' in key_of(figure)
 
     def test_timeouts_say_how_long_the_timer_ran(self):
         def said(name):
@@ -177,7 +174,7 @@ class TestSigns(Drawn):
                  'window=20k,queue=10,delay=5ms,progress=40k']
         panels = self.panels(*words)
         assert panels['flow f: congestion window'].get_ylim()[1] == pytest.approx(20 * 1.12)
-        assert panels['packets that wait in the queue'].get_ylim()[1] == pytest.approx(10 * (1.12 + 3 * .045) + .5)
+        assert panels['packets that wait in the queue'].get_ylim()[1] == pytest.approx(10 * (1.12 + .18) + .5)
         assert panels['delay in the queue of each packet sent'].get_ylim()[1] == pytest.approx(5 * 1.12)
         assert panels['bytes acknowledged of flow f'].get_ylim()[1] == pytest.approx(40 * 1.06)
         # what is higher is drawn whole

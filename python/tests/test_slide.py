@@ -15,6 +15,7 @@ import pictures
 from matplotlib.figure import Figure
 from tcpsim import plot
 from tcpsim.plot import broken, choice, slide, style
+from test_plot import key_of
 from test_trace import BY_HAND, TRACE
 
 MS, S = 10**6, 10**9
@@ -162,9 +163,9 @@ def test_the_receivers_window_only_where_it_binds(hand):
     assert broken.binds(view_of((0, 10), (4000, 9000), rwnd=9500), shown())
     assert not broken.binds(view_of((0, 10), (4000, 8000), rwnd=9500), shown())
     assert not broken.binds(view_of((0, 10), (4000, 9000), rwnd=9500), shown(0, 5))
-    key = [text.get_text() for text in figure(*hand).get_axes()[0].get_legend().get_texts()]
+    key = key_of(figure(*hand))
     assert not [text for text in key if 'receiver' in text]
-    key = [text.get_text() for text in figure(*example('acks_share_the_bottleneck')).get_axes()[0].get_legend().get_texts()]
+    key = key_of(figure(*example('acks_share_the_bottleneck')))
     assert 'receiver\'s window, 16 kB' in key
 
 
@@ -247,7 +248,8 @@ def test_letters_can_be_read_at_600_pixels():
     drawn = pictures.figure_of('fast_recovery')
     assert drawn.get_size_inches()[0] == 10
     drawn.draw_without_rendering()
-    sizes = [text.get_fontsize() for axes in drawn.get_axes() for text in
+    sizes = [text.get_fontsize() for text in drawn.legends[0].get_texts()]
+    sizes += [text.get_fontsize() for axes in drawn.get_axes() for text in
              (*axes.texts, axes.title, *axes.get_xticklabels(), *axes.get_yticklabels(),
               *(axes.get_legend().get_texts() if axes.get_legend() else ()))]
     assert min(sizes) * 600 / 720 >= 7

@@ -65,7 +65,7 @@ def set_heights(axes: Axes, axis: Axis, scale: int, most: int, low: float | None
     locator = MaxNLocator(most, steps=STEPS)
     if axis.top <= axis.knee:
         axes.set_ylim(low, knee)
-        axes.yaxis.set_major_locator(locator)
+        axes.yaxis.set_major_locator(FixedLocator([tick for tick in locator.tick_values(0, knee) if 0 <= tick <= knee]))
         return
     rest = ABOVE * knee / (1.06 * top - knee)
 

@@ -17,9 +17,9 @@ from tcpsim.curves import Run, read_run
 from tcpsim.whole_trace import inputs_of
 
 from .clock import Clock, Cut, idle_spans, length_text
-from .layout import FIRST_CHOICE, PANELS
+from .layout import FIRST_CHOICE, OF_MANY, PANELS
 from .notes import differences, flow_notes, link_note, only_acks, trip_text
-from .picture import FlowView, LinkView, Picture
+from .picture import MOST_FLOWS, FlowView, LinkView, Picture
 
 S = 10**9
 MOST_LINKS = 4
@@ -78,7 +78,7 @@ def words_of(given: list[str] | None = None) -> argparse.Namespace:
         words.error(f'--names has {len(given.names)}, and there are {1 + len(given.beside)} runs')
     if given.slide and len(given.panels or ['window']) > 1:
         words.error(f'--slide draws one panel, and --panels names {len(given.panels)}')
-    given.panels = given.panels or (['window'] if given.slide else list(FIRST_CHOICE))
+    given.panels = given.panels or (['window'] if given.slide else [])
     return given
 
 
@@ -90,11 +90,12 @@ def add_words(words: Words) -> None:
     words.add_argument('-o', '--output', dest='file', metavar='FILE', required=True, type=picture_file,
                        help='what is written: .png, .svg or .pdf')
     words.add_argument('--panels', type=panel_names,
-                       help=f'of {",".join(PANELS)}; else {",".join(FIRST_CHOICE)}')
+                       help=f'of {",".join(PANELS)}; else {",".join(FIRST_CHOICE)}, '
+                            f'and of more than two flows {",".join(OF_MANY)}')
     words.add_argument('--flow', '--flows', dest='flows', type=list_of_names, metavar='NAMES',
-                       help='names, else all; the links are then those of their ways')
+                       help='names, else all, or the four that carry most; the links are then those of their ways')
     words.add_argument('--link', '--links', dest='links', type=list_of_names, metavar='NAMES',
-                       help='names, else those where packets waited longest')
+                       help='names, else those where packets of several flows waited longest')
     words.add_argument('--from', dest='begin', type=moment, metavar='T',
                        help='a time, as 5s or 20ms; else the first flow\'s start')
     words.add_argument('--to', dest='end', type=moment, metavar='T', help='else a little after the end of the run')
@@ -233,14 +234,25 @@ def moments(runs: Iterable[Run]) -> np.ndarray:
 
 
 def worst_links(run: Run, window: tuple[int, int], among: Iterable[int]) -> list[int]:
-    """Of these links those at which packets waited longest in all within the window, if a tenth as long as
-    at the worst; where none waited the busiest. In the scenario's order."""
+    """Of these links those at which packets of several flows waited longest in all within the window, if a tenth as long as at
+    the worst, and before them the one at which a single flow's waited longer than at any of these; where none waited the busiest.
+    In the scenario's order."""
     waited = {number: within(run.links[number].wait_times, run.links[number].waits, window) for number in among}
     if not any(waited.values()):
         waited = {number: within(run.links[number].busy_from, np.asarray(run.links[number].busy_to) -
                                  np.asarray(run.links[number].busy_from), window) for number in among}
-    ranked = sorted(waited, key=lambda number: (-waited[number], number))[:MOST_LINKS]
-    return sorted(number for number in ranked if waited[number] * 10 >= waited[ranked[0]])
+    shared = {number: waited[number] for number in waited if waited[number] and len(set(run.links[number].taken_of)) > 1}
+    worst = max(waited, key=lambda number: (waited[number], -number))
+    ranked = sorted(shared or waited, key=lambda number: (-waited[number], number))
+    chosen = [worst] * (worst not in ranked) + [number for number in ranked if waited[number] * 10 >= waited[ranked[0]]]
+    return sorted(chosen[:MOST_LINKS])
+
+
+def most_carried(run: Run, window: tuple[int, int], most: int) -> list[int]:
+    """The flows of which most bytes were acknowledged within the window, so many at most, in the scenario's order."""
+    carried = [int(np.diff(np.asarray([0, *flow.una])[np.searchsorted(flow.una_times, window, side='right')])[0])
+               for flow in run.flows]
+    return sorted(sorted(range(len(carried)), key=lambda number: (-carried[number], number))[:most])
 
 
 def within(times: ArrayLike, lengths: ArrayLike, window: tuple[int, int]) -> int:
@@ -257,7 +269,8 @@ def ways_of(run: Run, flows: Iterable[int]) -> list[int]:
 def shown_of(given: argparse.Namespace, run: Run, window: tuple[int, int],
              most_links: int | None = None) -> tuple[list[int], list[int]]:
     """The flows and links of a run that are shown, by their numbers."""
-    flows = list(range(len(run.flows))) if given.flows is None else named(given.flows, run.scenario.flows, 'flow')
+    flows = most_carried(run, window, max(1, MOST_FLOWS // (1 + len(given.beside)))) if given.flows is None else \
+        named(given.flows, run.scenario.flows, 'flow')
     if given.links is not None:
         return flows, named(given.links, run.scenario.links, 'link')
     among = range(len(run.links)) if given.flows is None else ways_of(run, flows)
@@ -267,11 +280,18 @@ def shown_of(given: argparse.Namespace, run: Run, window: tuple[int, int],
     return flows, links
 
 
-def drawn_by(given: argparse.Namespace, flows: list, links: list, clock: Clock) -> Picture:
-    """What is drawn of these flows and links, as the words ask for it."""
-    picture = Picture(flows, [view._replace(number=at) for at, view in enumerate(links)], clock, bool(given.beside),
+def drawn_by(given: argparse.Namespace, runs: Sequence[Run], flows: list, links: list, clock: Clock) -> Picture:
+    """What is drawn of these flows and links, as the words ask for it. `flows` has of each its run, its number there and its
+    name."""
+    picture = Picture(flow_views(flows), [view._replace(number=at) for at, view in enumerate(links)], clock, bool(given.beside),
                       stall_of(given, clock.window), given.log)
     picture.tops, picture.part = given.tops, part_text(given)
+    if given.flows is None:
+        shown = [view.run for view in picture.flows]
+        picture.others = flow_views([(run, flow.number, '') for run in runs for flow in run.flows if flow not in shown])
+    if picture.others:
+        picture.left_out = f'{len(flows)} of {len(flows) + len(picture.others)} flows: those that carry most' + \
+            (' in each run' if given.beside else '')
     return picture
 
 
@@ -286,7 +306,7 @@ def picture_of(given: argparse.Namespace, run: Run) -> Picture:
     """What is drawn of one run."""
     window, cuts = window_of(given, (run,))
     flows, links = shown_of(given, run, window)
-    return drawn_by(given, flow_views([(run, n, run.scenario.flows[n].name) for n in flows]),
+    return drawn_by(given, [run], [(run, n, run.scenario.flows[n].name) for n in flows],
                     [link_view(run, n, run.scenario.links[n].name) for n in links], Clock(window, cuts))
 
 
@@ -300,7 +320,7 @@ def beside(given: argparse.Namespace, runs: Sequence[tuple[str, Run]]) -> Pictur
         flows += [(run, n, name + f', flow {run.scenario.flows[n].name}') for n in of_flows]
         links += [link_view(run, n, name + ('' if len(of_links) == 1 else f', {run.scenario.links[n].name}'))
                   for n in of_links]
-    return drawn_by(given, flow_views(flows), links, Clock(window, cuts))
+    return drawn_by(given, [run for _, run in runs], flows, links, Clock(window, cuts))
 
 
 def runs_of(given: argparse.Namespace) -> list[tuple[str, Run]]:

@@ -9,7 +9,7 @@ from matplotlib.axes import Axes
 from matplotlib.ticker import FixedFormatter, FixedLocator, MaxNLocator
 from numpy.typing import ArrayLike
 
-from .style import NOTE, STEPS
+from .style import NOTE, STEPS, TICKS, text_width
 
 S = 10**9
 IDLE, KEPT = .2, .25    # a gap is left out that is this part of the window, where what stays is at most that
@@ -17,7 +17,8 @@ APART = .85             # ticks are this part of their mean distance apart, at l
 CUT_WIDTH = .09         # how wide a gap that is left out is drawn, as a part of what stays
 MARGIN = .1            # what stays of a gap at either side, as a part of what stays beside it
 AT_FIRST = 2           # and how many times that at the first moment, whose names have no room to the left
-SLACK = 1e-6           # of the rim: what a tick may lie outside by its arithmetic alone
+SLACK = 1e-8           # of the window: what a tick may lie outside by its arithmetic alone
+MOST_TICKS, BETWEEN = 8, 7      # ticks at most; points between two of their numbers
 RIM = .03               # how far the panel goes on beside the first and the last moment, so that their marks are whole
 
 # What an axis leaves out, and how long nothing happens in all, in ns.
@@ -80,16 +81,16 @@ class Clock:
         places = np.linspace(self._places[0], self._places[-1], count + 1)
         return np.interp(places, self._places, self._knots)
 
-    def set(self, axes: Axes, most: int = 7) -> None:
-        """Limits and ticks of an axis; a span that is left out is hatched, with its length."""
+    def set(self, axes: Axes, width: float, size: float = TICKS) -> None:
+        """Limits and ticks of an axis so wide (points), as many as have room for letters of this size."""
         rim = RIM * (self._places[-1] - self._places[0])
         axes.set_xlim(self._places[0] - rim, self._places[-1] + rim)
-        if not self.cuts:
-            ticks = MaxNLocator(most, steps=STEPS).tick_values(self._places[0], self._places[-1])
-            inside = (ticks >= self._places[0] - SLACK * rim) & (ticks <= self._places[-1] + SLACK * rim)
-            axes.xaxis.set_major_locator(FixedLocator(ticks[inside]))
-            return
-        ticks, labels = self._ticks(most + 1)
+        across = width / (1 + 2 * RIM) / (self._places[-1] - self._places[0])       # points in the axis's unit
+        for most in range(MOST_TICKS, 0, -1):
+            ticks, labels = self._ticks(most)
+            halves = [text_width(label, size) / 2 for label in labels]
+            if all((to - at) * across >= half + other + BETWEEN for at, to, half, other in zip(ticks, ticks[1:], halves, halves[1:])):
+                break
         axes.xaxis.set_major_locator(FixedLocator(ticks))
         axes.xaxis.set_major_formatter(FixedFormatter(labels))
 
@@ -98,7 +99,7 @@ class Clock:
         for begin, end, idle in self.cuts:
             left, right = self.x((begin, end))
             axes.axvspan(left, right, facecolor='#F4F4F4', edgecolor='#C8C8C8', hatch='////', lw=0, zorder=3)
-            axes.annotate(f'{length_text(idle)} without an event', ((left + right) / 2, .5),
+            axes.annotate(f'no event\nfor {length_text(idle)}', ((left + right) / 2, .5),
                           xycoords=('data', 'axes fraction'), rotation=90, ha='center', va='center',
                           fontsize=NOTE, color='#333333', zorder=4,
                           bbox={'boxstyle': 'square,pad=.15', 'fc': '#F4F4F4', 'ec': 'none'})
@@ -114,14 +115,14 @@ class Clock:
         for cut_begin, cut_end, _ in [*self.cuts, Cut(self.window[1], None, 0)]:
             parts.append((begin, cut_begin))
             begin = cut_end
-        ticks, labels = [], []
+        ticks, labels, slack = [], [], SLACK * (self.window[1] - self.window[0])
         for begin, end in parts:
             count = max(1, round(most * (end - begin) / self.kept))
             inner = MaxNLocator(count, steps=STEPS).tick_values(begin / self.scale, end / self.scale)
             for value in inner:
                 place = float(self.x(value * self.scale))
                 near = ticks and place - ticks[-1] < APART / most * (self._places[-1] - self._places[0])
-                if begin <= value * self.scale <= end and not near:
+                if begin - slack <= value * self.scale <= end + slack and not near:
                     ticks.append(place)
                     labels.append(f'{value:,.10g}')
         return ticks, labels

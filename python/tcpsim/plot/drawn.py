@@ -17,12 +17,11 @@ from matplotlib.text import Annotation
 
 def drawn(figure: Figure) -> list[str]:
     """The lines, panel by panel in the order of drawing."""
-    lines = []
+    lines = [f'key | key: {"; ".join(text.get_text() for text in legend.get_texts())}' for legend in figure.legends]
     for axes in figure.get_axes():
-        title = axes.get_title(loc='left') or axes.get_title() or 'key'
+        title = axes.get_title(loc='left') or axes.get_title()
         (left, right), (low, high) = axes.get_xlim(), axes.get_ylim()
-        if axes.axison:
-            lines.append(f'{title} | x {left:.6g} to {right:.6g} | y {low:.6g} to {high:.6g} {axes.get_ylabel()}')
+        lines.append(f'{title} | x {left:.6g} to {right:.6g} | y {low:.6g} to {high:.6g} {axes.get_ylabel()}')
         lines += [f'{title} | {entry}' for entry in map(artist_line, axes.get_children()) if entry]
         if axes.get_legend():
             lines.append(f'{title} | key: ' + '; '.join(text.get_text() for text in axes.get_legend().get_texts()))

@@ -1,7 +1,6 @@
 """Panels of flows: the window, sequence numbers, and the progress of several flows."""
 from __future__ import annotations
 
-import math
 from collections.abc import Sequence
 
 import numpy as np
@@ -21,15 +20,17 @@ from .style import (AGAIN, IN_FLIGHT, NOTE, RECEIVER, RUST, SSTHRESH, WHOLE_STEP
                     muted, series, sign_look)
 
 MOST_DUPLICATES = 100   # so many are marked
+FAR = 50                # times the axis of windows: how high above it ssthresh is, is told where it is less
 FEW = 60                # rings that are large
 OWN_AXIS = .1           # a flow whose values are below this part of the greatest has an axis of its own
 APART = 2               # flows whose byte numbers lie over so many times the longest way of one are far apart
 OWN = 'an axis of its own'
-ROWS = .07, .15         # how far below 0 the first row of losses is, and each further one, as parts of the axis
+ROWS = .07, .25         # how far below 0 the first row of losses is, and each further one, as parts of the axis
 COMPLETE = {'marker': 'o', 'ms': 5, 'ls': 'none'}
 DUPLICATE = {'marker': TICKDOWN, 'ms': 9, 'mew': 1.2, 'color': '#000000', 'zorder': 3.2}
 HELD_BACK = {'marker': '>', 'ms': 9, 'color': RUST, 'zorder': 3.2}
 # Of two curves of which one mostly hides the other: a wide pale one, and a thin one on it.
+OTHERS = {'color': '#9A9A9A', 'lw': .7, 'zorder': 1.5}
 RECEIVED, ACKNOWLEDGED = {'color': '#8FD0C2', 'lw': 4.5}, {'color': '#000000', 'lw': 1.1}
 
 
@@ -79,7 +80,7 @@ def window_panel(picture: Picture, axes: Axes, view: FlowView, heading: list, wi
     if is_complete(picture, view):
         axes.plot([picture.clock.x(flow.completed)], [flow.cwnd[-1] / scale], color=look['color'], **COMPLETE)
     low = mark_losses(picture, axes, view, axis.knee / scale, width)
-    set_heights(axes, axis, scale, 7 if in_full else 5, low)
+    set_heights(axes, axis, scale, 6 if in_full else 4, low)
     axes.set_ylabel(unit)
     key_above(axes, heading[0], [], width, [*heading[1:], growth_note(picture, view), *notes])
 
@@ -107,7 +108,7 @@ def mark_losses(picture: Picture, axes: Axes, view: FlowView, greatest: float, w
         if name and losses:
             axes.annotate(name, (1, height), xycoords=('axes fraction', 'data'), xytext=(3, 0), textcoords='offset points',
                           va='center', fontsize=NOTE)
-    return -(.14 + ROWS[1] * (len(rows) - 1)) * greatest
+    return -(2 * ROWS[0] + ROWS[1] * (len(rows) - 1)) * greatest
 
 
 def first_thresholds(picture: Picture) -> list[int]:
@@ -136,7 +137,8 @@ def window_key(picture: Picture) -> list[Artist]:
         key.append(Line2D([], [], color=muted(color), lw=1.2, label='cwnd in recovery'))
     if any(is_in_sight(view, axis) for view, (axis, _) in zip(picture.flows, window_axes(picture))):
         above = sorted(set(first_thresholds(picture)))
-        more = f' (first above: {bytes_text(above[0])})' if len(above) == 1 else ' (first above)' if above else ''
+        told = len(above) == 1 and above[0] < FAR * max(axis.top for axis, _ in window_axes(picture))
+        more = f' (first above: {bytes_text(above[0])})' if told else ' (first above)' if above else ''
         key.append(Line2D([], [], color=SSTHRESH, ls='--', lw=1.2, label=f'ssthresh{more}'))
     windows = [view.run.flow.rwnd for view in picture.flows if binds(view, picture)]
     if windows:
@@ -261,14 +263,13 @@ def progress_panel(picture: Picture, axes: Axes, views: Sequence[FlowView], widt
         elif len(una) and flow.completed is None:
             label += f' {bytes_text(int(una[-1] - una[0]))}'
         key.append(Line2D([], [], label=label, **{'lw': 1.8, **series(at)}))
+    if picture.others:
+        key.append(Line2D([], [], label=f'{len(picture.others):,} other{"s" * (len(picture.others) > 1)}', **OTHERS))
+    for view in picture.others:
+        picture.curve(axes, view, [view.run.flow.start, *view.run.una_times], [0, *view.run.una], scale, **OTHERS)
     axes.set_ylabel(unit)
     span = max(1, greatest - least)
     axes.set_ylim((least - .03 * span) / scale, (greatest + .06 * span) / scale)
     names = {view.run.flow.name for view in views}
     of_whom = f'flow {names.pop()}' if len(names) == 1 else 'each flow'
     key_above(axes, title or f'bytes acknowledged of {of_whom}', key, width)
-
-
-def columns_of(count: int) -> int:
-    """How many columns a number of panels gets: no place stays empty of up to four."""
-    return 1 if count == 3 else math.ceil(math.sqrt(count))

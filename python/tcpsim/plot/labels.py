@@ -60,6 +60,19 @@ def turn_timers(axes: Axes, labels: Sequence[Annotation], walls: Sequence[float]
         label.set_rotation(90)
 
 
+def leave_out(axes: Axes, last: Sequence[Annotation]) -> None:
+    """Hides texts in a panel that cover one that was written before, or reach over the panel's upper or lower side. Those of
+    `last` go first. All have their places."""
+    renderer, shown, panel = axes.figure.canvas.get_renderer(), [], axes.bbox
+    for text in sorted(axes.texts, key=last.__contains__):
+        box = text.get_window_extent(renderer)
+        out = box.x0 < panel.x1 and (box.y0 < panel.y0 < box.y1 or box.y0 < panel.y1 < box.y1)
+        if out or any(box.overlaps(other) for other in shown):
+            text.set_visible(False)
+        else:
+            shown.append(box)
+
+
 def lead(axes: Axes, box: tuple[float, float, float, float], mark: tuple[float, float]) -> None:
     """A thin line from a mark to its label, where they are far from each other. It is the figure's and not the panel's, since
     its place is none of the data's."""

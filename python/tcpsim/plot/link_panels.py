@@ -15,7 +15,7 @@ from tcpsim.trace import ACK
 
 from .broken import draw_break
 from .losses import mark_row
-from .picture import FlowView, LinkView, Picture
+from .picture import MOST_FLOWS, FlowView, LinkView, Picture
 from .points import BANDS, bins, busy_parts, dots, envelope, is_dense
 from .style import (LINKS, NOTE, OF_ACKS, SIGNS, STEPS, TITLE_SIZE, delay_unit, key_above, pale, series, sign_look,
                     sign_of)
@@ -30,9 +30,9 @@ def link_lines(picture: Picture, links: Sequence[LinkView]) -> list[Line2D]:
 
 # ---- the queue
 
-def queue_panel(picture: Picture, axes: Axes, links: Sequence[LinkView], width: float, named: bool | list) -> None:
+def queue_panel(picture: Picture, axes: Axes, links: Sequence[LinkView], width: float, named: bool | list) -> int:
     """How many packets wait, and at a single link also whose. `named` says whether the key names the links, or is the panel's own
-    heading: its title and what is said of the one link."""
+    heading: its title and what is said of the one link. Answers how many rows of signs there are."""
     heading = named if isinstance(named, list) else ['packets that wait in the queue']
     greatest = max([picture.tops.get('queue', 1), *(length for view in picture.links
                                                     for length in picture.seen(view.run.queue_times, view.run.queue))])
@@ -52,7 +52,7 @@ def queue_panel(picture: Picture, axes: Axes, links: Sequence[LinkView], width: 
             picture.curve(axes, view, [0, *link.queue_times], [0, *link.queue], 1, **look)
     if any(is_envelope(picture, view) for view in links):
         note = 'mean' if parts else 'mean, with the least and the greatest'
-        heading = [heading[0], [*heading[1], note]] if len(heading) > 1 else [*heading, note]
+        heading = [heading[0], [*heading[1], note] if len(heading) > 1 else note]
     drops, rows = mark_drops(picture, axes, links, by_flow, greatest, width)
     if by_flow and not parts:
         drops += drop_counts(picture, links[0], by_flow)
@@ -60,15 +60,17 @@ def queue_panel(picture: Picture, axes: Axes, links: Sequence[LinkView], width: 
     axes.yaxis.set_major_locator(Up(greatest, MaxNLocator(6, integer=True, steps=STEPS)))
     axes.set_ylabel('packets')
     key_above(axes, heading[0], key + drops, width, heading[1:])
+    return rows
 
 
 def flows_at(picture: Picture, links: Sequence[LinkView]) -> list[FlowView]:
-    """The flows that are told apart at a link: at a single one, of a single run, those of which packets came to it, if several."""
+    """The flows that are told apart at a link: at a single one, of a single run, those of which packets came to it, if they are
+    several, few, and all of them in the picture."""
     if len(links) > 1 or picture.beside:
         return []
     came = {*links[0].run.taken_of, *(flow for _, _, flow, *_ in links[0].run.drops)}
     found = [view for view in picture.flows if view.run.number in came]
-    return found if len(found) > 1 else []
+    return found if 1 < len(found) == len(came) <= MOST_FLOWS else []
 
 
 def whole(link: LinkRun) -> bool:
@@ -156,7 +158,7 @@ def mark_drops(picture: Picture, axes: Axes, links: Sequence[LinkView], flows: S
             entry = reason, is_ack, '#000000' if flow else color, view.name if several else ''
             counts[entry] = counts.get(entry, 0) + len(times)
     return [sign_of(reasons[at], is_ack, color, name, None if picture.beside else count)
-            for (at, is_ack, color, name), count in sorted(counts.items())], len(rows)
+            for (at, is_ack, color, name), count in sorted(counts.items(), key=lambda entry: entry[0][:2])], len(rows)
 
 
 def drop_counts(picture: Picture, view: LinkView, flows: Sequence[FlowView]) -> list[Line2D]:

@@ -78,21 +78,21 @@ def groups(places: Sequence[float], times: Sequence[int]) -> list[list[int]]:
 
 
 def loss_rows(picture: Picture, losses: Iterable[Loss]) -> list[tuple[str, list[Loss]]]:
-    """Lost segments by the link at which they were lost, where the picture has several of these: its name, and the losses."""
-    links = links_of_losses(picture)
-    rows = {links[number].name: [] for number in sorted(links)} or {'': []}
-    for loss in losses:
+    """Lost segments by the link at which they were lost, where the picture has several of these: its name, and the losses. One
+    row at least."""
+    links, rows = links_of_losses(picture), {}
+    for loss in sorted(losses, key=lambda loss: loss.link):
         rows.setdefault(links[loss.link].name if loss.link in links else '', []).append(loss)
-    return list(rows.items())
+    return list(rows.items()) or [('', [])]
 
 
 def loss_key(picture: Picture, acks: bool = False) -> list:
-    """The signs of the losses that a picture shows, each with how many there are."""
+    """The signs of the losses that a picture shows, each with how many there are, where all flows are shown."""
     key, color = [], picture.key_color() if len(picture.flows) > 1 else None
     for is_ack in (False, True)[:1 + acks]:
         losses = [loss for view in picture.flows for loss in lost(picture, view, is_ack)]
         counts = {reason: sum(loss.reason == reason for loss in losses) for reason in SIGNS}
-        key += [sign_of(reason, is_ack, OF_ACKS if is_ack else color, count=None if picture.beside else count)
+        key += [sign_of(reason, is_ack, OF_ACKS if is_ack else color, count=None if picture.beside or picture.others else count)
                 for reason, count in counts.items() if count]
     return key
 

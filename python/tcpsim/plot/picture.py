@@ -13,6 +13,7 @@ from .points import dots, steps
 from .style import LINKS, series
 
 DATA = 0
+MOST_FLOWS = 4          # so many are drawn where none are named, those that carry most
 
 # A flow or link as it is shown: what its run did with it, its name in the picture, its number there, the moment up to which
 # its run is known, and what is said of it. `trip` is the least that a flow's round trip can be, where that is not alike for
@@ -35,6 +36,8 @@ class Picture:
         self.timers = {}                # and those at timeouts, which stay left of their lines
         self.first = None               # the first panel of each flow, which says most of its timeouts
         self.part = ''                  # what is said where a part of the run is shown
+        self.left_out = ''              # what is said of the flows that are not drawn
+        self.others = []                # and their views
         self.row = .09                  # how high a row of signs above a queue is, as a part of the queue's axis
         self.wide = None                # points that a panel is wide, where that is another than panels are told
 

@@ -39,13 +39,13 @@ def draw_slide(picture: Picture, panel: str, title: str) -> Figure:
     picture.wide = TITLE_WIDTH / THICKER
     key = draw_panel(picture, axes, panel)
     if panel != 'delay-cdf':
-        picture.clock.set(axes, 7)
+        picture.clock.set(axes, TITLE_WIDTH, POINTS)
         picture.clock.mark_cuts(axes)
         axes.set_xlabel(f'time, {picture.clock.unit}{picture.part}')
     axes.grid(True, color='#DDDDDD', lw=1)
     axes.set_axisbelow(True)
     enlarge(axes)
-    figure.suptitle(title, fontsize=POINTS + 2, fontweight='bold')
+    figure.suptitle('\n'.join(filter(None, (title, picture.left_out))), fontsize=POINTS + 2, fontweight='bold')
     figure.draw_without_rendering()
     turn_timers(axes, picture.timers.get(axes, ()), [right for _, _, right, _ in picture.clock.cut_boxes(axes)])
     label_key(axes, key)

@@ -103,9 +103,24 @@ def timeout_mark(more: str = '') -> Line2D:
     return Line2D([], [], color=TIMEOUT, lw=TIMEOUT_WIDTH, label='timeout' + more)
 
 
-def text_width(text: str, size: float = NOTE) -> float:
+def text_width(text: str, size: float = NOTE, weight: str = 'normal') -> float:
     """How wide a text is, in points."""
-    return text_to_path.get_text_width_height_descent(text, FontProperties(size=size), False)[0]
+    return text_to_path.get_text_width_height_descent(text, FontProperties(size=size, weight=weight), False)[0]
+
+
+def wrapped(text: str, width: float, size: float = NOTE, weight: str = 'normal') -> list[str]:
+    """A text in lines at most so wide, broken at spaces; of a word that is wider its middle is left out."""
+    lines = []
+    for word in text.split(' '):
+        half = len(word) // 2
+        while half and text_width(word, size, weight) > width:
+            half -= 1
+            word = f'{word.replace("…", "")[:half]}…{word[-half:]}'
+        if lines and text_width(f'{lines[-1]} {word}', size, weight) <= width:
+            lines[-1] += f' {word}'
+        else:
+            lines.append(word)
+    return lines
 
 
 def filled(parts: Iterable[str], width: float, between: str = ', ') -> list[str]:
@@ -124,7 +139,7 @@ def packed(parts: Iterable[str], width: float, between: str) -> list[str]:
         if lines and text_width(lines[-1] + between + part) <= width:
             lines[-1] += between + part
         else:
-            lines.append(part)
+            lines += wrapped(part, width)
     return lines
 
 
@@ -139,18 +154,19 @@ def key_above(axes: Axes, title: str, handles: Sequence[Artist], width: float, n
     pad = 4 + LINE * rows + 3 * bool(rows)
     grey = {'fontsize': NOTE, 'color': '#444444'}
     words, room = [note for note in notes if isinstance(note, str)], width - text_width(title, TITLE_SIZE) - APART
+    titles = wrapped(title, width, TITLE_SIZE)
     beside = next((words[:count] for count in (len(words), 1) if words and text_width(', '.join(words[:count])) <= room), [])
     blocks = [words[len(beside):], *(note for note in notes if not isinstance(note, str))]
     lines = [line for parts in blocks if parts for line in filled(parts, width)]
     axes.set_title(', '.join(beside), loc='right', **grey)      # as high as the title
-    axes.set_title(title, pad=pad + LINE * len(lines), **TITLE)
+    axes.set_title('\n'.join(titles), pad=pad + LINE * len(lines), **TITLE)
     if lines:
         axes.annotate('\n'.join(lines), (0, 1), xycoords='axes fraction', xytext=(0, pad), textcoords='offset points',
                       linespacing=1.12, **grey)
 
 
 def columns_that_fit(labels: Sequence[str], width: float) -> int:
-    """In how many columns a key of these labels is at most so wide: the first ones have one entry more."""
+    """In how many columns a key of these labels is at most so wide: the first ones have one entry more. One at least."""
     widths = [HANDLE + text_width(label, KEY_SIZE) for label in labels]
     for columns in range(len(labels), 1, -1):
         rows, longer = divmod(len(labels), columns)
