@@ -1,7 +1,7 @@
 """A sweep's runs as jobs: their scenarios and commands in a folder that all machines see, and their rows, gathered.
 
-`--print` writes the folder, and keeps in it of which sweep it is. `--on slurm` and `--on parallel` have an engine run it: a job array of Slurm's, or GNU parallel,
-which choose the machines, and take again what one of them lost.
+`--print` writes the folder, and keeps in it of which sweep it is. `--on slurm` and `--on parallel` have an engine run it: a
+job array of Slurm's, or GNU parallel, which choose the machines, and take again what one of them lost.
 """
 from __future__ import annotations
 
