@@ -68,7 +68,7 @@ class Compare {
     } catch { return; }         // a text that the program refuses
     facts.links.forEach(({name}, l) => link.append(new Option(name, l)));
     if (kept && link.options[kept]) link.value = kept;
-    byId('compare-word').placeholder = codelFor(facts, +link.value);
+    if (facts.links.length && facts.flows.length) byId('compare-word').placeholder = codelFor(facts, +link.value);
   }
   // Chooses the scenario as it is and what a lecture has beside it: the example that is named, else the same with CoDel at the link
   // that is given, or without it where that has it.
