@@ -14,7 +14,6 @@ pub enum Refusal {
     B4,
     /// No breakpoint has this number.
     B5,
-    /// There was no memory, as many events were run as there may be, or a worker could not be
-    /// started or did not come back.
+    /// There was no memory, as many events were run as there may be, or a worker did not give back what it ran.
     M,
 }

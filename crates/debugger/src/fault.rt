@@ -11,7 +11,7 @@ pub enum MoveFault {
     NoMemory,
     /// As many events were run as there may be, and one more is due.
     CountFull,
-    /// A worker could not be started, or did not come back.
+    /// A worker did not give back what it ran.
     NoWorker,
 }
 

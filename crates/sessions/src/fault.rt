@@ -46,7 +46,7 @@ pub enum SessionFault {
     NoMemory,
     /// The run has more events than there may be.
     CountFull,
-    /// A worker could not be started, or did not give back what it ran.
+    /// A worker did not give back what it ran.
     NoWorker,
 }
 
