@@ -1,7 +1,7 @@
 -- What a session puts out that begins at the initial state of a scenario.
-use Rattle.std.proofs.Common.{◌≡◌, ℕ, List, ◌++◌, Option, Ok, Err, subst}
+use Rattle.std.proofs.Common.{◌≡◌, ◌∙◌, ℕ, List, ◌++◌, Option, Ok, Err, sym, ap, subst}
 use Rattle.scenario_image.specs.declared.parts.ScenarioParts.{ScenarioParts}
-use Rattle.table_run.specs.State.{initial}
+use Rattle.table_run.specs.State.{State, initial}
 use Rattle.debugger.specs.Debugging.{Debugging, debugging_opened}
 use Rattle.debug_session.specs.declared.command.Limits.{Limits}
 use Rattle.debug_session.specs.declared.session.DialogueFault.TheVariants.{OutputFailed}
@@ -9,7 +9,11 @@ use Rattle.debug_session.specs.Taking.{Takes, IsBeginningOf}
 use Rattle.debug_session.specs.Answers.{session_state}
 use Rattle.debug_session.specs.Sessions.{Output, OutputStart, limits_of, IsEnding}
 
-module _ (lines : List (List ℕ)) (p : ScenarioParts) (d : Debugging) (limits : Limits) (before after : Option (List ℕ)) (is : d ≡ debugging_opened (initial p)) (bounds : limits ≡ limits_of p) where
+-- so many workers run windows as there are
+pub opened_by : (d : Debugging) (s : State) (workers : ℕ) → d ≡ debugging_opened s workers → d ≡ debugging_opened s d.workers
+opened_by d s workers is = is ∙ ap (debugging_opened s) (sym (ap (λ (e : Debugging). e.workers) is))
+
+module _ (lines : List (List ℕ)) (p : ScenarioParts) (d : Debugging) (limits : Limits) (before after : Option (List ℕ)) (is : d ≡ debugging_opened (initial p) d.workers) (bounds : limits ≡ limits_of p) where
   pub all_put : Takes (Output limits d.start lines (session_state d)) before after → Takes (IsEnding p lines (Ok tt)) before after
   all_put took =
       let one = subst (λ (l : Limits). Output l d.start lines (session_state d) took.0) bounds took.2 in

@@ -22,6 +22,10 @@ pub record SessionState : Type 0 where
 abbrev pub session_state : Debugging → SessionState
 session_state d = record { shown = d.shown; breaks = d.breaks }
 
+-- no move made yet, and no breakpoint set
+abbrev pub opened_at : NetState → SessionState
+opened_at start = record { shown = record { state = start; position = 0 }; breaks = [] }
+
 abbrev pub refusal_code : Refusal → List ℕ
 refusal_code B1 = codes "B1"
 refusal_code B2 = codes "B2"

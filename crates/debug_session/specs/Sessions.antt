@@ -5,14 +5,13 @@ use Rattle.scenario_asm.specs.declared.fault.Fault.{Fault}
 use Rattle.scenario_asm.specs.Lines.{lines_of_text}
 use Rattle.scenario_asm.specs.Meaning.{MeansScenario, MeansFault}
 use Rattle.table_run.specs.State.{State, initial}
-use Rattle.debugger.specs.Debugging.{debugging_opened}
 use Rattle.debug_session.specs.declared.command.Limits.{Limits}
 use Rattle.debug_session.specs.declared.session.DialogueFault.{DialogueFault}
 use Rattle.debug_session.specs.declared.session.DialogueFault.TheVariants.{NoMemory, OutputFailed}
 use Rattle.window_engine.specs.Failures.{counted}
 use Rattle.debug_session.specs.Taking.{IsBeginningOf}
 use Rattle.debug_session.specs.Input.{text_lines, command_lines}
-use Rattle.debug_session.specs.Answers.{SessionState, session_state, Stays, Answers}
+use Rattle.debug_session.specs.Answers.{SessionState, opened_at, Stays, Answers}
 
 -- the lines are answered one after another, from where the session stands
 abbrev pub Ran : Limits → State → List (List ℕ) → SessionState → SessionState → List ℕ → Type 0
@@ -43,22 +42,22 @@ HasFault input line fault = (text : List ℕ) × (lines_of_text text ≡ text_li
 pub record IsOutput (input out : List ℕ) : Type 0 where
   pub scenario : ScenarioParts
   pub meant : HasScenario input scenario
-  pub answers : Output (limits_of scenario) (initial scenario) (command_lines input) (session_state (debugging_opened (initial scenario))) out
+  pub answers : Output (limits_of scenario) (initial scenario) (command_lines input) (opened_at (initial scenario)) out
 
 -- the output of its first commands
 pub record IsOutputStart (input out : List ℕ) : Type 0 where
   pub scenario : ScenarioParts
   pub meant : HasScenario input scenario
-  pub answers : OutputStart (limits_of scenario) (initial scenario) (command_lines input) (session_state (debugging_opened (initial scenario))) out
+  pub answers : OutputStart (limits_of scenario) (initial scenario) (command_lines input) (opened_at (initial scenario)) out
 
 abbrev pub Ended : Type 0
 Ended = Result (Unit {0}) DialogueFault
 
 -- what a session over a scenario that ended so has put out: the answers to all its lines; nothing, where memory was refused; a beginning of the answers to the first of them, where the output failed
 abbrev pub IsEnding : ScenarioParts → List (List ℕ) → Ended → List ℕ → Type 0
-IsEnding p lines (Ok done) out = Output (limits_of p) (initial p) lines (session_state (debugging_opened (initial p))) out
+IsEnding p lines (Ok done) out = Output (limits_of p) (initial p) lines (opened_at (initial p)) out
 IsEnding p lines (Err NoMemory) out = out ≡ []
-IsEnding p lines (Err OutputFailed) out = IsBeginningOf (OutputStart (limits_of p) (initial p) lines (session_state (debugging_opened (initial p)))) out
+IsEnding p lines (Err OutputFailed) out = IsBeginningOf (OutputStart (limits_of p) (initial p) lines (opened_at (initial p))) out
 
 -- the output's count of failures after what ended so
 abbrev pub failures_of : Ended → ℕ → ℕ

@@ -68,7 +68,7 @@ fn answer_all<H: Hands, S: Sink>(
     out: &mut S,
 ) -> Result<(), DialogueFault>
     requires ready { H.ready hands.now }
-    requires opened { debugger.old ≡ debugging_opened (initial scenario.now) }
+    requires opened { debugger.old ≡ debugging_opened (initial scenario.now) debugger.old.workers }
     ensures output { Takes (sessions.IsEnding scenario.now (lines_of_text commands.now) result) (S.contents out.old) (S.contents out.new) }
     ensures failures { S.failures out.new ≡ sessions.failures_of result (S.failures out.old) }
 {

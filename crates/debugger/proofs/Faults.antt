@@ -1,11 +1,14 @@
 -- Which faults of a move say that the count is full, and that a worker was missing.
-use Rattle.std.proofs.Common.{◌≡◌, ◌≢◌, refl, sym, ◌∙◌, Result, Ok, Err, IfOk, IfErr}
+use Rattle.std.proofs.Common.{◌≡◌, ◌≢◌, ◌<◌, ℕ, refl, sym, ◌∙◌, Result, Ok, Err, IfOk, IfErr}
 use Rattle.std.specs.Result.{IsErr, IsErrAnd}
 use Rattle.net_machine.specs.declared.net.StepFault.{StepFault}
 use Rattle.net_machine.specs.declared.net.StepFault.TheVariants as steps
 use Rattle.debugger.specs.declared.fault.MoveFault.{MoveFault}
 use Rattle.debugger.specs.declared.fault.MoveFault.TheVariants.{NoMemory, CountFull, NoWorker}
-use Rattle.debugger.specs.Faults.{of_step}
+use Rattle.window_engine.specs.declared.fault.EngineFault.{EngineFault}
+use Rattle.window_engine.specs.declared.fault.EngineFault.TheVariants as windows
+use Rattle.window_engine.specs.Outcomes.{IsOfWorkers}
+use Rattle.debugger.specs.Faults.{of_step, of_windows}
 
 step_full : (fault : StepFault) → of_step fault ≡ CountFull → fault ≡ steps.CountFull
 step_full steps.NoMemory e = cc
@@ -20,6 +23,30 @@ none_of_memory e = cc
 
 pub memory_alone : NoMemory ≢ NoWorker
 memory_alone e = cc
+
+count_alone : CountFull ≢ NoWorker
+count_alone e = cc
+
+-- a window's fault says so only where several workers ran it
+several_of : (workers : ℕ) (fault : EngineFault) → IsOfWorkers workers fault → of_windows fault ≡ NoWorker → 1 < workers
+several_of workers windows.NoMemory is none = absurd (memory_alone none)
+several_of workers windows.CountFull is none = absurd (count_alone none)
+several_of workers windows.NoWorker is none = absurd is
+several_of workers (windows.Sink written) is none = absurd is
+several_of workers windows.Failed is none = is
+
+pub several_of_windows : {T : Type 0} (workers : ℕ) (r : Result T MoveFault) (fault : EngineFault) → IsErr r × IsErrAnd r (λ e. e ≡ of_windows fault) → IsOfWorkers workers fault → IfErr r (λ e. e ≡ NoWorker → 1 < workers)
+several_of_windows workers (Ok x) fault is said = tt
+several_of_windows workers (Err e) fault is said = λ none. several_of workers fault said (sym is.1 ∙ none)
+
+pub several_of_move : {T : Type 0} (workers : ℕ) (r : Result T MoveFault) (fault : MoveFault) → IsErr r × IsErrAnd r (λ e. e ≡ fault) → (fault ≡ NoWorker → 1 < workers) → IfErr r (λ e. e ≡ NoWorker → 1 < workers)
+several_of_move workers (Ok x) fault is said = tt
+several_of_move workers (Err e) fault is said = λ none. said (sym is.1 ∙ none)
+
+-- no fault says that a worker was missing
+pub none_missing : {T : Type 0} (workers : ℕ) (r : Result T MoveFault) → IfErr r (λ e. e ≢ NoWorker) → IfErr r (λ e. e ≡ NoWorker → 1 < workers)
+none_missing workers (Ok x) none = tt
+none_missing workers (Err e) none = λ is. absurd (none is)
 
 -- where a step's fault is answered: its count is the move's
 pub full_of_step : {T P : Type 0} (r : Result T MoveFault) (fault : StepFault) → IsErr r × IsErrAnd r (λ e. e ≡ of_step fault) → (fault ≡ steps.CountFull → P) → IfErr r (λ e. e ≡ CountFull → P)

@@ -15,7 +15,7 @@ abbrev pub AreCheckpointsInside : CheckpointsInside → Type 0
 AreCheckpointsInside s = AreCheckpoints s.initial s.later.items
 
 abbrev pub debugging_of : Inside → Debugging
-debugging_of d = record { start = d.checkpoints; shown = d.net; left = d.left; breaks = d.breaks }
+debugging_of d = record { start = d.checkpoints; shown = d.net; left = d.left; breaks = d.breaks; workers = d.window_settings.workers }
 
 -- the state shown, and the one to go back to, are states of the run
 pub record IsDebugger (d : Debugging) : Type 0 where

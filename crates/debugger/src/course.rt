@@ -85,6 +85,7 @@ impl WindowedNet {
         ensures few { OnOk result (self.new.engine.net.position ≤ MOST_EVENTS) }
         ensures running { OnOk result (self.new.engine.failed ≡ false) }
         ensures full { IfErr result (λ fault. fault ≡ MoveFault.CountFull → HasTooMany self.old.engine.net) }
+        ensures several { IfErr result (λ fault. fault ≡ MoveFault.NoWorker → 1 < workers) }
         ensures behind { self.new.behind ≡ self.old.behind }
         ensures slice { 1 ≤ self.new.slice }
     {
@@ -130,6 +131,7 @@ impl WindowedNet {
         ensures on_run { IfOk result (Passes checkpoints.old) }
         ensures goes { IfOk result (λ net. net.position ≡ target) }
         ensures full { IfErr result (λ fault. fault ≡ MoveFault.CountFull → IsTooLong checkpoints.old) }
+        ensures no_worker { IfErr result (λ fault. fault ≢ MoveFault.NoWorker) }
         ensures same { checkpoints.new ≡ checkpoints.old }
     {
         let mut net = self.behind;
@@ -148,6 +150,7 @@ impl WindowedNet {
         requires { self.engine.failed ≡ false }
         ensures net { IfOk result (λ net. net ≡ self.engine.net) }
         ensures no_count { IfErr result (λ fault. fault ≢ MoveFault.CountFull) }
+        ensures no_worker { IfErr result (λ fault. fault ≢ MoveFault.NoWorker) }
     {
         let edge = self.engine.edge();
         drop(self);

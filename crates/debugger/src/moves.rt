@@ -100,7 +100,7 @@ impl Debugger {
     ) -> Result<Debugger, AllocError>
         requires partition { length partition ≡ length scenario.now.nodes }
         requires workers { (0 < workers) × (workers ≤ 64) }
-        ensures { IfOk result (λ debugger. debugger ≡ debugging_opened (initial scenario.now)) }
+        ensures { IfOk result (λ debugger. debugger ≡ debugging_opened (initial scenario.now) workers) }
     {
         let Ok(net) = Net::new(alloc, scenario) else {
             return Err(AllocError);
@@ -181,6 +181,7 @@ impl Debugger {
         ensures moved { IfOk result (HasMoved self.old self.new) }
         ensures goes { IfOk result (RunGoesTo self.old.start self.old.breaks self.old.shown.position) }
         ensures full { IfErr result (λ fault. fault ≡ MoveFault.CountFull → IsTooLong self.old.start) }
+        ensures several { IfErr result (λ fault. fault ≡ MoveFault.NoWorker → 1 < self.old.workers) }
         ensures err { OnErr result (self.new ≡ self.old) }
     {
         if self.window_settings.is_alone() {
@@ -206,6 +207,7 @@ impl Debugger {
         ensures moved { IfOk result (HasMoved self.old self.new) }
         ensures goes { IfOk result (RunGoesTo self.old.start self.old.breaks self.old.shown.position) }
         ensures full { IfErr result (λ fault. fault ≡ MoveFault.CountFull → IsTooLong self.old.start) }
+        ensures no_worker { IfErr result (λ fault. fault ≢ MoveFault.NoWorker) }
         ensures err { OnErr result (self.new ≡ self.old) }
     {
         let found = net_at_stop(
@@ -223,6 +225,7 @@ impl Debugger {
         ensures moved { IfOk result (HasMoved self.old self.new) }
         ensures goes { IfOk result (UntilGoesTo self.old.start time self.old.shown.position) }
         ensures full { IfErr result (λ fault. fault ≡ MoveFault.CountFull → IsTooLong self.old.start) }
+        ensures several { IfErr result (λ fault. fault ≡ MoveFault.NoWorker → 1 < self.old.workers) }
         ensures err { OnErr result (self.new ≡ self.old) }
     {
         let aim = &Aim::Moment(time);
@@ -248,6 +251,7 @@ impl Debugger {
         ensures moved { IfOk result (HasMoved self.old self.new) }
         ensures goes { IfOk result (UntilGoesTo self.old.start time 0) }
         ensures full { IfErr result (λ fault. fault ≡ MoveFault.CountFull → IsTooLong self.old.start) }
+        ensures several { IfErr result (λ fault. fault ≡ MoveFault.NoWorker → 1 < self.old.workers) }
         ensures err { OnErr result (self.new ≡ self.old) }
     {
         let found = self.window_settings.find_moment(

@@ -1,5 +1,5 @@
 //! Lines of a run that a breakpoint matches, one event after another, and on to the next.
-ghost use Rattle.std.specs.Prelude.{◌≡◌, ◌↔◌, Some, IsTrue, IfOk, IfErr, OnOk, length};
+ghost use Rattle.std.specs.Prelude.{◌≡◌, ◌≢◌, ◌↔◌, Some, IsTrue, IfOk, IfErr, OnOk, length};
 ghost use Rattle.node_core.specs.TraceLine.{shown};
 ghost use Rattle.net_machine.specs.Run.{Reached, IsRun, Stepped};
 ghost use Rattle.debugger.specs.Breaks.{IsHit};
@@ -110,6 +110,7 @@ fn run_to_stop(
     ensures on_run { OnOk result (Passes checkpoints.old net.new) }
     ensures goes { OnOk result (RunGoesTo checkpoints.old breaks.now net.old.position net.new.position) }
     ensures full { IfErr result (λ fault. fault ≡ MoveFault.CountFull → IsTooLong checkpoints.old) }
+    ensures no_worker { IfErr result (λ fault. fault ≢ MoveFault.NoWorker) }
     ensures same { checkpoints.new ≡ checkpoints.old }
 {
     let _count = net.position();
@@ -141,6 +142,7 @@ pub(crate) fn net_at_stop(
     ensures on_run { IfOk result (Passes checkpoints.old) }
     ensures goes { IfOk result (λ net. RunGoesTo checkpoints.old breaks.now present.now.position net.position) }
     ensures full { IfErr result (λ fault. fault ≡ MoveFault.CountFull → IsTooLong checkpoints.old) }
+    ensures no_worker { IfErr result (λ fault. fault ≢ MoveFault.NoWorker) }
     ensures same { checkpoints.new ≡ checkpoints.old }
 {
     let mut net = present.copy()?;

@@ -50,6 +50,7 @@ impl WindowSettings {
         ensures on_run { IfOk result (Passes checkpoints.old) }
         ensures goes { IfOk result (λ net. GoesTo checkpoints.old aim.now present.now.position net.position) }
         ensures full { IfErr result (λ fault. fault ≡ MoveFault.CountFull → IsTooLong checkpoints.old) }
+        ensures several { IfErr result (λ fault. fault ≡ MoveFault.NoWorker → 1 < self.now.workers) }
         ensures same { checkpoints.new ≡ checkpoints.old }
     {
         let mut course = WindowedNet::new(self.alloc, present, &self.partition)?;
@@ -79,6 +80,7 @@ impl WindowSettings {
         ensures on_run { IfOk result (Passes checkpoints.old) }
         ensures goes { IfOk result (λ net. UntilGoesTo checkpoints.old time 0 net.position) }
         ensures full { IfErr result (λ fault. fault ≡ MoveFault.CountFull → IsTooLong checkpoints.old) }
+        ensures several { IfErr result (λ fault. fault ≡ MoveFault.NoWorker → 1 < self.now.workers) }
         ensures same { checkpoints.new ≡ checkpoints.old }
     {
         match checkpoints.nearest_before(time, present) {
@@ -107,6 +109,7 @@ impl WindowSettings {
         requires slice { 1 ≤ course.old.slice }
         ensures found { IfOk result (IsSought checkpoints.old aim.now present.now.position course.new) }
         ensures full { IfErr result (λ fault. fault ≡ MoveFault.CountFull → IsTooLong checkpoints.old) }
+        ensures several { IfErr result (λ fault. fault ≡ MoveFault.NoWorker → 1 < self.now.workers) }
         ensures same { checkpoints.new ≡ checkpoints.old }
     {
         loop {

@@ -7,7 +7,7 @@ use Rattle.debug_session.specs.declared.dialogue.Dialogue.{Dialogue}
 use Rattle.debug_session.specs.declared.display.DisplayItem.{DisplayItem}
 use Rattle.debug_session.specs.declared.memo.Memo.{Memo}
 use Rattle.debug_session.specs.declared.naming.Naming.{Naming}
-use Rattle.debug_session.specs.Answers.{session_state}
+use Rattle.debug_session.specs.Answers.{session_state, opened_at}
 use Rattle.debug_session.specs.Memos.{no_memo}
 use Rattle.debug_session.specs.Sessions.{limits_of}
 use Rattle.debug_session.specs.Prompt.{Typing, Typed, at_prompt, unmoved}
@@ -26,11 +26,11 @@ pub unbegun : (streams : Streams) → IsUnbegun streams streams
 unbegun streams = record { untyped = none_typed streams.typed; unwritten = refl }
 
 -- lines were typed over a scenario
-pub over_scenario : (naming : Naming) (p : ScenarioParts) (ended : SessionEnded) (before after : Streams) → IsTypedSession naming (initial p) (unmoved (session_state (debugging_opened (initial p)))) ended before after → IsOverScenario naming p ended before after
+pub over_scenario : (naming : Naming) (p : ScenarioParts) (ended : SessionEnded) (before after : Streams) → IsTypedSession naming (initial p) (unmoved (opened_at (initial p))) ended before after → IsOverScenario naming p ended before after
 over_scenario naming p (Err NoMemory) before after session = absurd session.ending
 over_scenario naming p _ before after session = session
 
-pub typed_over : (p : ScenarioParts) (d : Dialogue) (naming : Naming) (ended : SessionEnded) (before after : Streams) → d.debugger ≡ debugging_opened (initial p) → d.memo ≡ no_memo → d.displays.items ≡ []
+pub typed_over : {workers : ℕ} (p : ScenarioParts) (d : Dialogue) (naming : Naming) (ended : SessionEnded) (before after : Streams) → d.debugger ≡ debugging_opened (initial p) workers → d.memo ≡ no_memo → d.displays.items ≡ []
     → IsTypedSession naming d.debugger.start (at_prompt d) ended before after → IsOverScenario naming p ended before after
 typed_over p d naming ended before after is none bare session =
     let unasked = subst (λ (m : Memo). IsTypedSession naming d.debugger.start (record { session_state = session_state d.debugger; memo = m; displays = [] }) ended before after) none (subst (λ (items : List DisplayItem). IsTypedSession naming d.debugger.start (record { session_state = session_state d.debugger; memo = d.memo; displays = items }) ended before after) bare session) in

@@ -128,7 +128,7 @@ commands_reported parts lines fault reported out is put = subst (λ (f : Session
     go OutputFailed put = put
 
 -- lines were typed at a prompt that was opened over an input, and so its session has ended
-pub typed_end : (groups input : List ℕ) (p : ScenarioParts) (prompt : Prompt) (ended : SessionEnded) (now after : Streams) → IsWithin input → InputHasScenario input p → HasGroups groups p → prompt.dialogue.debugger ≡ debugging_opened (initial p)
+pub typed_end : {workers : ℕ} (groups input : List ℕ) (p : ScenarioParts) (prompt : Prompt) (ended : SessionEnded) (now after : Streams) → IsWithin input → InputHasScenario input p → HasGroups groups p → prompt.dialogue.debugger ≡ debugging_opened (initial p) workers
     → prompt.dialogue.memo ≡ no_memo → prompt.dialogue.displays.items ≡ [] → IsNamingOf input (limits_of p) prompt.naming → WasTyped prompt ended now after → IsPromptDone groups input now ended after
 typed_end groups input p prompt ended now after within means has stands none bare called typed =
     record {

@@ -2,9 +2,8 @@
 use Rattle.std.specs.Prelude.{◌≡◌, ◌<◌, ℕ, true, List, [], length, string_bytes, Option, Result, Ok, Err}
 use Rattle.scenario_image.specs.declared.parts.ScenarioParts.{ScenarioParts}
 use Rattle.table_run.specs.State.{State, initial}
-use Rattle.debugger.specs.Debugging.{debugging_opened}
 use Rattle.debug_session.specs.declared.naming.Naming.{Naming}
-use Rattle.debug_session.specs.Answers.{session_state}
+use Rattle.debug_session.specs.Answers.{opened_at}
 use Rattle.debug_session.specs.Sessions.{limits_of}
 use Rattle.debug_session.specs.Prompt.{Ask, AtPrompt, Typed, TypedOutput, AreInTime, IsSoFar, IsToEnd, lines_in, none_quits, unmoved}
 use Rattle.sessions.specs.declared.fault.SessionFault.{SessionFault}
@@ -41,7 +40,7 @@ pub record IsUnbegun (before after : Streams) : Type 0 where
 -- the input has a scenario, for whose nodes the text names groups, and a session at a prompt over it ended so, which knows the names of the input
 abbrev pub IsAtPrompt : List ℕ → List ℕ → SessionEnded → Streams → Streams → Type 0
 IsAtPrompt groups input ended before after =
-    IsWithin input × ((p : ScenarioParts) × InputHasScenario input p × HasGroups groups p × (naming : Naming) × IsNamingOf input (limits_of p) naming × IsTypedSession naming (initial p) (unmoved (session_state (debugging_opened (initial p)))) ended before after)
+    IsWithin input × ((p : ScenarioParts) × InputHasScenario input p × HasGroups groups p × (naming : Naming) × IsNamingOf input (limits_of p) naming × IsTypedSession naming (initial p) (unmoved (opened_at (initial p))) ended before after)
 
 -- the input has a scenario, for whose nodes the text names no groups
 abbrev pub IsUngrouped : List ℕ → List ℕ → Type 0
@@ -50,7 +49,7 @@ IsUngrouped groups input = IsWithin input × ((p : ScenarioParts) × InputHasSce
 -- a session at a prompt over a scenario whose parts are called so ended so: memory was refused before the first line, or lines were typed
 abbrev pub IsOverScenario : Naming → ScenarioParts → SessionEnded → Streams → Streams → Type 0
 IsOverScenario naming p (Err NoMemory) before after = IsUnbegun before after
-IsOverScenario naming p ended before after = IsTypedSession naming (initial p) (unmoved (session_state (debugging_opened (initial p)))) ended before after
+IsOverScenario naming p ended before after = IsTypedSession naming (initial p) (unmoved (opened_at (initial p))) ended before after
 
 -- why a session at a prompt over this input ends so, and what came of its streams by then: each end has its row
 abbrev pub IsPromptOver : List ℕ → List ℕ → SessionEnded → Streams → Streams → Type 0

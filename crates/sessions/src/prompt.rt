@@ -175,7 +175,7 @@ fn open_prompt(
     requires partition { length partition ≡ length scenario.now.nodes }
     requires workers { (0 < workers) × (workers ≤ 64) }
     ensures room { IfOk result (λ prompt. 65536 < length prompt.room.items) }
-    ensures debugger { IfOk result (λ prompt. prompt.dialogue.debugger ≡ debugging_opened (initial scenario.now)) }
+    ensures debugger { IfOk result (λ prompt. prompt.dialogue.debugger ≡ debugging_opened (initial scenario.now) workers) }
     ensures memo { IfOk result (λ prompt. prompt.dialogue.memo ≡ no_memo) }
     ensures displays { IfOk result (λ prompt. prompt.dialogue.displays.items ≡ []) }
     ensures naming { IfOk result (λ prompt. prompt.naming ≡ naming) }

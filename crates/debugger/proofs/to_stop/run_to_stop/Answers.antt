@@ -2,7 +2,7 @@ use Rattle.std.proofs.Common.{true, false, refl, subst}
 use Rattle.table_run.specs.State.{State}
 use Rattle.net_watch.proofs.Alone.{second_alone}
 use Rattle.debugger.specs.Moves.{Passes, IsTooLong}
-use Rattle.debugger.proofs.Faults.{full_from_step, full_from_memory, full_of_memory}
+use Rattle.debugger.proofs.Faults.{full_from_step, full_from_memory, full_of_memory, alone_from_step, alone_of_memory, memory_alone}
 use Rattle.debugger.proofs.Watched.{stop_found, too_long_there}
 use Rattle.debugger.proofs.to_stop.run_to_stop.Goals as goal
 
@@ -25,3 +25,12 @@ returns-clause-full c =
     let both = c.in-Err.ensures.watched in
     let here = subst (λ (s : State). Passes s c.run_by_two.new.net) both.first_has.holds.1 c.in-Err.ensures.first in
     full_from_step c.into.result c.in-Err.fault c.into.ensures (too_long_there c.args.checkpoints.now c.run_by_two.new.net c.in-Err.fault here c.in-Err.ensures.end)
+
+pub returns-in_err-seen-clause-no_worker : goal.returns-in_err-seen-clause-no_worker
+returns-in_err-seen-clause-no_worker c = alone_of_memory c.from_residual.result c.from_residual.ensures
+
+pub returns-in-Ok-clause-no_worker : goal.returns-in-Ok-clause-no_worker
+returns-in-Ok-clause-no_worker c = memory_alone
+
+pub returns-clause-no_worker : goal.returns-clause-no_worker
+returns-clause-no_worker c = alone_from_step c.into.result c.in-Err.fault c.into.ensures

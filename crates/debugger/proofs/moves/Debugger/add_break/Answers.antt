@@ -12,7 +12,8 @@ returns-clause-same c =
     let start = ap (λ (d : Debugging). d.start) c.self.view_is in
     let shown = ap (λ (d : Debugging). d.shown) c.self.view_is in
     let left = ap (λ (d : Debugging). d.left) c.self.view_is in
-    λ i. record { start = start i; shown = shown i; left = left i; breaks = c.add.new.self }
+    let workers = ap (λ (d : Debugging). d.workers) c.self.view_is in
+    λ i. record { start = start i; shown = shown i; left = left i; breaks = c.add.new.self; workers = workers i }
 
 pub returns-clause-count : goal.returns-clause-count
 returns-clause-count c = c.add.ensures.count
@@ -21,7 +22,7 @@ pub returns-clause-again : goal.returns-clause-again
 returns-clause-again c =
     λ h.
     let a = c.add.ensures.again (subst (λ (d : Debugging). Contains d.breaks c.args.b) (sym c.self.view_is) h) in
-    subst (λ (d : Debugging). (◌≡◌ {A = Debugging} (record { start = c.self.inside.checkpoints; shown = c.self.inside.net; left = c.self.inside.left; breaks = c.add.new.self }) d) × (c.add.result ≡ Ok (length d.breaks))) c.self.view_is ((λ i. record { start = c.self.inside.checkpoints; shown = c.self.inside.net; left = c.self.inside.left; breaks = a.0 i }), a.1)
+    subst (λ (d : Debugging). (◌≡◌ {A = Debugging} (record { start = c.self.inside.checkpoints; shown = c.self.inside.net; left = c.self.inside.left; breaks = c.add.new.self; workers = c.self.inside.window_settings.workers }) d) × (c.add.result ≡ Ok (length d.breaks))) c.self.view_is ((λ i. record { start = c.self.inside.checkpoints; shown = c.self.inside.net; left = c.self.inside.left; breaks = a.0 i; workers = c.self.inside.window_settings.workers }), a.1)
 
 pub returns-clause-fresh : goal.returns-clause-fresh
 returns-clause-fresh c = λ h. subst (λ (d : Debugging). IfOk c.add.result (λ _. c.add.new.self ≡ d.breaks ++ c.args.b ∷ [])) c.self.view_is (c.add.ensures.fresh (λ k. h (subst (λ (d : Debugging). Contains d.breaks c.args.b) c.self.view_is k)))
@@ -33,4 +34,4 @@ pub returns-clause-room : goal.returns-clause-room
 returns-clause-room c = λ h. c.add.ensures.room (let same : length c.self.inside.breaks ≡ length c.args.self.now.breaks = ap (λ (d : Debugging). length d.breaks) c.self.view_is in omega (arith, h, same))
 
 pub returns-clause-err : goal.returns-clause-err
-returns-clause-err c = subst (λ (d : Debugging). OnErr c.add.result (◌≡◌ {A = Debugging} (record { start = c.self.inside.checkpoints; shown = c.self.inside.net; left = c.self.inside.left; breaks = c.add.new.self }) d)) c.self.view_is (on_err_weaker c.add.result (λ e. λ i. record { start = c.self.inside.checkpoints; shown = c.self.inside.net; left = c.self.inside.left; breaks = e i }) c.add.ensures.err)
+returns-clause-err c = subst (λ (d : Debugging). OnErr c.add.result (◌≡◌ {A = Debugging} (record { start = c.self.inside.checkpoints; shown = c.self.inside.net; left = c.self.inside.left; breaks = c.add.new.self; workers = c.self.inside.window_settings.workers }) d)) c.self.view_is (on_err_weaker c.add.result (λ e. λ i. record { start = c.self.inside.checkpoints; shown = c.self.inside.net; left = c.self.inside.left; breaks = e i; workers = c.self.inside.window_settings.workers }) c.add.ensures.err)

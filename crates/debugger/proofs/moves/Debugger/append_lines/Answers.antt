@@ -22,7 +22,7 @@ pub invariant_of-self : goal.invariant_of-self
 invariant_of-self c =
     let same = c.append_stretch.ensures.same in
     record {
-      moves = subst (λ (s : State). IsDebugger (record { start = s; shown = c.self.inside.net; left = c.self.inside.left; breaks = c.self.inside.breaks })) (sym same) c.self.invariant.moves;
+      moves = subst (λ (s : State). IsDebugger (record { start = s; shown = c.self.inside.net; left = c.self.inside.left; breaks = c.self.inside.breaks; workers = c.self.inside.window_settings.workers })) (sym same) c.self.invariant.moves;
       nodes = subst (λ (s : State). length c.self.inside.window_settings.partition ≡ length s.parts) (sym same) c.self.invariant.nodes;
     }
 
@@ -35,4 +35,4 @@ returns-clause-err c = c.append_stretch.ensures.err
 pub returns-clause-same : goal.returns-clause-same
 returns-clause-same c =
     let same = c.append_stretch.ensures.same in
-    (λ i. record { start = same i; shown = c.self.inside.net; left = c.self.inside.left; breaks = c.self.inside.breaks }) ∙ c.self.view_is
+    (λ i. record { start = same i; shown = c.self.inside.net; left = c.self.inside.left; breaks = c.self.inside.breaks; workers = c.self.inside.window_settings.workers }) ∙ c.self.view_is

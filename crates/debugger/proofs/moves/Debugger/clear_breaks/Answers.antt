@@ -10,4 +10,5 @@ returns c =
     let start = ap (λ (d : Debugging). d.start) c.self.view_is in
     let shown = ap (λ (d : Debugging). d.shown) c.self.view_is in
     let left = ap (λ (d : Debugging). d.left) c.self.view_is in
-    λ i. record { start = start i; shown = shown i; left = left i; breaks = c.clear.ensures i }
+    let workers = ap (λ (d : Debugging). d.workers) c.self.view_is in
+    λ i. record { start = start i; shown = shown i; left = left i; breaks = c.clear.ensures i; workers = workers i }

@@ -14,7 +14,8 @@ returns-clause-same c =
     let start = ap (λ (d : Debugging). d.start) c.self.view_is in
     let shown = ap (λ (d : Debugging). d.shown) c.self.view_is in
     let left = ap (λ (d : Debugging). d.left) c.self.view_is in
-    λ i. record { start = start i; shown = shown i; left = left i; breaks = c.delete.new.self }
+    let workers = ap (λ (d : Debugging). d.workers) c.self.view_is in
+    λ i. record { start = start i; shown = shown i; left = left i; breaks = c.delete.new.self; workers = workers i }
 
 pub returns-clause-taken : goal.returns-clause-taken
 returns-clause-taken c = subst (λ (d : Debugging). IsTakenOut d.breaks c.delete.new.self c.args.index c.delete.result) c.self.view_is c.delete.ensures

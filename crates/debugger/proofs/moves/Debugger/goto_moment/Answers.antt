@@ -1,7 +1,7 @@
-use Rattle.std.proofs.Common.{◌≡◌, sym, subst, ◌∙◌, IfOk, IfErr, OnErr, length}
+use Rattle.std.proofs.Common.{◌≡◌, ◌<◌, sym, subst, ◌∙◌, IfOk, IfErr, OnErr, length}
 use Rattle.table_run.specs.State.{State}
 use Rattle.debugger.specs.declared.fault.MoveFault.{MoveFault}
-use Rattle.debugger.specs.declared.fault.MoveFault.TheVariants.{CountFull}
+use Rattle.debugger.specs.declared.fault.MoveFault.TheVariants.{CountFull, NoWorker}
 use Rattle.debugger.specs.Moves.{Passes, UntilGoesTo, IsTooLong}
 use Rattle.debugger.specs.Debugging.{Debugging, HasMoved}
 use Rattle.debugger.specs.DebuggerOf.{IsDebugger}
@@ -22,7 +22,7 @@ pub invariant_of-self : goal.invariant_of-self
 invariant_of-self g c =
     let same = c.find_moment-found.ensures.same in
     record {
-      moves = subst (λ (s : State). IsDebugger (record { start = s; shown = c.self.inside.net; left = c.self.inside.left; breaks = c.self.inside.breaks })) (sym same) c.self.invariant.moves;
+      moves = subst (λ (s : State). IsDebugger (record { start = s; shown = c.self.inside.net; left = c.self.inside.left; breaks = c.self.inside.breaks; workers = c.self.inside.window_settings.workers })) (sym same) c.self.invariant.moves;
       nodes = subst (λ (s : State). length c.self.inside.window_settings.partition ≡ length s.parts) (sym same) c.self.invariant.nodes;
     }
 
@@ -32,7 +32,7 @@ show-requires g c = subst (λ (s : State). IfOk c.find_moment-found.result (Pass
 pub returns-clause-moved : goal.returns-clause-moved
 returns-clause-moved g c =
     let same = c.find_moment-found.ensures.same in
-    let kept : ◌≡◌ {A = Debugging} (record { start = c.find_moment-found.new.checkpoints; shown = c.self.inside.net; left = c.self.inside.left; breaks = c.self.inside.breaks }) c.args.self.now = (λ i. record { start = same i; shown = c.self.inside.net; left = c.self.inside.left; breaks = c.self.inside.breaks }) ∙ c.self.view_is in
+    let kept : ◌≡◌ {A = Debugging} (record { start = c.find_moment-found.new.checkpoints; shown = c.self.inside.net; left = c.self.inside.left; breaks = c.self.inside.breaks; workers = c.self.inside.window_settings.workers }) c.args.self.now = (λ i. record { start = same i; shown = c.self.inside.net; left = c.self.inside.left; breaks = c.self.inside.breaks; workers = c.self.inside.window_settings.workers }) ∙ c.self.view_is in
     subst (λ (d : Debugging). IfOk c.show.result (HasMoved d c.show.new.self)) kept c.show.ensures.moved
 
 pub returns-clause-goes : goal.returns-clause-goes
@@ -45,8 +45,13 @@ returns-clause-full g c =
     let here = err_shown (λ (fault : MoveFault). fault ≡ CountFull → IsTooLong c.self.inside.checkpoints) c.find_moment-found.result c.show.result c.show.ensures.answer c.find_moment-found.ensures.full in
     subst (λ (d : Debugging). IfErr c.show.result (λ (fault : MoveFault). fault ≡ CountFull → IsTooLong d.start)) c.self.view_is here
 
+pub returns-clause-several : goal.returns-clause-several
+returns-clause-several g c =
+    let here = err_shown (λ (fault : MoveFault). fault ≡ NoWorker → 1 < c.self.inside.window_settings.workers) c.find_moment-found.result c.show.result c.show.ensures.answer c.find_moment-found.ensures.several in
+    subst (λ (d : Debugging). IfErr c.show.result (λ (fault : MoveFault). fault ≡ NoWorker → 1 < d.workers)) c.self.view_is here
+
 pub returns-clause-err : goal.returns-clause-err
 returns-clause-err g c =
     let same = c.find_moment-found.ensures.same in
-    let kept : ◌≡◌ {A = Debugging} (record { start = c.find_moment-found.new.checkpoints; shown = c.self.inside.net; left = c.self.inside.left; breaks = c.self.inside.breaks }) c.args.self.now = (λ i. record { start = same i; shown = c.self.inside.net; left = c.self.inside.left; breaks = c.self.inside.breaks }) ∙ c.self.view_is in
+    let kept : ◌≡◌ {A = Debugging} (record { start = c.find_moment-found.new.checkpoints; shown = c.self.inside.net; left = c.self.inside.left; breaks = c.self.inside.breaks; workers = c.self.inside.window_settings.workers }) c.args.self.now = (λ i. record { start = same i; shown = c.self.inside.net; left = c.self.inside.left; breaks = c.self.inside.breaks; workers = c.self.inside.window_settings.workers }) ∙ c.self.view_is in
     subst (λ (d : Debugging). OnErr c.show.result (c.show.new.self ≡ d)) kept c.show.ensures.err

@@ -28,7 +28,7 @@ invariant_of-result-2 c =
 pub returns : goal.returns
 returns c =
     let checkpoints_are = c.new-2.ensures ∙ ap (λ (r : Reached). r.state) (c.in-Ok-copy.ensures ∙ c.in-Ok.ensures.state) in
-    λ i. record { start = checkpoints_are i; shown = c.in-Ok.ensures.state i; left = None; breaks = c.new-3.ensures i }
+    λ i. record { start = checkpoints_are i; shown = c.in-Ok.ensures.state i; left = None; breaks = c.new-3.ensures i; workers = c.args.workers }
 
 pub same-net : goal.same-net
 same-net c = refl

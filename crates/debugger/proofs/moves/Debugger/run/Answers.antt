@@ -1,8 +1,8 @@
-use Rattle.std.proofs.Common.{◌≡◌, refl, sym, subst, ◌∙◌, IfOk, IfErr, OnErr, length, true≢false}
+use Rattle.std.proofs.Common.{◌≡◌, ◌<◌, refl, sym, subst, ◌∙◌, IfOk, IfErr, OnErr, length, true≢false}
 use Rattle.std.proofs.lemmas.Result.{IfOk-weaker}
 use Rattle.table_run.specs.State.{State}
 use Rattle.debugger.specs.declared.fault.MoveFault.{MoveFault}
-use Rattle.debugger.specs.declared.fault.MoveFault.TheVariants.{CountFull}
+use Rattle.debugger.specs.declared.fault.MoveFault.TheVariants.{CountFull, NoWorker}
 use Rattle.debugger.specs.Moves.{Passes, RunsTo, RunGoesTo, IsTooLong}
 use Rattle.debugger.specs.Breaks.{AsksUnshown}
 use Rattle.debugger.specs.Aims.{LineHit}
@@ -10,6 +10,7 @@ use Rattle.debugger.specs.Debugging.{Debugging, HasMoved}
 use Rattle.debugger.specs.DebuggerOf.{IsDebugger}
 use Rattle.debugger.proofs.Aims.{by_lines}
 use Rattle.debugger.proofs.Batches.{same_nodes}
+use Rattle.debugger.proofs.Faults.{none_missing}
 use Rattle.debugger.proofs.Shown.{ok_shown, err_shown}
 use Rattle.debugger.proofs.moves.Debugger.run.Goals as goal
 
@@ -26,7 +27,7 @@ pub invariant_of-self : goal.invariant_of-self
 invariant_of-self g c =
     let same = c.find-found.ensures.same in
     record {
-      moves = subst (λ (s : State). IsDebugger (record { start = s; shown = c.self.inside.net; left = c.self.inside.left; breaks = c.self.inside.breaks })) (sym same) c.self.invariant.moves;
+      moves = subst (λ (s : State). IsDebugger (record { start = s; shown = c.self.inside.net; left = c.self.inside.left; breaks = c.self.inside.breaks; workers = c.self.inside.window_settings.workers })) (sym same) c.self.invariant.moves;
       nodes = subst (λ (s : State). length c.self.inside.window_settings.partition ≡ length s.parts) (sym same) c.self.invariant.nodes;
     }
 
@@ -36,7 +37,7 @@ show-requires g c = subst (λ (s : State). IfOk c.find-found.result (Passes s)) 
 pub returns-clause-moved : goal.returns-clause-moved
 returns-clause-moved g c =
     let same = c.find-found.ensures.same in
-    let kept : ◌≡◌ {A = Debugging} (record { start = c.find-found.new.checkpoints; shown = c.self.inside.net; left = c.self.inside.left; breaks = c.self.inside.breaks }) c.args.self.now = (λ i. record { start = same i; shown = c.self.inside.net; left = c.self.inside.left; breaks = c.self.inside.breaks }) ∙ c.self.view_is in
+    let kept : ◌≡◌ {A = Debugging} (record { start = c.find-found.new.checkpoints; shown = c.self.inside.net; left = c.self.inside.left; breaks = c.self.inside.breaks; workers = c.self.inside.window_settings.workers }) c.args.self.now = (λ i. record { start = same i; shown = c.self.inside.net; left = c.self.inside.left; breaks = c.self.inside.breaks; workers = c.self.inside.window_settings.workers }) ∙ c.self.view_is in
     subst (λ (d : Debugging). IfOk c.show.result (HasMoved d c.show.new.self)) kept c.show.ensures.moved
 
 pub returns-clause-goes : goal.returns-clause-goes
@@ -54,10 +55,15 @@ returns-clause-full g c =
     let here = err_shown (λ (fault : MoveFault). fault ≡ CountFull → IsTooLong c.self.inside.checkpoints) c.find-found.result c.show.result c.show.ensures.answer c.find-found.ensures.full in
     subst (λ (d : Debugging). IfErr c.show.result (λ (fault : MoveFault). fault ≡ CountFull → IsTooLong d.start)) c.self.view_is here
 
+pub returns-clause-several : goal.returns-clause-several
+returns-clause-several g c =
+    let here = err_shown (λ (fault : MoveFault). fault ≡ NoWorker → 1 < c.self.inside.window_settings.workers) c.find-found.result c.show.result c.show.ensures.answer c.find-found.ensures.several in
+    subst (λ (d : Debugging). IfErr c.show.result (λ (fault : MoveFault). fault ≡ NoWorker → 1 < d.workers)) c.self.view_is here
+
 pub returns-clause-err : goal.returns-clause-err
 returns-clause-err g c =
     let same = c.find-found.ensures.same in
-    let kept : ◌≡◌ {A = Debugging} (record { start = c.find-found.new.checkpoints; shown = c.self.inside.net; left = c.self.inside.left; breaks = c.self.inside.breaks }) c.args.self.now = (λ i. record { start = same i; shown = c.self.inside.net; left = c.self.inside.left; breaks = c.self.inside.breaks }) ∙ c.self.view_is in
+    let kept : ◌≡◌ {A = Debugging} (record { start = c.find-found.new.checkpoints; shown = c.self.inside.net; left = c.self.inside.left; breaks = c.self.inside.breaks; workers = c.self.inside.window_settings.workers }) c.args.self.now = (λ i. record { start = same i; shown = c.self.inside.net; left = c.self.inside.left; breaks = c.self.inside.breaks; workers = c.self.inside.window_settings.workers }) ∙ c.self.view_is in
     subst (λ (d : Debugging). OnErr c.show.result (c.show.new.self ≡ d)) kept c.show.ensures.err
 
 -- by one worker, and where a stall is asked for
@@ -70,6 +76,9 @@ returns-then-is_alone-clause-goes g c = c.run_singly.ensures.goes
 pub returns-then-is_alone-clause-full : goal.returns-then-is_alone-clause-full
 returns-then-is_alone-clause-full g c = c.run_singly.ensures.full
 
+pub returns-then-is_alone-clause-several : goal.returns-then-is_alone-clause-several
+returns-then-is_alone-clause-several g c = none_missing c.args.self.now.workers c.run_singly.result c.run_singly.ensures.no_worker
+
 pub returns-then-is_alone-clause-err : goal.returns-then-is_alone-clause-err
 returns-then-is_alone-clause-err g c = c.run_singly.ensures.err
 
@@ -81,6 +90,9 @@ returns-then-asks_unshown-clause-goes g c = c.run_singly-then-asks_unshown.ensur
 
 pub returns-then-asks_unshown-clause-full : goal.returns-then-asks_unshown-clause-full
 returns-then-asks_unshown-clause-full g c = c.run_singly-then-asks_unshown.ensures.full
+
+pub returns-then-asks_unshown-clause-several : goal.returns-then-asks_unshown-clause-several
+returns-then-asks_unshown-clause-several g c = none_missing c.args.self.now.workers c.run_singly-then-asks_unshown.result c.run_singly-then-asks_unshown.ensures.no_worker
 
 pub returns-then-asks_unshown-clause-err : goal.returns-then-asks_unshown-clause-err
 returns-then-asks_unshown-clause-err g c = c.run_singly-then-asks_unshown.ensures.err

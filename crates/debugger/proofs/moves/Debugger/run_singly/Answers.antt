@@ -1,7 +1,7 @@
-use Rattle.std.proofs.Common.{◌≡◌, sym, subst, ◌∙◌, IfOk, IfErr, OnErr, length}
+use Rattle.std.proofs.Common.{◌≡◌, ◌≢◌, sym, subst, ◌∙◌, IfOk, IfErr, OnErr, length}
 use Rattle.table_run.specs.State.{State}
 use Rattle.debugger.specs.declared.fault.MoveFault.{MoveFault}
-use Rattle.debugger.specs.declared.fault.MoveFault.TheVariants.{CountFull}
+use Rattle.debugger.specs.declared.fault.MoveFault.TheVariants.{CountFull, NoWorker}
 use Rattle.debugger.specs.Moves.{Passes, RunGoesTo, IsTooLong}
 use Rattle.debugger.specs.Debugging.{Debugging, HasMoved}
 use Rattle.debugger.specs.DebuggerOf.{IsDebugger}
@@ -15,7 +15,7 @@ pub invariant_of-self : goal.invariant_of-self
 invariant_of-self c =
     let same = c.net_at_stop-found.ensures.same in
     record {
-      moves = subst (λ (s : State). IsDebugger (record { start = s; shown = c.self.inside.net; left = c.self.inside.left; breaks = c.self.inside.breaks })) (sym same) c.self.invariant.moves;
+      moves = subst (λ (s : State). IsDebugger (record { start = s; shown = c.self.inside.net; left = c.self.inside.left; breaks = c.self.inside.breaks; workers = c.self.inside.window_settings.workers })) (sym same) c.self.invariant.moves;
       nodes = subst (λ (s : State). length c.self.inside.window_settings.partition ≡ length s.parts) (sym same) c.self.invariant.nodes;
     }
 
@@ -25,7 +25,7 @@ show-requires c = subst (λ (s : State). IfOk c.net_at_stop-found.result (Passes
 pub returns-clause-moved : goal.returns-clause-moved
 returns-clause-moved c =
     let same = c.net_at_stop-found.ensures.same in
-    let kept : ◌≡◌ {A = Debugging} (record { start = c.net_at_stop-found.new.checkpoints; shown = c.self.inside.net; left = c.self.inside.left; breaks = c.self.inside.breaks }) c.args.self.now = (λ i. record { start = same i; shown = c.self.inside.net; left = c.self.inside.left; breaks = c.self.inside.breaks }) ∙ c.self.view_is in
+    let kept : ◌≡◌ {A = Debugging} (record { start = c.net_at_stop-found.new.checkpoints; shown = c.self.inside.net; left = c.self.inside.left; breaks = c.self.inside.breaks; workers = c.self.inside.window_settings.workers }) c.args.self.now = (λ i. record { start = same i; shown = c.self.inside.net; left = c.self.inside.left; breaks = c.self.inside.breaks; workers = c.self.inside.window_settings.workers }) ∙ c.self.view_is in
     subst (λ (d : Debugging). IfOk c.show.result (HasMoved d c.show.new.self)) kept c.show.ensures.moved
 
 pub returns-clause-goes : goal.returns-clause-goes
@@ -41,5 +41,8 @@ returns-clause-full c =
 pub returns-clause-err : goal.returns-clause-err
 returns-clause-err c =
     let same = c.net_at_stop-found.ensures.same in
-    let kept : ◌≡◌ {A = Debugging} (record { start = c.net_at_stop-found.new.checkpoints; shown = c.self.inside.net; left = c.self.inside.left; breaks = c.self.inside.breaks }) c.args.self.now = (λ i. record { start = same i; shown = c.self.inside.net; left = c.self.inside.left; breaks = c.self.inside.breaks }) ∙ c.self.view_is in
+    let kept : ◌≡◌ {A = Debugging} (record { start = c.net_at_stop-found.new.checkpoints; shown = c.self.inside.net; left = c.self.inside.left; breaks = c.self.inside.breaks; workers = c.self.inside.window_settings.workers }) c.args.self.now = (λ i. record { start = same i; shown = c.self.inside.net; left = c.self.inside.left; breaks = c.self.inside.breaks; workers = c.self.inside.window_settings.workers }) ∙ c.self.view_is in
     subst (λ (d : Debugging). OnErr c.show.result (c.show.new.self ≡ d)) kept c.show.ensures.err
+
+pub returns-clause-no_worker : goal.returns-clause-no_worker
+returns-clause-no_worker c = err_shown (λ (fault : MoveFault). fault ≢ NoWorker) c.net_at_stop-found.result c.show.result c.show.ensures.answer c.net_at_stop-found.ensures.no_worker

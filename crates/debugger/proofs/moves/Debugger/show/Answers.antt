@@ -27,7 +27,8 @@ returns-in-Ok-clause-moved c =
     let start = ap (λ (d : Debugging). d.start) c.self.view_is in
     let shown = c.replace.ensures.value ∙ ap (λ (d : Debugging). d.shown) c.self.view_is in
     let breaks = ap (λ (d : Debugging). d.breaks) c.self.view_is in
-    record { after = (λ i. record { start = start i; shown = c.replace.new.dest; left = Some (shown i); breaks = breaks i }); at = ap (λ (r : Reached). r.position) c.replace.ensures.after ∙ sym c.position-position.ensures.count; on_run = here }
+    let workers = ap (λ (d : Debugging). d.workers) c.self.view_is in
+    record { after = (λ i. record { start = start i; shown = c.replace.new.dest; left = Some (shown i); breaks = breaks i; workers = workers i }); at = ap (λ (r : Reached). r.position) c.replace.ensures.after ∙ sym c.position-position.ensures.count; on_run = here }
 
 pub returns-in-Ok-clause-answer : goal.returns-in-Ok-clause-answer
 returns-in-Ok-clause-answer c = ok_answers c.args.found c.in-Ok.net c.position-position.result c.in-Ok.is c.position-position.ensures.count

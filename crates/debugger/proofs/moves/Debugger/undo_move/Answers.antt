@@ -23,14 +23,15 @@ returns-in-Some-clause-undone c =
     λ was e.
     let start = ap (λ (d : Debugging). d.start) c.self.view_is in
     let breaks = ap (λ (d : Debugging). d.breaks) c.self.view_is in
+    let workers = ap (λ (d : Debugging). d.workers) c.self.view_is in
     let same : c.in-Some.net ≡ was = same_some c.in-Some.net was (c.in-Some.ensures.value ∙ ap (λ (d : Debugging). d.left) c.self.view_is ∙ e) in
-    (refl, (λ i. record { start = start i; shown = same i; left = c.take.ensures.after i; breaks = breaks i }))
+    (refl, (λ i. record { start = start i; shown = same i; left = c.take.ensures.after i; breaks = breaks i; workers = workers i }))
 
 pub returns-in-None-clause-none : goal.returns-in-None-clause-none
 returns-in-None-clause-none c =
     λ _.
     let left = c.take.ensures.after ∙ c.in-None.ensures.value in
-    let kept : ◌≡◌ {A = Debugging} (record { start = c.self.inside.checkpoints; shown = c.self.inside.net; left = c.take.new.self; breaks = c.self.inside.breaks }) (record { start = c.self.inside.checkpoints; shown = c.self.inside.net; left = c.self.inside.left; breaks = c.self.inside.breaks }) = (λ i. record { start = c.self.inside.checkpoints; shown = c.self.inside.net; left = left i; breaks = c.self.inside.breaks }) in
+    let kept : ◌≡◌ {A = Debugging} (record { start = c.self.inside.checkpoints; shown = c.self.inside.net; left = c.take.new.self; breaks = c.self.inside.breaks; workers = c.self.inside.window_settings.workers }) (record { start = c.self.inside.checkpoints; shown = c.self.inside.net; left = c.self.inside.left; breaks = c.self.inside.breaks; workers = c.self.inside.window_settings.workers }) = (λ i. record { start = c.self.inside.checkpoints; shown = c.self.inside.net; left = left i; breaks = c.self.inside.breaks; workers = c.self.inside.window_settings.workers }) in
     (refl, kept ∙ c.self.view_is)
 
 pub returns-in-None-clause-undone : goal.returns-in-None-clause-undone

@@ -7,7 +7,7 @@ use Rattle.debugger.specs.declared.fault.MoveFault.TheVariants.{CountFull}
 use Rattle.debugger.specs.Moves.{Passes, HasPosition, IsTooLong}
 use Rattle.debugger.specs.Courses.{IsOnWindows}
 use Rattle.debugger.specs.Aims.{GoesTo, IsSought}
-use Rattle.debugger.proofs.Faults.{none_full, not_ok, full_of_memory}
+use Rattle.debugger.proofs.Faults.{none_full, none_missing, not_ok, full_of_memory, alone_of_memory}
 use Rattle.debugger.proofs.window_settings.WindowSettings.find.Goals as goal
 
 pub new-requires : goal.new-requires
@@ -48,3 +48,13 @@ returns-in-Ok-Some-clause-full g c = subst (λ (s : State). IfErr c.into_net_at.
 -- or with the run
 pub returns-in-Ok-None-clause-full : goal.returns-in-Ok-None-clause-full
 returns-in-Ok-None-clause-full g c = none_full c.into_edge.result (IsTooLong c.args.checkpoints.now) c.into_edge.ensures.no_count
+
+-- a worker is missing only where several run a window
+pub returns-in_err-course-clause-several : goal.returns-in_err-course-clause-several
+returns-in_err-course-clause-several g c = none_missing c.args.self.now.workers c.from_residual.result (alone_of_memory c.from_residual.result c.from_residual.ensures)
+
+pub returns-in-Ok-Some-clause-several : goal.returns-in-Ok-Some-clause-several
+returns-in-Ok-Some-clause-several g c = none_missing c.args.self.now.workers c.into_net_at.result c.into_net_at.ensures.no_worker
+
+pub returns-in-Ok-None-clause-several : goal.returns-in-Ok-None-clause-several
+returns-in-Ok-None-clause-several g c = none_missing c.args.self.now.workers c.into_edge.result c.into_edge.ensures.no_worker

@@ -3,7 +3,7 @@ use Rattle.std.proofs.lemmas.Result.{IfOk-weaker}
 use Rattle.net_machine.specs.Run.{Reached}
 use Rattle.debugger.specs.Moves.{UntilGoesTo}
 use Rattle.debugger.proofs.Batches.{same_nodes}
-use Rattle.debugger.proofs.Faults.{full_from_memory}
+use Rattle.debugger.proofs.Faults.{full_from_memory, memory_alone}
 use Rattle.debugger.proofs.Moments.{until_from}
 use Rattle.debugger.proofs.window_settings.WindowSettings.find_moment.Goals as goal
 
@@ -20,3 +20,6 @@ returns-in-Ok-clause-goes g c =
 
 pub returns-in-Err-clause-full : goal.returns-in-Err-clause-full
 returns-in-Err-clause-full g c = full_from_memory
+
+pub returns-in-Err-clause-several : goal.returns-in-Err-clause-several
+returns-in-Err-clause-several g c = λ none. absurd (memory_alone none)

@@ -5,7 +5,7 @@ use Rattle.window_engine.specs.Engines.{EngineValue}
 use Rattle.debugger.specs.Moves.{Passes}
 use Rattle.debugger.specs.Courses.{IsOnWindows}
 use Rattle.debugger.specs.Aims.{EndsIn, GoesTo}
-use Rattle.debugger.proofs.Faults.{not_ok, full_of_move}
+use Rattle.debugger.proofs.Faults.{not_ok, full_of_move, several_of_move}
 use Rattle.debugger.proofs.Batches.{no_more, window_of, no_window, way_on, too_long_from}
 use Rattle.debugger.proofs.Aims.{NotYet, not_yet_at, ended, not_yet_on, ends_in, not_before}
 use Rattle.debugger.proofs.Alone.{window_more}
@@ -41,6 +41,9 @@ pub returns-in_err-batch-clause-full : goal.returns-in_err-batch-clause-full
 returns-in_err-batch-clause-full g c =
     let i = c.loop-batch.invariant in
     full_of_move c.from_residual.result c.in_err-batch.field-0.0 c.from_residual.ensures (λ full. too_long_from c.args.checkpoints.now c.loop-batch.course.engine.net i.on_way.ahead i.few (c.in_err-batch.ensures.full full))
+
+pub returns-in_err-batch-clause-several : goal.returns-in_err-batch-clause-several
+returns-in_err-batch-clause-several g c = several_of_move c.args.self.now.workers c.from_residual.result c.in_err-batch.field-0.0 c.from_residual.ensures c.in_err-batch.ensures.several
 
 pub returns-in_err-batch-clause-same : goal.returns-in_err-batch-clause-same
 returns-in_err-batch-clause-same g c = c.loop-batch.invariant.same
