@@ -11,7 +11,7 @@ import sys
 import pytest
 
 import compare
-from clone import PROGRAM, TOP, Folder, ran, read_text
+from clone import PROGRAM, TOP, Folder, of_model, outcome, ran, read_text
 from tcpsim_model.reasons import MEANINGS
 
 pytestmark = pytest.mark.built
@@ -132,3 +132,16 @@ def test_program_and_model_explain_what_is_refused_alike():
         notes.append(compare.model_answers(*case, compare.MOST_BYTES)[2])
     for sentence in (': write ', 'number of nanoseconds', 'bits per second', 'a name is', 'CRLF', 'spaces', 'pcap', 'the kind of', 'groups: '):
         assert any(sentence in note for note in notes), sentence
+
+
+def test_a_file_that_cannot_be_read_is_explained_alike(tmp_path):
+    (tmp_path / 'folder').mkdir()
+    (tmp_path / 'closed').write_text('sim 5\n')
+    for name, why in (('none.txt', b'No such file or directory\n'), ('folder', b'Is a directory\n'),
+                      ('closed/file', b'Not a directory\n')):
+        path = str(tmp_path / name)
+        note = b'cannot read %s\n' % path.encode()
+        for word in ('run', 'debug'):
+            for answer in (outcome, of_model):
+                assert answer([word, path], b'') == (3, note, b'')
+                assert answer([word, '--explain', path], b'') == (3, note + why, b'')

@@ -393,4 +393,14 @@ def test_a_refusal_explains_itself(put):
         assert done.stderr.startswith(plain.stderr) and len(done.stderr.splitlines()) > len(plain.stderr.splitlines()) == 1
         assert beside_terminal('stderr', *words) == (done.returncode, done.stderr)
         assert beside_terminal('stdin', *words) == (done.returncode, plain.stderr)
-    assert beside_terminal('stderr', 'run', '/none') == (3, b'cannot read /none\n')
+    assert beside_terminal('stderr', 'run', '/none') == (3, b'cannot read /none\nNo such file or directory\n')
+
+
+def test_words_that_are_no_command_are_explained_at_a_terminal():
+    of_prompt = ' is a command of the prompt: tcpsim debug FILE'
+    for words, told in ((('rnu',), 'no command rnu; the nearest is run'), (('figure', ONE), 'no command figure; the nearest is figures'),
+                        (('why',), 'why' + of_prompt), (('stalls', 'f0'), 'stalls' + of_prompt), (('help',), 'help' + of_prompt),
+                        (('verify',), ''), ((ONE,), ''), ((), ''), (('run', 'a', 'b'), ''), (('--why',), '')):
+        status, note, _ = outcome(words)
+        assert status == 2 and note.startswith(b'error: ')
+        assert beside_terminal('stderr', *words) == (2, note + f'tcpsim: {told}\n'.encode() * bool(told)), words

@@ -38,6 +38,9 @@ GROUP = re.compile(r'0|[1-9][0-9]?')
 OPTIONS = {'run': ('--workers', '--groups'), 'debug': ('--workers', '--groups', '--steps'), 'figures': ('--from', '--every')}
 FLAGS = {'figures': ('--series', '--names')}
 EXPLAIN = '--explain'       # a flag of every command
+# What the system calls a failure to read a file.
+SYSTEM_WORDS = {FileNotFoundError: 'No such file or directory', PermissionError: 'Permission denied', IsADirectoryError: 'Is a directory',
+                NotADirectoryError: 'Not a directory'}
 # What is said of words that are judged behind the input.
 NO_MOMENT = 'error: --from takes a moment, as 1.5s, 20ms or 10000ns'
 NO_STEP = 'error: --every takes a time above 0, as 1.5s or 20ms, and --series wants --every'
@@ -154,7 +157,8 @@ def contents(path):
         with open(path, 'rb') as file:
             return file.read()
     except OSError as error:
-        raise CannotRead(f'cannot read {path}') from error
+        why = next((told for kind, told in SYSTEM_WORDS.items() if isinstance(error, kind)), '')
+        raise CannotRead(f'cannot read {path}', f'{why}\n' * bool(why)) from error
 
 
 def lines_typed(keys):

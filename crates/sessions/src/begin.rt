@@ -23,7 +23,7 @@ use crate::rest::{Rest, nothing_left};
 use crate::run::begin_run;
 use crate::scenario_input::reported_scenario;
 use crate::source::Source;
-use crate::why::tell_why;
+use crate::why::tell_unread;
 use command_line::notes::Notes;
 use command_line::sharing::Sharing;
 use command_line::subcommand::{Asked, OptionalWord, Subcommand, Task, Wishes};
@@ -136,7 +136,7 @@ fn begin_named<R: Source, W: Sink, N: Notes>(
 {
     let read = read_named(means.alloc, file, reader);
     if let Err(fault) = &read {
-        tell_why(means, &[], fault, notes);
+        tell_unread(means, fault, reader.last_error(), notes);
     }
     let input = read?;
     begin_task(means, task, file, input, writer, notes)

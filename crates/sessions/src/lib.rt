@@ -16,6 +16,7 @@ mod file_name;
 pub mod groups;
 mod input;
 mod means;
+mod mistake;
 mod name_column;
 mod naming;
 mod nearest;

@@ -130,6 +130,11 @@ fn name_begun(word: &[u8]) -> Option<CommandName> {
     None
 }
 
+/// Whether a word is the whole name of a command.
+pub(crate) fn is_name(word: &[u8]) -> bool {
+    NAMES.iter().any(|name| spelling(*name).as_bytes() == word)
+}
+
 /// The command whose name the first word of a line begins.
 pub(crate) fn command_begun(line: &[u8]) -> Option<CommandName> {
     name_begun(first_word(line))

@@ -16,6 +16,7 @@ use crate::begin::begin;
 use crate::debug::answer_commands;
 use crate::fault::SessionFault;
 use crate::means::SessionTools;
+use crate::mistake::tell_mistake;
 use crate::outcome::Outcome;
 use crate::output::put_all;
 use crate::prompt::answer_prompt;
@@ -157,7 +158,10 @@ pub fn run_noted<H: AllocGlobal + Threads + Wait + Sync, R: Source, W: Sink, S: 
             };
             Outcome::from(answer_asked(&tools, rt.alloc(), asked, reader, writer, notes))
         }
-        Err(error) => Outcome::from(answer_words(rt.alloc(), error, writer)),
+        Err(error) => {
+            tell_mistake(rt.alloc(), words, error.kind(), notes);
+            Outcome::from(answer_words(rt.alloc(), error, writer))
+        }
     }
 }
 

@@ -5,7 +5,7 @@ ghost use Rattle.sessions.specs.Over.{read_through, read_failures};
 ghost use Rattle.window_engine.specs.Failures.{counted};
 
 use crate::typed::read_line;
-use std::io::Read;
+use std::io::{ErrorKind, Read};
 use window_engine::Sink;
 
 /// A source did not give what it was asked for.
@@ -60,6 +60,11 @@ pub trait Source {
         ensures within { IfOk result (λ found. IfSome found (λ count. count ≤ length room.new)) }
         ensures line { TypesLine (typed self.old) (typed self.new) result room.new (S.contents shown.now) }
         ensures failures { failures self.new ≡ failures_after result (failures self.old) };
+
+    /// What sort of failure the last one was, where that is known.
+    fn last_error(&self) -> Option<ErrorKind> {
+        None
+    }
 }
 
 /// A reader as a source, which has no files. Each error of the reader is a failure, an interruption

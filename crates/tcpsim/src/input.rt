@@ -5,7 +5,7 @@ ghost use Rattle.std.specs.Prelude.{◌≡◌};
 use sessions::source::{Source, SourceFail};
 use sessions::typed::read_line;
 use std::fs::{File, Files};
-use std::io::{self, Read};
+use std::io::{self, ErrorKind, Read};
 use window_engine::Sink;
 
 /// A reader, or a file that was opened in its place. Each error of either is a failure, an
@@ -18,6 +18,8 @@ pub struct Input<'f, R, F: Files> {
     file: Option<F::File>,
     /// How often opening or reading failed.
     failures: u64,
+    /// What sort of failure the last one was.
+    error: Option<ErrorKind>,
 }
 
 impl<'f, R, F: Files> Input<'f, R, F> {
@@ -28,13 +30,15 @@ impl<'f, R, F: Files> Input<'f, R, F> {
             files,
             file: None,
             failures: 0,
+            error: None,
         }
     }
 
-    /// Counts a failure.
-    fn fail(&mut self) -> SourceFail
-        ensures { self.new ≡ record self.old { failures = counted self.old.failures } }
+    /// Counts a failure, and keeps of what sort it is.
+    fn fail(&mut self, error: io::Error) -> SourceFail
+        ensures { self.new.failures ≡ counted self.old.failures }
     {
+        self.error = Some(error.kind());
         self.failures = self.failures.saturating_add(1);
         SourceFail
     }
@@ -49,7 +53,7 @@ impl<'f, R: Read, F: Files> Source for Input<'f, R, F> {
                 self.file = Some(file);
                 Ok(())
             }
-            Err(_) => Err(self.fail()),
+            Err(error) => Err(self.fail(error)),
         }
     }
 
@@ -60,7 +64,7 @@ impl<'f, R: Read, F: Files> Source for Input<'f, R, F> {
         };
         match count {
             Ok(count) => Ok(count),
-            Err(_) => Err(self.fail()),
+            Err(error) => Err(self.fail(error)),
         }
     }
 
@@ -72,7 +76,11 @@ impl<'f, R: Read, F: Files> Source for Input<'f, R, F> {
         match read_line(&mut self.reader, room) {
             Ok(Some(count)) => Ok(Some(count)),
             Ok(None) => Ok(None),
-            Err(_) => Err(self.fail()),
+            Err(error) => Err(self.fail(error)),
         }
+    }
+
+    fn last_error(&self) -> Option<ErrorKind> {
+        self.error
     }
 }
