@@ -151,8 +151,12 @@ def hear_nothing() -> None:
 
 
 def become(path: str, words: list[str]) -> None:
-    """Goes on as another program; its signals and timers are as a new one's."""
+    """Goes on as another program; its signals and timers are as a new one's. What came before ends this one."""
     signal.setitimer(signal.ITIMER_REAL, 0)
+    for number in ENDS:
+        if signal.getsignal(number) != signal.SIG_IGN:
+            signal.signal(number, lambda came, _: os._exit(128 + came))
+    signal.pthread_sigmask(signal.SIG_UNBLOCK, ENDS)        # a new program has blocked what the one before it had
     os.execv(path, [path, *words])
 
 

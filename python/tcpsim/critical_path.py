@@ -293,7 +293,7 @@ def awaited(walk: CriticalPaths, flow: FlowState) -> str:
     if copies:
         packet, where = min(copies, key=lambda found: found[0].line)
         return f'segment {packet.number}, {where}'
-    more = f', or for duplicates: {len(packets)} of its packets are in the net' if packets else ''
+    more = f', or for duplicates; packets in the net: {len(packets)}' if packets else ''
     return f'its retransmission timer, due at {flow.deadline / 1e9:.9f} s{more}'
 
 

@@ -67,7 +67,7 @@ def lines_of_text(text: str, program: str | None = None) -> Iterator[Iterator[st
 @contextlib.contextmanager
 def naming(scenario: str, trace: str = '', source: bytes = b'') -> Iterator[None]:
     """Puts the name of its file before what is wrong in a line of a scenario or of a trace, and behind what the program
-    refuses the line of the source."""
+    refuses the line of the source, and what would do."""
     name = 'standard input' if scenario == '-' else scenario
     try:
         yield
@@ -79,8 +79,20 @@ def naming(scenario: str, trace: str = '', source: bytes = b'') -> Iterator[None
         if refused := re.fullmatch(r'refused \w+(?: line (\d+))?', wrong.note):
             number = int(refused[1] or 0)
             line = source.split(b'\n')[number - 1][:100].decode('utf-8', 'replace') if number else ''
-            wrong.args = f'{name}: {wrong}' + f': {line}' * bool(line),
+            told = meant(wrong.program, source, wrong.note) if wrong.program else ''
+            wrong.args = f'{name}: {wrong}' + f': {line}' * bool(line) + f'. {told}' * bool(told),
         raise
+
+
+def meant(path: str, source: bytes, note: str) -> str:
+    """What is to be written instead of what the program of this path refuses, or else what the refusal means: of its explanation
+    the line behind those that show the place. '' where it explains something else, or nothing."""
+    words = [path, 'dis' if source.startswith(IMAGE_BEGINS) else 'asm', '--explain']
+    done = subprocess.run(words, input=source, capture_output=True, check=False)
+    first, *shown = done.stderr.decode('utf-8', 'replace').splitlines() or ['']
+    if first != note or not shown:
+        return ''
+    return shown[2] if shown[1:2] and not shown[1].strip('^ ') else shown[-1]
 
 
 class Rest:
@@ -215,7 +227,7 @@ class Running:
         status = self._process.wait(patience)
         if status:
             self._note.seek(0)
-            raise ProgramFailed(status, self._note.read(1 << 16))
+            raise ProgramFailed(status, self._note.read(1 << 16), self._process.args[0])
 
 
 @contextlib.contextmanager
@@ -247,10 +259,10 @@ def unnamed() -> BinaryIO:
 
 
 class ProgramFailed(Unreadable):
-    """The program did not end with status 0; `note` is what it said of that."""
+    """The program did not end with status 0; `note` is what it said of that, `program` its path where a file of it ran."""
 
-    def __init__(self, status: int, note: bytes):
-        self.ended = status
+    def __init__(self, status: int, note: bytes, program: str = ''):
+        self.ended, self.program = status, program
         self.note = ' '.join(note.decode('utf-8', 'replace').split())
         how = f'was ended by signal {-status}' if status < 0 else f'ended with status {status}'
         super().__init__(f'the program {how}' + f': {self.note}' * bool(self.note))

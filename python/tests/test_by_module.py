@@ -42,6 +42,14 @@ def test_all_three_do_the_same(command, words):
     assert script[0] == 0 and len(script[1]) > 100
 
 
+def test_scripts_are_alike():
+    """So each hears Ctrl-C from its first line on."""
+    def text(command):
+        with open(os.path.join(BIN, f'tcpsim-{command}'), encoding='ascii') as file:
+            return file.read().split('\n', 2)[2].replace(f'tcpsim.commands.{command} ', '')
+    assert {command: text(command) == text('flows') for command in COMMANDS} == dict.fromkeys(COMMANDS, True)
+
+
 def test_the_jobs_of_a_sweep_call_its_script(tmp_path):
     assert ran('-m', 'tcpsim', 'sweep', SCENARIO, '--set', 'a.lose=none', '--print', str(tmp_path / 'jobs'), '--program', PROGRAM)[0] == 0
     assert os.path.join(BIN, 'tcpsim-sweep') in (tmp_path / 'jobs' / 'jobs').read_text()

@@ -72,7 +72,7 @@ def awaited_by_model(net, scenario, number):
     if net.ends[flow.receiver].alarm is not None and net.ends[flow.receiver].next > sender.una:
         return {f'the delayed acknowledgement, due at {net.ends[flow.receiver].alarm / 1e9:.9f} s'}
     copies = {f'segment {packet.number}, {where}' for packet, where in own if not packet.is_ack and packet.number == sender.una}
-    more = f', or for duplicates: {len(own)} of its packets are in the net' if own else ''
+    more = f', or for duplicates; packets in the net: {len(own)}' if own else ''
     return copies or {f'its retransmission timer, due at {sender.deadline / 1e9:.9f} s{more}'}
 
 

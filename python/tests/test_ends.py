@@ -417,6 +417,17 @@ def test_interrupted_at_any_line(tool, place):
     assert set(statuses) <= {130, 0} and statuses.count(130) > len(tried) / 2, dict(zip(tried, statuses))
 
 
+def test_another_program_hears_what_this_one_no_longer_does():
+    """A tool that goes on as another program, after its own end as before it."""
+    words = 'from tcpsim.command_line import become, hear_nothing; hear_nothing(); become("/bin/sleep", ["60"])'
+    with subprocess.Popen([sys.executable, '-c', words], env={**os.environ, 'PYTHONPATH': os.path.join(TOP, 'python')}) as process:
+        end = time.monotonic() + PATIENCE
+        while b'sleep' not in pathlib.Path(f'/proc/{process.pid}/cmdline').read_bytes().split(b'\0')[0] and time.monotonic() < end:
+            time.sleep(.02)
+        process.send_signal(signal.SIGTERM)
+        assert process.wait(PATIENCE) == -signal.SIGTERM
+
+
 def test_signals_one_after_another(place):
     """What is taken away is taken away, though a second signal comes."""
     path = target(place, 'flows')

@@ -183,7 +183,7 @@ class TestCommand(Files):
         old = self.put('old', '#!/bin/sh\necho "error: unrecognized subcommand" >&2\nexit 2\n', stat.S_IRWXU)
         full = self.put('full', '#!/bin/sh\necho "count full" >&2\nexit 4\n', stat.S_IRWXU)
         for scenario, program, note in (
-                (refused, PROGRAM, 'status 1: refused E4 line 1'), (self.put('short', b'TCB2'), PROGRAM, 'refused L1'),
+                (refused, PROGRAM, 'status 1: refused E4 line 1: sim 01. END is a whole number of nanoseconds, 1 to '), (self.put('short', b'TCB2'), PROGRAM, 'refused L1'),
                 (self.folder, PROGRAM, 'directory'), ('nothing', PROGRAM, 'nothing'), (self.scenario, old, f'{old} has no'),
                 (self.scenario, full, 'status 4: count full'), (self.scenario, '/nowhere', '/nowhere'),
                 (self.scenario, self.put('true', '#!/bin/sh\n', stat.S_IRWXU), 'no table of figures')):

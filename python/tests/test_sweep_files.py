@@ -308,6 +308,19 @@ def test_folders_that_are_hostile(place):
         path.touch()
 
 
+@pytest.mark.parametrize('make, said', [
+    (os.mkfifo, ''), (lambda path: path.symlink_to('/dev/zero'), ''), (lambda path: path.write_bytes(b'\xff\n'), ''),
+    (lambda path: path.write_bytes(b'first\n\x1b[31mred\x00\n'), ': ?[31mred?'),
+    (lambda path: path.write_bytes(b'a' * 1000 + b'\n'), ': ' + 'a' * 200)])
+def test_the_log_of_a_job_is_a_plain_file_of_plain_letters(make, said, place):
+    """Neither is a pipe waited for, nor does what a log has go to the terminal as it is."""
+    assert swept('hand.txt', *SETS, '--program', PROGRAM, '--print', 'd', cwd=place)[0] == 0
+    make(place / 'd' / '1_droptail-2.log')
+    done = swept('--gather', 'd', '-o', 'got.csv', cwd=place)
+    assert done[0] == 1 and f'not run{said}' in (place / 'got.csv').read_text().splitlines()[1]
+    assert '\x1b' not in done[1] + done[2] + (place / 'got.csv').read_text()
+
+
 CELLS = st.sampled_from(['', '0', '-1', 'nan', 'inf', '1e5', '٣', '1' * 5000, 'x', '\x1b[2J', 'a', 'b', 'done', 'refused E1 line 1', '"', ',', '1.5',
                          '\0', 'é']) | st.text(max_size=5)
 

@@ -19,7 +19,7 @@ from collections.abc import Iterable
 from tcpsim import output
 from tcpsim.breakdown import Breakdown, breakdowns, flows_table, in_seconds, times, words_of
 from tcpsim.causes import counted, seconds
-from tcpsim.command_line import Refused, Words, Wrong, as_type
+from tcpsim.command_line import Refused, Words, Wrong, as_type, go_on_with
 from tcpsim.critical_path import Event, critical_paths
 from tcpsim.output import Output
 from tcpsim.program import found
@@ -187,6 +187,8 @@ def main() -> None:
     given = words_of_tool()
     if given.plot and given.inputs.count('-') > 1:
         raise Wrong('standard input has one scenario: - is named twice')
+    if given.plot:
+        go_on_with('matplotlib')
     with contextlib.ExitStack() as opens:
         file = opens.enter_context(output.opened(given.plot or given.output, all_inputs(given)))
         if given.plot:

@@ -1,7 +1,13 @@
 """The command tcpsim-time."""
+import sys
+
 from tcpsim.command_line import run
 
 
 def main() -> int:
     """Answers the status."""
     return run('tcpsim.cli.time')
+
+
+if __name__ == '__main__':
+    sys.exit(main())

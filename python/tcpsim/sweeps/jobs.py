@@ -25,6 +25,7 @@ from tcpsim import output
 from tcpsim.command_line import MODEL, Refused, Wrong
 from tcpsim.program import TOP, beside, is_program
 from tcpsim.prompt import ends_with_parent
+from tcpsim.scenario.text import Unreadable
 from tcpsim.scenario.units import spelled_time
 from tcpsim.sweeps.files import difference, fault_of, is_answered, plain_text, read_csv
 from tcpsim.sweeps.pool import Runner
@@ -35,14 +36,15 @@ PATIENCE = 10               # seconds in which a scheduler answers
 LOOK, ASK = 0.2, 1.0        # seconds between two looks into the folder, and two questions to a scheduler
 LOGGING_IN = 120            # seconds in which each machine of an --sshlogin says its version
 LONGEST = 600               # seconds for which a scheduler may not answer while its jobs run
+MOST_SAID = 200             # characters that a job said last which its row has
 MOST_TASKS = 1_000          # of a job array; Slurm's own bound is 1,001 where its MaxArraySize is left out
 RETRIES = 3                 # how often GNU parallel tries a job whose machine fails
 SWEEP, COMMAND = 'sweep.json', 'tcpsim-sweep'
 # What a folder keeps of its sweep: each value's sort, and how it is told from another sweep's, where its rows depend on it.
 TEXT, WORD, LIST, FLAG, NUMBER = 'a text', 'a word or null', 'a list of words', 'true or false', 'a whole number from 0 to 2^64'
-KEPT = {'scenario': (TEXT, 'scenario'), 'program_sha256': (TEXT, 'program'), 'format': (NUMBER, 'format of figures'),
-        'sets': (LIST, '--set'), 'over': (LIST, '--over'), 'show': (WORD, '--show'), 'link': (WORD, '--link'), 'skip': (NUMBER, '--skip'),
-        'exact': (FLAG, '--exact'), 'engine': (FLAG, None), 'pair': (WORD, None)}
+KEPT = {'scenario': (TEXT, 'scenario'), 'program_sha256': (TEXT, 'program'), 'sets': (LIST, '--set'), 'over': (LIST, '--over'),
+        'show': (WORD, '--show'), 'link': (WORD, '--link'), 'skip': (NUMBER, '--skip'), 'exact': (FLAG, '--exact'),
+        'format': (NUMBER, 'format of figures'), 'engine': (FLAG, None), 'pair': (WORD, None)}
 IS_OF = {TEXT: lambda it: isinstance(it, str) and all(character < '\u0100' for character in it),       # each a byte
          WORD: lambda it: it is None or isinstance(it, str), FLAG: lambda it: isinstance(it, bool),
          LIST: lambda it: isinstance(it, list) and all(isinstance(word, str) for word in it),
@@ -125,6 +127,11 @@ def is_line(name: str) -> bool:
     return '\n' not in name and output.printable(name) == name
 
 
+def spelled(value: object) -> str:
+    """What a folder keeps of an option, in words."""
+    return 'none' if value in (None, False, []) else 'given' if value is True else repr(value)
+
+
 def claim(folder: str, kept: dict[str, object], paths: Iterable[str]) -> None:
     """Has a folder be that of a sweep; Wrong where it is another's."""
     kept = {word: kept[word] for word in KEPT}
@@ -133,7 +140,7 @@ def claim(folder: str, kept: dict[str, object], paths: Iterable[str]) -> None:
         there = kept_of(folder)
         for word, (_, name) in KEPT.items():
             if name and there[word] != kept[word]:
-                both = '' if word == 'scenario' else f', {there[word]!r} and not {kept[word]!r}'
+                both = '' if word == 'scenario' else f', {spelled(there[word])} and not {spelled(kept[word])}'
                 raise Wrong(f'{folder} is of a sweep with another {name}{both}: name another folder')
     elif left := next(filter(os.path.lexists, paths), None):
         raise Wrong(f'{left} is there, and no {SWEEP} says of which sweep: name another folder')
@@ -195,9 +202,10 @@ def first_program(folder: str, grid: Grid) -> str:
 def why_none(folder: str, grid: Grid, number: int, says: str = '') -> dict[str, str]:
     """The row of a job that has none: what it said last, and what the engine says."""
     last = []
-    with contextlib.suppress(OSError), open(os.path.join(folder, grid.name(number) + '.log'), encoding='utf-8', errors='replace') as file:
-        last = file.read().split('\n')[-2:-1]
-    return {'status': ': '.join(filter(None, ['not run', says, *last]))}
+    with contextlib.suppress(OSError, Unreadable):
+        last = plain_text(os.path.join(folder, grid.name(number) + '.log')).split('\n')[-2:-1]
+    said = ''.join(it if it.isprintable() else '?' for it in ''.join(last)[:MOST_SAID])
+    return {'status': ': '.join(filter(None, ['not run', says, said]))}
 
 
 def gathered(folder: str) -> Runner:
