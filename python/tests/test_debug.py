@@ -228,7 +228,7 @@ def test_time_of_a_run_that_has_no_end_is_ended(terminal, long):
     session.type('time f\r')
     assert soon(lambda: len(children(session.child.pid)) > 1)
     assert session.interrupted().endswith('tcpsim-debug: ended; the session is where it was\n')
-    assert children(session.child.pid) == only
+    assert soon(lambda: children(session.child.pid) == only)
     assert session.ask('where').startswith('at 3 of the run')
     assert session.end() == 0
 
