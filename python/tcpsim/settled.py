@@ -39,9 +39,10 @@ def tooth(scenario: Scenario, number: int, flows: Sequence[int]) -> float:
     return ((2 if flow.delack else 1) * most / 2 + 1) * statistics.fmean(trips)
 
 
-def longest_tooth(scenario: Scenario, flows: Sequence[int]) -> tuple[float, str]:
-    """The longest tooth of these flows, and whose it is."""
-    return max(((tooth(scenario, number, flows), scenario.flows[number].name) for number in flows), default=(0, ''))
+def longest_tooth(scenario: Scenario, flows: Sequence[int], chosen: Sequence[int] | None = None) -> tuple[float, str]:
+    """The longest tooth of these flows, or of those that were chosen of them, and whose it is."""
+    return max(((tooth(scenario, number, flows), scenario.flows[number].name) for number in flows
+                if chosen is None or number in chosen), default=(0, ''))
 
 
 def rounded(time: float) -> str:
@@ -56,9 +57,9 @@ def can_end(scenario: Scenario, number: int) -> bool:
     return flow.segments * (flow.mss + HEADER_BYTES) * BITS_NS < rate * (scenario.end - flow.start)
 
 
-def has_long_tooth(scenario: Scenario, begin: int, end: int, flows: Sequence[int]) -> str | None:
-    """A sentence on these flows' longest tooth, where a run from `begin` to `end` is shorter."""
-    length, name = longest_tooth(scenario, flows)
+def has_long_tooth(scenario: Scenario, begin: int, end: int, flows: Sequence[int], chosen: Sequence[int] | None = None) -> str | None:
+    """A sentence on these flows' longest tooth, or on that of those that were chosen, where a run from `begin` to `end` is shorter."""
+    length, name = longest_tooth(scenario, flows, chosen)
     if length <= end - begin:
         return None
     return (f'Too short: a tooth of {name}\'s sawtooth takes about {rounded(length)}, and figures are of {spelled_time(end - begin)}. '
@@ -81,7 +82,8 @@ def has_changed(run: Figures | EngineRun, flows: Sequence[int]) -> str | None:
             f'Count from {rounded(run.begin + span / 3)} on, or take an end of {rounded(run.begin + 3 * span)}.')
 
 
-def too_short(run: Figures | EngineRun) -> list[str]:
-    """Sentences that say why a run is too short for its figures, and what would do; none where it is not."""
-    flows = compared(run).flows
-    return [*filter(None, (has_long_tooth(run.scenario, run.begin, run.end, flows), has_changed(run, flows)))]
+def too_short(run: Figures | EngineRun, chosen: Sequence[int] | None = None) -> list[str]:
+    """Sentences that say why a run is too short for its figures, or for those of the flows that were chosen, and what would do; none
+    where it is not. A flow that was chosen has teeth where it can fill its share."""
+    return [*filter(None, (has_long_tooth(run.scenario, run.begin, run.end, compared(run).flows, chosen),
+                           has_changed(run, compared(run, chosen).flows)))]

@@ -10,7 +10,7 @@ from clone import PROGRAM, tool
 from tcpsim.engine import PORTIONS, EngineRun
 from tcpsim.figures import Figures
 from tcpsim.scenario.text import Scenario
-from tcpsim.settled import can_end, has_changed, has_long_tooth, rounded, tooth
+from tcpsim.settled import can_end, has_changed, has_long_tooth, rounded, too_short, tooth
 from tcpsim_model.figures import figures
 from tcpsim_model.simulate import trace
 from tcpsim_model.text import assemble
@@ -111,6 +111,17 @@ def test_portions_of_traces_and_of_the_program(put):
     for run in (tcpsim.run(net, engine=PROGRAM), tcpsim.run(net, engine='model'), tcpsim.run(net, queues={'qp': OneList})):
         assert run.figures._run.portions() == portions
     assert EngineRun(net.parsed, figures(assemble(net.text.encode()))).portions() == ()
+
+
+def test_the_flows_that_were_chosen():
+    """Of the last flow, which begins late, goodput changes, and of the first it does not."""
+    net = tcpsim.dumbbell(flows=2, rate='2M', rtt='40ms', start=['0', '2.5s'], end='4s')
+    run = Figures(net.parsed, ''.join(trace(assemble(net.text.encode()))).splitlines())
+    thirds = {number: [sum(portion[number] for portion in part) for part in (run.portions()[:10], run.portions()[-10:])] for number in (0, 1)}
+    for chosen in ([0], [1]):
+        first, last = ((8 * count / (4 / 3) / 1e6) for count in thirds[chosen[0]])
+        said = [words for words in too_short(run, chosen) if words.startswith('Not settled')]
+        assert said[0].startswith(f'Not settled: goodput is {first:.3f} Mbit/s in the first third and {last:.3f} in the last')
 
 
 class OneList:

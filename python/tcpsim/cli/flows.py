@@ -168,7 +168,7 @@ def write(given: argparse.Namespace, file: Output) -> None:
         write_csv(rows, file)
     else:
         print('\n'.join(table(rows, ENGINE_COLUMNS if given.engine else TRACE_COLUMNS, given.all)), file=file)
-        for words in [*too_short(run), *map(words_of_cycle, [] if given.engine else cycles(run))]:
+        for words in [*too_short(run, chosen), *map(words_of_cycle, [] if given.engine else cycles(run))]:
             print(words, file=file)
 
 
