@@ -359,7 +359,7 @@ def test_jain_compares_the_flows_that_can_fill_their_share(browser):
 def test_a_run_that_is_too_short_says_so(browser):
     """A tooth that is longer than the run, and a goodput that still changes: a sentence with what would do; none of a run that has settled."""
     said, _ = figures_of(browser, FLOWS_OF_SORTS.replace('sim 20000000000', 'sim 3000000000').replace('droptail 20\n', 'droptail 200\n').replace(' 64000 0', ' 1000000 0'))
-    assert any(it.startswith("Too short: a tooth of f") and 'For 5 teeth count from' in it for it in said), said
+    assert any(it.startswith("Too short: a tooth of f") for it in said) and any('For 6 teeth count from' in it for it in said), said
     assert not [it for it in figures_of(browser, FLOWS_OF_SORTS)[0] if it.startswith(('Too short', 'Not settled'))]
 
 

@@ -2,7 +2,7 @@
 // Which flows Jain's index compares, and whether a run is too short for its figures: python/tcpsim/fairness.py and settled.py in
 // the page, in the same words. Times are nanoseconds, sizes bytes, rates bit/s.
 
-const PORTIONS = 30, THIRD = PORTIONS / 3, TEETH = 5, LEAST_CHANGE = 0.02;
+const PORTIONS = 30, THIRD = PORTIONS / 3, TEETH = 6, RISE = 2, LEAST_CHANGE = 0.02;
 const STUDENT = 2.1009220402410382;         // Student's t at 0.975 for 2 THIRD - 2 degrees of freedom
 
 // The segments that a flow's receiver has room for.
@@ -61,10 +61,10 @@ function toothOf(facts, f, flows) {
   if (roomOf(flow) < most) return 0;
   return ((flow.delack ? 2 : 1) * most / 2 + 1) * d3.mean([most / 2, most], segments => Math.max(trip, beside(l) * segments * duration));
 }
-// A time in words, up to two digits and upwards.
-function roundedTime(time) {
+// A time upwards to one that has two digits.
+function upToTwoDigits(time) {
   const step = 10 ** Math.max(0, String(Math.floor(time)).length - 2);
-  return spelledTime(Math.ceil(time / step) * step);
+  return Math.ceil(time / step) * step;
 }
 // Sentences that say why a run is too short for the figures of these flows from `begin` to `end`, and what would do. `portions` has
 // what each flow delivered in each of the span's PORTIONS; none where the trace was not kept.
@@ -72,16 +72,26 @@ function tooShort(facts, begin, end, flows, portions) {
   const found = [], span = end - begin, teeth = flows.map(f => [toothOf(facts, f, flows), facts.flows[f].name]);
   const [length, name] = teeth.sort((one, two) => two[0] - one[0] || (one[1] < two[1] ? 1 : -1))[0] || [0, ''];
   if (length > span)
-    found.push(`Too short: a tooth of ${name}'s sawtooth takes about ${roundedTime(length)}, and figures are of ${spelledTime(span)}. ` +
-      `For ${TEETH} teeth count from ${roundedTime(begin + length)} on, to an end of ${roundedTime(begin + (1 + TEETH) * length)}.`);
-  if (!flows.length || !portions) return found;
-  const goodputs = portions.map(portion => d3.sum(flows, f => portion[f]) * PORTIONS * 8e9 / span), thirds = [goodputs.slice(0, THIRD), goodputs.slice(-THIRD)];
-  const variance = values => d3.sum(values, value => (value - d3.mean(values)) ** 2) / (values.length - 1), [before, after] = thirds.map(third => d3.mean(third));
+    found.push(`Too short: a tooth of ${name}'s sawtooth takes about ${spelledTime(upToTwoDigits(length))}, and figures are of ${spelledTime(span)}.`);
+  const goodputs = (flows.length && portions || []).map(portion => d3.sum(flows, f => portion[f]) * PORTIONS * 8e9 / span);
+  const thirds = [goodputs.slice(0, THIRD), goodputs.slice(-THIRD)], [before, after] = thirds.map(third => d3.mean(third));
+  const variance = values => d3.sum(values, value => (value - d3.mean(values)) ** 2) / (values.length - 1);
   const half = STUDENT * Math.sqrt(d3.sum(thirds, variance) / THIRD);
-  if (Math.abs(after - before) > Math.max(half, LEAST_CHANGE * d3.mean(goodputs)))
-    found.push(`Not settled: goodput is ${(before / 1e6).toFixed(3)} Mbit/s in the first third and ${(after / 1e6).toFixed(3)} in the last, ` +
-      `±${(half / 1e6).toFixed(3)}. Count from ${roundedTime(begin + span / 3)} on, or take an end of ${roundedTime(begin + 3 * span)}.`);
+  const changed = goodputs.length > 0 && Math.abs(after - before) > Math.max(half, LEAST_CHANGE * d3.mean(goodputs));
+  if (changed)
+    found.push(`Not settled: goodput is ${(before / 1e6).toFixed(3)} Mbit/s in the first third and ${(after / 1e6).toFixed(3)} in the last, ±${(half / 1e6).toFixed(3)}.`);
+  if (found.length) found[found.length - 1] += ' ' + adviceOf(facts, begin, end, flows, length, changed);
   return found;
+}
+// A sentence with the span that would do: TEETH of this length, once the window of each flow has risen. A run whose goodput changed
+// leaves out its first third and goes on to the triple. Both are the least where no tooth says how long goodput changes, or where it
+// changed though all windows had the time to rise.
+function adviceOf({flows: all}, begin, end, flows, length, changed) {
+  const risen = (d3.max(flows, f => all[f].start) || 0) + RISE * length, span = end - begin;
+  const first = upToTwoDigits(Math.max(begin, risen, changed ? begin + span / 3 : 0));
+  const last = upToTwoDigits(Math.max(first + TEETH * length, changed ? begin + 3 * span : 0));
+  const least = changed && (!length || begin >= risen) ? 'at least ' : '';
+  return `${length ? `For ${TEETH} teeth count` : 'Count'} from ${least}${spelledTime(first)} on, to an end of ${least}${spelledTime(last)}.`;
 }
 // What each flow delivered in each portion of a span of a run that was read; null where the run was not read to its end.
 function portionsOf(record, begin, end) {

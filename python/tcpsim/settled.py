@@ -15,7 +15,8 @@ from tcpsim.scenario.units import BITS_NS, HEADER_BYTES, spelled_time
 from tcpsim.sweeps.means import student
 
 LEAST = .02             # a difference of less than this part of the goodput is none
-TEETH = 5               # so many make a mean
+TEETH = 6               # so many make a mean: two for each third
+RISE = 2                # in so many, a window has grown to all that the path and the queue hold, from one segment on
 THIRD = PORTIONS // 3
 
 
@@ -45,10 +46,15 @@ def longest_tooth(scenario: Scenario, flows: Sequence[int], chosen: Sequence[int
                 if chosen is None or number in chosen), default=(0, ''))
 
 
+def up_to_two_digits(time: float) -> int:
+    """A time upwards to one that has two digits."""
+    step = 10**max(0, len(str(int(time))) - 2)
+    return int(-(-time // step)) * step
+
+
 def rounded(time: float) -> str:
     """A time in words, up to two digits and upwards."""
-    step = 10**max(0, len(str(int(time))) - 2)
-    return spelled_time(int(-(-time // step)) * step)
+    return spelled_time(up_to_two_digits(time))
 
 
 def can_end(scenario: Scenario, number: int) -> bool:
@@ -62,8 +68,7 @@ def has_long_tooth(scenario: Scenario, begin: int, end: int, flows: Sequence[int
     length, name = longest_tooth(scenario, flows, chosen)
     if length <= end - begin:
         return None
-    return (f'Too short: a tooth of {name}\'s sawtooth takes about {rounded(length)}, and figures are of {spelled_time(end - begin)}. '
-            f'For {TEETH} teeth count from {rounded(begin + length)} on, to an end of {rounded(begin + (1 + TEETH) * length)}.')
+    return f'Too short: a tooth of {name}\'s sawtooth takes about {rounded(length)}, and figures are of {spelled_time(end - begin)}.'
 
 
 def has_changed(run: Figures | EngineRun, flows: Sequence[int]) -> str | None:
@@ -78,12 +83,26 @@ def has_changed(run: Figures | EngineRun, flows: Sequence[int]) -> str | None:
     half = student(2 * THIRD - 2) * ((statistics.variance(first) + statistics.variance(last)) / THIRD)**.5
     if abs(after - before) <= max(half, LEAST * statistics.fmean(goodputs)):
         return None
-    return (f'Not settled: goodput is {before / 1e6:.3f} Mbit/s in the first third and {after / 1e6:.3f} in the last, ±{half / 1e6:.3f}. '
-            f'Count from {rounded(run.begin + span / 3)} on, or take an end of {rounded(run.begin + 3 * span)}.')
+    return f'Not settled: goodput is {before / 1e6:.3f} Mbit/s in the first third and {after / 1e6:.3f} in the last, ±{half / 1e6:.3f}.'
+
+
+def advice(scenario: Scenario, begin: int, end: int, flows: Sequence[int], chosen: Sequence[int] | None = None,
+           changed: bool = False) -> str:
+    """A sentence with the span that would do: TEETH of the longest tooth, once the window of each flow has risen. A run whose goodput
+    changed leaves out its first third and goes on to the triple. Both are the least where no tooth says how long goodput changes, or
+    where it changed though all windows had the time to rise."""
+    length, _ = longest_tooth(scenario, flows, chosen)
+    risen = max((scenario.flows[number].start for number in flows), default=0) + RISE * length
+    first = up_to_two_digits(max(begin, risen, begin + (end - begin) / 3 if changed else 0))
+    last = up_to_two_digits(max(first + TEETH * length, begin + 3 * (end - begin) if changed else 0))
+    least = 'at least ' if changed and (not length or begin >= risen) else ''
+    return (f'For {TEETH} teeth count' if length else 'Count') + f' from {least}{spelled_time(first)} on, to an end of {least}{spelled_time(last)}.'
 
 
 def too_short(run: Figures | EngineRun, chosen: Sequence[int] | None = None) -> list[str]:
     """Sentences that say why a run is too short for its figures, or for those of the flows that were chosen, and what would do; none
     where it is not. A flow that was chosen has teeth where it can fill its share."""
-    return [*filter(None, (has_long_tooth(run.scenario, run.begin, run.end, compared(run).flows, chosen),
-                           has_changed(run, compared(run, chosen).flows)))]
+    span, flows = (run.scenario, run.begin, run.end), compared(run).flows
+    tooth_in_words, change = has_long_tooth(*span, flows, chosen), has_changed(run, compared(run, chosen).flows)
+    found = [*filter(None, (tooth_in_words, change))]
+    return [*found[:-1], f'{found[-1]} {advice(*span, flows, chosen, bool(change))}'] if found else []

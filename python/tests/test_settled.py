@@ -1,16 +1,18 @@
 #!/usr/bin/env python3
 """Tests of tcpsim/settled.py: runs that are too short for their figures, by tools, sweeps and Python. Usage:
 python/tests/test_settled.py, or pytest."""
+import re
 import sys
 
 import pytest
 
 import tcpsim
 from clone import PROGRAM, tool
-from tcpsim.engine import PORTIONS, EngineRun
+from tcpsim.engine import PORTIONS, EngineRun, portions_of
 from tcpsim.figures import Figures
 from tcpsim.scenario.text import Scenario
-from tcpsim.settled import can_end, has_changed, has_long_tooth, rounded, too_short, tooth
+from tcpsim.scenario.units import time
+from tcpsim.settled import advice, can_end, has_changed, has_long_tooth, rounded, too_short, tooth
 from tcpsim_model.figures import figures
 from tcpsim_model.simulate import trace
 from tcpsim_model.text import assemble
@@ -58,7 +60,19 @@ def test_what_would_do():
     assert has_long_tooth(one(), 0, 1_650_000_000, [0]) is None
     assert has_long_tooth(one(), 0, 1_649_999_999, []) is None
     assert has_long_tooth(one(), 10**9, 2 * 10**9, [0]) == (
-        "Too short: a tooth of f's sawtooth takes about 1.7s, and figures are of 1s. For 5 teeth count from 2.7s on, to an end of 11s.")
+        "Too short: a tooth of f's sawtooth takes about 1.7s, and figures are of 1s.")
+
+
+def test_the_span_that_would_do():
+    """Two teeth of 1.65 s for the window's rise, and then six; of a run whose goodput changed no less than from its third on to its
+    triple. Both are the least where that span began late, or there is no tooth."""
+    for begin, end, changed, words in (
+            (0, 1, False, 'For 6 teeth count from 3.3s on, to an end of 14s.'), (0, 1, True, 'For 6 teeth count from 3.3s on, to an end of 14s.'),
+            (0, 30, True, 'For 6 teeth count from 10s on, to an end of 90s.'), (4, 5, False, 'For 6 teeth count from 4s on, to an end of 14s.'),
+            (4, 10, True, 'For 6 teeth count from at least 6s on, to an end of at least 22s.')):
+        assert advice(one(), begin * 10**9, end * 10**9, [0], changed=changed) == words
+    words = advice(one(rwnd=960), 0, 3 * 10**9, [0], changed=True)
+    assert words == 'Count from at least 1s on, to an end of at least 9s.'
 
 
 @pytest.mark.parametrize('time, words', [(1.5e9, '1.5s'), (1501e6, '1.6s'), (500e9, '500s'), (1, '1ns'), (2.01e11, '210s')])
@@ -90,8 +104,7 @@ def test_the_last_third_beside_the_first():
     for more, changed in ((61_250, False), (62_500, True), (-62_500, True)):
         said = has_changed(Told(*first, *first, *(count + more for count in first)), [0])
         assert bool(said) == changed
-    assert said == ('Not settled: goodput is 1.500 Mbit/s in the first third and 1.000 in the last, ±0.495. Count from 10s on, or take '
-                    'an end of 90s.')
+    assert said == 'Not settled: goodput is 1.500 Mbit/s in the first third and 1.000 in the last, ±0.495.'
     for last, changed in ((101_000, False), (104_000, True)):
         assert bool(has_changed(Told(*[100_000] * 20, *[last] * 10), [0])) == changed
     assert has_changed(Told(*first), [0]) is None
@@ -142,6 +155,39 @@ class OneList:
 def test_a_queue_of_ones_own_has_no_tooth():
     net = tcpsim.dumbbell(flows=1, rate='4M', rtt='200ms', queue='droptail:BDP', end='2s')
     assert not [words for words in tcpsim.run(net, queues={'pq': OneList}).figures.too_short if words.startswith('Too short')]
+
+
+@pytest.mark.parametrize('flows, rate, trip, queue, end', [
+    (3, '10M', ['40ms', '80ms', '120ms'], 'droptail:BDP', '10s'), (1, '4M', '200ms', 'droptail:BDP', '12s'), (4, '1M', '200ms', 'droptail:BDP', '3s'),
+    (2, '5M', '60ms', 'droptail:BDP', '10s'), (3, '5M', '200ms', 'codel:5ms:100ms', '10s'), (2, '2M', '80ms', 'codel:5ms:100ms', '10s'),
+    (1, '10M', '50ms', 'codel:5ms:100ms', '2s'), (4, '10M', '40ms', 'droptail:BDP', '10s')])
+def test_advice_ends_with_its_first_round(flows, rate, trip, queue, end):
+    """Of a run that is too short or has not settled: one end, and a run to it says nothing more."""
+    def said(end, begin=None):
+        net = tcpsim.dumbbell(flows=flows, rate=rate, rtt=trip, queue=queue, end=end)
+        return too_short(Portions(net, begin))
+    words = said(end)
+    first, last = re.search(r' from (\S+) on, to an end of (\S+)\.$', words[-1]).groups()
+    assert sum(sentence.count(' an end of ') for sentence in words) == 1
+    assert said(last, time(first)) == []
+
+
+class Portions:
+    """What flows deliver from `begin` on, of a run by the program."""
+
+    def __init__(self, net, begin):
+        self.scenario, self.begin = net.parsed, begin or 0
+        self.flows, self.end = self.scenario.flows, self.scenario.end
+        self._text = net.text.encode()
+
+    def goodput(self, _number):
+        return 1
+
+    def completed(self, _number):
+        return None
+
+    def portions(self):
+        return portions_of(PROGRAM, self._text, None, self)
 
 
 # ---- tools, sweeps and Python

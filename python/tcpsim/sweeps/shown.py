@@ -6,7 +6,7 @@ from collections.abc import Iterable, Sequence
 from tcpsim.fairness import can_fill
 from tcpsim.output import aligned
 from tcpsim.scenario.text import Scenario
-from tcpsim.settled import can_end, has_long_tooth, longest_tooth
+from tcpsim.settled import advice, can_end, has_long_tooth, longest_tooth
 from tcpsim.sweeps.columns import SHOWN
 from tcpsim.sweeps.means import Averaged, Mean
 from tcpsim.sweeps.pattern import Setting
@@ -69,6 +69,7 @@ def too_short(grid: Grid) -> list[str]:
         on = [at for at, flow in enumerate(scenario.flows) if not can_end(scenario, at)]
         flows = can_fill(scenario, on)
         if begin < scenario.end and (words := has_long_tooth(scenario, begin, scenario.end, flows)):
+            words += ' ' + advice(scenario, begin, scenario.end, flows)
             found.append((longest_tooth(scenario, flows)[0] / (scenario.end - begin), number, words))
     if not found:
         return []
