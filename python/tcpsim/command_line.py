@@ -11,6 +11,7 @@ import importlib
 import os
 import signal
 import sys
+import warnings
 from collections.abc import Callable
 from types import FrameType
 from typing import IO, Any
@@ -127,6 +128,7 @@ def run(module: str) -> int:
     """Runs a tool, the `main` of a module; answers its status. Signals that ask to end are raised as `Ended`, so that
     what was begun is taken away; those that were ignored from the start stay so, as nohup has it."""
     open_standard_files()
+    warnings.showwarning = say_warning
     heard = [number for number in ENDS if signal.getsignal(number) is not signal.SIG_IGN]
     try:
         try:
@@ -233,6 +235,11 @@ def note(text: str, end: str = '\n') -> None:
     if sys.stderr is not None:
         with contextlib.suppress(OSError):
             print(text, end=end, file=sys.stderr, flush=True)
+
+
+def say_warning(message: Warning | str, *_where: object) -> None:
+    """Says a warning as a tool says its sentences."""
+    note(f'{tool()}: {message}')
 
 
 def open_standard_files() -> None:

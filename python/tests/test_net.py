@@ -8,6 +8,7 @@ import sys
 
 import pytest
 
+import tcpsim
 from clone import BIN, PROGRAM
 from tcpsim.cli import net as command
 from tcpsim.scenario import net, units
@@ -129,8 +130,18 @@ def test_a_target_above_the_interval_is_warned_of():
         done = tool('dumbbell', option, 'codel:100ms:5ms')
         assert (done.returncode, done.stderr) == (0, told) and done.stdout.startswith(b'# A dumbbell')
     assert tool('asymmetric', '--up-queue', 'codel:100ms:5ms').stderr == told
+    assert tool('dumbbell', '--queue', 'codel:100ms:5ms', '--back-queue', 'codel:100ms:5ms').stderr == told
     for queue in ('codel:5ms:100ms', 'codel:5ms:5ms', 'droptail:5'):
         assert tool('dumbbell', '--queue', queue).stderr == b''
+
+
+def test_python_warns_of_it_at_the_line_that_names_it():
+    with pytest.warns(UserWarning, match='^codel:100ms:5ms has a target above its interval: the order is codel:TARGET:INTERVAL$') as told:
+        tcpsim.dumbbell(queue='codel:100ms:5ms')
+    assert [each.filename for each in told] == [__file__]
+    with pytest.warns(UserWarning, match=r'^codel:100ms:5ms \(and 1 more\) has a target above') as told:
+        tcpsim.sweep(tcpsim.dumbbell(end='1s'), {'pq.queue': ['codel:5ms:100ms', 'codel:100ms:5ms', 'codel:6ms:5ms']}, engine=PROGRAM)
+    assert [each.filename for each in told] == [__file__]
 
 
 def test_wrong_numbers():

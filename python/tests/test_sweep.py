@@ -147,6 +147,13 @@ def test_refused():
     assert 'a.queue=droptail:0: refused E5 line 4\n' in table
 
 
+def test_a_target_above_the_interval_is_warned_of():
+    """By the sentence of tcpsim-net, once."""
+    done = tool(path('order.txt', BY_HAND), '--set', 'a.queue=codel:100ms:5ms,codel:5ms:100ms')
+    warned = 'tcpsim-sweep: codel:100ms:5ms has a target above its interval: the order is codel:TARGET:INTERVAL'
+    assert done.returncode == 0 and done.stderr.splitlines().count(warned) == 1 == done.stderr.count(' above ')
+
+
 def test_over_before():
     done = tool(path('hand.txt', BY_HAND), '--skip', '1s', '--csv')
     assert 'nothing of it is at or after 1 s' in rows_of(done.stdout)[0]['status']

@@ -13,7 +13,7 @@ import sys
 from collections.abc import Callable
 
 from tcpsim import output
-from tcpsim.command_line import Words, Wrong, as_type, note, tool
+from tcpsim.command_line import Words, Wrong, as_type
 from tcpsim.scenario import units
 from tcpsim.scenario.net import MOST_FLOWS, Net
 from tcpsim.scenario.senders import bound_windows, initial_windows, lose_packets, losses, make_mice, spread, variants
@@ -41,7 +41,6 @@ def between(least: int, most: int) -> Callable[[str], int]:
 
 
 QUEUE = as_type(units.queue_in_range)
-QUEUES = 'queue', 'back_queue', 'access_queue', 'up_queue'      # the options that are one
 OPTIONS = {
     '--flows': dict(type=between(1, MOST_FLOWS), metavar='N', help='how many flows'),
     '--rate': dict(type=number('rate'), metavar='RATE', help='of the bottleneck, 10M if none is given'),
@@ -166,8 +165,5 @@ def main() -> None:
     """Does what the words ask for."""
     words = sys.argv[1:]
     given = command_line().parse_args(words)
-    for queue in filter(None, (getattr(given, name, None) for name in QUEUES)):
-        if doubted := units.doubt(queue):
-            note(f'{tool()}: {doubted}')
     with output.opened(given.output) as file:
         file.write(text_of(given, words))

@@ -7,6 +7,8 @@ standard library.
 from __future__ import annotations
 
 import re
+import sys
+import warnings
 from collections import namedtuple
 from collections.abc import Sequence
 from fractions import Fraction
@@ -29,6 +31,7 @@ TIME_UNITS = {'ns': 1, 'us': 10**3, 'ms': 10**6, 's': 10**9}
 SIZE_UNITS = {'': 1, 'k': 10**3, 'M': 10**6, 'G': 10**9}
 WORD = re.compile(r'([0-9]{1,20})(?:\.([0-9]{1,20}))?([A-Za-z/]*)')
 CODEL_LIMIT = 1000          # packets, where `codel:TARGET:INTERVAL` names no limit
+WITHIN = 'tcpsim', 'argparse', 'contextlib'     # modules that read a word, and are not the line that named it
 
 
 # ---- numbers
@@ -172,12 +175,8 @@ def queue_in_range(word: str) -> Queue:
         within('interval', read.interval)
         if read.maxpacket is not None:
             within('maxpacket', read.maxpacket)
+    warn_of_order([read])
     return read
-
-
-def doubt(queue: Queue) -> str:
-    """What is doubtful of a queue, in a sentence; '' where nothing is."""
-    return f'{queue} has a target above its interval: the order is codel:TARGET:INTERVAL' if queue.target > queue.interval else ''
 
 
 def queues(words: str) -> list[Queue]:
@@ -186,7 +185,21 @@ def queues(words: str) -> list[Queue]:
     read = []
     for word in words.split(','):
         read.append(queue(word, read[-1].kind if read else None))
+    warn_of_order(read)
     return read
+
+
+def warn_of_order(queues: Sequence[Queue]) -> None:
+    """Warns once of the queues whose target is above their interval, at the line outside of the package that named them. A tool says
+    the sentence on standard error."""
+    doubtful = [queue for queue in queues if queue.target > queue.interval]
+    if not doubtful:
+        return
+    level, frame = 1, sys._getframe()
+    while frame.f_back and frame.f_globals['__name__'].partition('.')[0] in WITHIN:
+        level, frame = level + 1, frame.f_back
+    more = f' (and {len(doubtful) - 1} more)' * (len(doubtful) > 1)
+    warnings.warn(f'{doubtful[0]}{more} has a target above its interval: the order is codel:TARGET:INTERVAL', stacklevel=level)
 
 
 def product(bits: int, round_trip_of: int, packet: int) -> int:
