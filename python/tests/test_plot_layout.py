@@ -131,6 +131,23 @@ def test_names_that_are_long(put):
     check(put('long.txt', text), '--program', PROGRAM)
 
 
+@pytest.mark.parametrize('scenario', ['six_flows_over_three_routers', 'six_flows_over_four_routers'])
+def test_flows_that_are_done_and_have_long_names(scenario):
+    """What the key says of a flow is wider than the progress panel."""
+    check(os.path.join(TOP, 'docs', 'scenarios', f'{scenario}.txt'), '--program', PROGRAM)
+
+
+def test_runs_beside_each_other_whose_flows_are_done(put):
+    """The key names run and flow, both with long names."""
+    files = []
+    for count in (3, 7):
+        made = tool('net', 'dumbbell', '--flows', str(count), '--rate', '1M', '--rtt', '40ms,80ms', '--queue', 'droptail:20',
+                    '--segments', '20', '--end', '20s')
+        assert (made.returncode, made.stderr) == (0, b'')
+        files.append(put(f'{count}_transfers_of_twenty_segments.txt', re.sub(rb'\bf(\d)\b', rb'transfer\1', made.stdout)))
+    check(files[0], '--beside', files[1], '--program', PROGRAM)
+
+
 def test_links_at_which_several_flows_wait_are_drawn(put):
     """Where all links have 100 Mbit/s, one sender's has the longest wait, and pq is seen too."""
     made = tool('net', 'dumbbell', '--flows', '2', '--rate', '100M', '--access', '100M', '--end', '1s')

@@ -24,7 +24,7 @@ def drawn(figure: Figure) -> list[str]:
         lines.append(f'{title} | x {left:.6g} to {right:.6g} | y {low:.6g} to {high:.6g} {axes.get_ylabel()}')
         lines += [f'{title} | {entry}' for entry in map(artist_line, axes.get_children()) if entry]
         if axes.get_legend():
-            lines.append(f'{title} | key: ' + '; '.join(text.get_text() for text in axes.get_legend().get_texts()))
+            lines.append(f'{title} | key: ' + '; '.join(text.get_text().replace('\n', ' ') for text in axes.get_legend().get_texts()))
     return lines
 
 

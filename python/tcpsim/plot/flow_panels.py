@@ -16,8 +16,8 @@ from .losses import color_of, loss_key, loss_rows, lost, mark_lost, mark_row, na
 from .picture import FlowView, Picture, recoveries
 from .points import dots, growth, steps, within
 from .spans import duplicate_times, mark_spans, span_key
-from .style import (AGAIN, IN_FLIGHT, NOTE, RECEIVER, RUST, SSTHRESH, WHOLE_STEPS, byte_unit, bytes_text, key_above,
-                    muted, series, sign_look)
+from .style import (AGAIN, IN_FLIGHT, KEY_SIZE, NOTE, RECEIVER, RUST, SSTHRESH, WHOLE_STEPS, byte_unit, bytes_text, key_above,
+                    label_room, muted, series, sign_look, text_width)
 
 MOST_DUPLICATES = 100   # so many are marked
 FAR = 50                # times the axis of windows: how high above it ssthresh is, is told where it is less
@@ -251,18 +251,17 @@ def progress_panel(picture: Picture, axes: Axes, views: Sequence[FlowView], widt
     least = min((int(una[0]) for una in seen if len(una)), default=0)
     greatest = max([picture.tops.get('progress', 1), *(int(una.max()) for una in seen if len(una))])
     scale, unit = byte_unit(greatest)
-    key = []
-    for at, (view, una) in enumerate(zip(views, seen)):
-        flow, label = view.run, f'{view.name}, {view.trip}:' if view.trip else view.name
+    for at, view in enumerate(views):
+        flow = view.run
         picture.curve(axes, view, [flow.flow.start] + list(flow.una_times), [0] + list(flow.una), scale,
                       **{'lw': 1.8, **series(at)})
         if is_complete(picture, view):
-            label += f'{"" if view.trip else ","} done in {length_text(flow.completed - flow.flow.start)}'
             axes.plot([picture.clock.x(flow.completed)], [flow.last_una / scale], marker='o', ms=5,
                       ls='none', color=series(at)['color'])
-        elif len(una) and flow.completed is None:
-            label += f' {bytes_text(int(una[-1] - una[0]))}'
-        key.append(Line2D([], [], label=label, **{'lw': 1.8, **series(at)}))
+    labels = progress_labels(picture, views, seen)
+    if any(text_width(label, KEY_SIZE) > label_room(width) for label in labels):
+        labels = progress_labels(picture, [view._replace(trip='') for view in views], seen)     # windows' titles have it
+    key = [Line2D([], [], label=label, **{'lw': 1.8, **series(at)}) for at, label in enumerate(labels)]
     if picture.others:
         key.append(Line2D([], [], label=f'{len(picture.others):,} other{"s" * (len(picture.others) > 1)}', **OTHERS))
     for view in picture.others:
@@ -273,3 +272,17 @@ def progress_panel(picture: Picture, axes: Axes, views: Sequence[FlowView], widt
     names = {view.run.flow.name for view in views}
     of_whom = f'flow {names.pop()}' if len(names) == 1 else 'each flow'
     key_above(axes, title or f'bytes acknowledged of {of_whom}', key, width)
+
+
+def progress_labels(picture: Picture, views: Sequence[FlowView], seen: Sequence[np.ndarray]) -> list[str]:
+    """What the key says of each flow: its name and round trip, and how long it took, or how many bytes it has. `seen` has of each
+    what is acknowledged in sight."""
+    labels = []
+    for view, una in zip(views, seen):
+        flow, label = view.run, f'{view.name}, {view.trip}:' if view.trip else view.name
+        if is_complete(picture, view):
+            label += f'{"" if view.trip else ","} done in {length_text(flow.completed - flow.flow.start)}'
+        elif len(una) and flow.completed is None:
+            label += f' {bytes_text(int(una[-1] - una[0]))}'
+        labels.append(label)
+    return labels

@@ -144,13 +144,16 @@ def packed(parts: Iterable[str], width: float, between: str) -> list[str]:
 
 
 def key_above(axes: Axes, title: str, handles: Sequence[Artist], width: float, notes: Iterable[str] = ()) -> None:
-    """The title with its notes, in grey beside it or below it, and below them, above the panel, the key: it covers nothing. A
-    note that is a list of its parts has lines of its own. The width is in points."""
+    """The title with its notes, in grey beside it or below it, and below them, above the panel, the key: it covers nothing, and
+    an entry that is wider than the panel has several lines. A note that is a list of its parts has lines of its own. The
+    width is in points."""
     rows, notes = 0, [note for note in notes if note]
     if handles:
-        columns = columns_that_fit([handle.get_label() for handle in handles], width)
-        rows = math.ceil(len(handles) / columns)
-        axes.legend(handles=handles, loc='lower left', bbox_to_anchor=(0, 1), ncol=columns, **KEY)
+        labels = [handle.get_label() for handle in handles]
+        columns, lines = columns_that_fit(labels, width), [filled(label.split(', '), label_room(width)) for label in labels]
+        rows = math.ceil(sum(map(len, lines)) / columns)
+        axes.legend(handles=handles, labels=list(map('\n'.join, lines)), loc='lower left', bbox_to_anchor=(0, 1), ncol=columns,
+                    **KEY)
     pad = 4 + LINE * rows + 3 * bool(rows)
     grey = {'fontsize': NOTE, 'color': '#444444'}
     words, room = [note for note in notes if isinstance(note, str)], width - text_width(title, TITLE_SIZE) - APART
@@ -163,6 +166,11 @@ def key_above(axes: Axes, title: str, handles: Sequence[Artist], width: float, n
     if lines:
         axes.annotate('\n'.join(lines), (0, 1), xycoords='axes fraction', xytext=(0, pad), textcoords='offset points',
                       linespacing=1.12, **grey)
+
+
+def label_room(width: float) -> float:
+    """How wide a label of a key of one column can be, which is so wide; in points."""
+    return width - HANDLE + BETWEEN
 
 
 def columns_that_fit(labels: Sequence[str], width: float) -> int:
