@@ -341,9 +341,10 @@ class TestWindows(Drawn):
         assert 'ssthresh' in key(*self.hand, '--from', '9ms')
         high = self.write('high', BY_HAND.replace('64000', str(2**30)), TRACE.replace('ssthresh=2500', 'ssthresh=64000'))
         assert not [name for name in key(*high) if name.startswith('ssthresh')]
-        # the recovery from 8.28 to 11.36 ms is seen in 12 ms, and not in a second
+        # the recovery from 8.28 to 11.36 ms has a band, and with it an entry, in 12 ms and in a second
         assert 'recovery' in key(*self.hand)
-        assert 'recovery' not in key(*self.hand, '--beside', *self.stall, '--whole')
+        assert 'recovery' in key(*self.hand, '--beside', *self.stall, '--whole')
+        assert 'recovery' not in key(*self.hand, '--to', '8ms')
 
     def test_a_small_flow_has_an_axis_of_its_own(self):
         from tcpsim.plot.flow_panels import sharing

@@ -16,7 +16,6 @@ from .style import DARK_RED, NOTE, ON_WHITE, SHADES, TIMEOUT, TIMEOUT_WIDTH, ban
 
 MOST_TIMERS = 4         # of so many timeouts it is said what preceded them
 MOST_IN_FULL = 2        # of so many flows all is said
-SEEN = 1 / 100          # what lasts for less of the time that is shown, or lies closer to each other, is not seen as such
 
 
 def mark_spans(picture: Picture, axes: Axes, view: FlowView, said: dict | None = None, in_full: bool = True,
@@ -90,11 +89,10 @@ def timeout_text(run: FlowRun, time: int, in_full: bool) -> str:
 
 def span_key(picture: Picture) -> list[Artist]:
     """The key's entries of what is shaded or drawn in any of the flows' panels."""
-    found, least = [band for view in picture.flows for band in bands(picture, view)], SEEN * picture.clock.kept
+    drawn = {kind for view in picture.flows for kind, *_ in bands(picture, view)}
     longer = length_text(picture.longer)
     labels = {'recovery': 'recovery', 'stall': f'no new ack for over {longer}', 'both': 'recovery, no new ack'}
-    key = [band_mark(kind, label) for kind, label in labels.items()
-           if any(its == kind and end - begin >= (least if kind == 'recovery' else 0) for its, begin, end in found)]
+    key = [band_mark(kind, label) for kind, label in labels.items() if kind in drawn]
     if any(picture.sees(time) for view in picture.flows for time in view.run.timeouts):
         several = len(picture.flows) > MOST_IN_FULL
         key.insert(0, timeout_mark(' after n dup. acks' if several else ''))
