@@ -2,6 +2,7 @@
 retransmission timer, marks that are apart and countable, bands of one meaning, notes of what an axis leaves out.
 """
 import itertools
+import os
 from types import SimpleNamespace
 
 import pytest
@@ -9,6 +10,7 @@ import pytest
 pytest.importorskip('matplotlib', reason='no matplotlib: apt-get install python3-matplotlib')
 import numpy as np  # noqa: E402
 import pictures  # noqa: E402
+from clone import PROGRAM, TOP  # noqa: E402
 from matplotlib.patches import StepPatch  # noqa: E402
 from tcpsim.curves import read_run  # noqa: E402
 from tcpsim.plot import broken, link_panels, losses, spans, style, timers  # noqa: E402
@@ -135,13 +137,34 @@ class TestWhoWaits(Drawn):
         assert {'fa', 'fb'} <= {text.get_text() for text in axes.texts}
 
 
-class TestSignsAreApart:
+class TestSignsAreApart(Drawn):
     def test_groups(self):
         assert losses.groups([0, 9, 18], [1, 2, 3]) == [[1], [2], [3]]
         assert losses.groups([0, 7, 60], [1, 2, 3]) == [[1, 2], [3]]
         assert losses.groups([0, 3, 20, 40], [1, 2, 3, 4]) == [[1, 2, 3], [4]]        # the third would lie on the count
         assert losses.groups([0, 3, 6, 9, 12, 15, 18, 21, 24, 31, 33], range(11)) == [[*range(10)], [10]]      # and a new one begins
         assert losses.groups([], []) == []
+
+    def test_sorts_that_would_meet_have_rows_of_their_own(self):
+        picture = SimpleNamespace(across=lambda times, width: np.asarray(times))
+        def rows(**sorts):
+            return losses.rows_apart(picture, sorts, 400)
+        assert rows(full=[0, 50], codel=[9, 70]) == [{'full': [0, 50], 'codel': [9, 70]}]
+        assert rows(full=[0], codel=[7]) == [{'full': [0]}, {'codel': [7]}]
+        # a count reaches 32 points from its sign
+        assert rows(full=[3, 0], codel=[35]) == [{'full': [3, 0]}, {'codel': [35]}]
+        # the third has room in the first row
+        assert rows(full=[0, 3], codel=[20], lost=[60]) == [{'full': [0, 3], 'lost': [60]}, {'codel': [20]}]
+        assert rows() == []
+
+    def test_each_sort_has_its_own_count(self):
+        """At one link a segment and two acknowledgements are dropped at nearly the same time."""
+        file = os.path.join(TOP, 'docs', 'scenarios', 'six_flows_over_four_routers.txt')
+        axes = self.panels(file, '--program', PROGRAM, '--panels', 'queue')['packets that wait in the queue']
+        (_, of_segment), = marks(axes)['x']
+        (_, of_acks), = marks(axes)['2']
+        assert of_segment != of_acks
+        assert [(text.get_text(), text.xy[1]) for text in axes.texts if text.get_text().startswith('×')] == [('×2', of_acks)]
 
     @pytest.mark.parametrize('name', ['two_flows_share_fairly', 'four_flows_share_codel', 'four_flows_share_a_long_queue',
                                       'parking_lot_of_three_routers', 'a_slow_way_back', 'two_timeouts_in_a_row'])

@@ -97,15 +97,14 @@ def is_complete(picture: Picture, view: FlowView) -> bool:
 
 
 def mark_losses(picture: Picture, axes: Axes, view: FlowView, greatest: float, width: float) -> float:
-    """Lost segments in rows below the curves, which would hide them, one for each link at which segments were lost; answers where
-    the axis begins."""
-    rows = loss_rows(picture, lost(picture, view))
-    for row, (name, losses) in enumerate(rows):
+    """Lost segments in rows below the curves, which would hide them, one at least for each link at which segments were lost;
+    answers where the axis begins."""
+    rows = loss_rows(picture, lost(picture, view), width)
+    for row, (name, reasons) in enumerate(rows):
         height = -(ROWS[0] + row * ROWS[1]) * greatest
-        for reason in {loss.reason: None for loss in losses}:
-            mark_row(picture, axes, [loss.time for loss in losses if loss.reason == reason], height, width,
-                     color=color_of(picture, view, reason), **sign_look(reason))
-        if name and losses:
+        for reason, times in reasons.items():
+            mark_row(picture, axes, times, height, width, color=color_of(picture, view, reason), **sign_look(reason))
+        if name:
             axes.annotate(name, (1, height), xycoords=('axes fraction', 'data'), xytext=(3, 0), textcoords='offset points',
                           va='center', fontsize=NOTE)
     return -(2 * ROWS[0] + ROWS[1] * (len(rows) - 1)) * greatest

@@ -114,7 +114,8 @@ def draw_flows(picture: Picture, figure: FigureBase, panels: Sequence[str], widt
     views, picture.first = picture.flows, panels[0]
     in_full = len(views) <= MOST_IN_FULL
     across = 1 if not alone or len(views) in (1, 3) or (in_full and len(panels) == 1) else 2
-    rows = flow_rows(picture, panels, math.ceil(len(views) / across))
+    wide = width if across == 1 else width / 2 - SIDES / 2
+    rows = flow_rows(picture, panels, math.ceil(len(views) / across), wide)
     grid, drawn = figure.add_gridspec(len(rows), across, height_ratios=[inches for *_, inches in rows]), []
     for at, (panel, row, inches) in enumerate(rows):
         if panel == 'progress':
@@ -127,16 +128,17 @@ def draw_flows(picture: Picture, figure: FigureBase, panels: Sequence[str], widt
         drawn.append(([figure.add_subplot(grid[at, place]) for place in range(len(numbers))], inches))
         for axes, number in zip(drawn[-1][0], numbers):
             told = views[number], views[number].notes if panel == panels[0] else ()
-            flow_panel(picture, axes, panel, told, width if across == 1 else width / 2 - SIDES / 2)
+            flow_panel(picture, axes, panel, told, wide)
             lowest = at == len(rows) - 1 or (not in_full and number + across >= len(views))
             finish(picture, axes, lowest, width / across - 20)
     return height_of(figure, drawn)
 
 
-def flow_rows(picture: Picture, panels: Sequence[str], down: int) -> list[tuple[str, int, float]]:
-    """Each row's panel, its row among those of its kind, and its least height in inches. The panels of flows are `down` rows."""
+def flow_rows(picture: Picture, panels: Sequence[str], down: int, width: float) -> list[tuple[str, int, float]]:
+    """Each row's panel, its row among those of its kind, and its least height in inches. The panels of flows are `down` rows,
+    each panel so wide (points)."""
     rows, many = [], len(picture.flows) > MOST_IN_FULL
-    signs = SIGN_ROW * (max(len(loss_rows(picture, lost(picture, view))) for view in picture.flows) - 1)
+    signs = SIGN_ROW * (max(len(loss_rows(picture, lost(picture, view), width)) for view in picture.flows) - 1)
     for panel in panels:
         if panel == 'sequence' and many:
             rows.append(('progress', 0, OF_ALL))

@@ -14,7 +14,7 @@ from tcpsim.curves import LinkRun
 from tcpsim.trace import ACK
 
 from .broken import draw_break
-from .losses import mark_row
+from .losses import mark_row, rows_apart
 from .picture import MOST_FLOWS, FlowView, LinkView, Picture
 from .points import BANDS, bins, busy_parts, dots, envelope, is_dense
 from .style import (LINKS, NOTE, OF_ACKS, SIGNS, STEPS, TITLE_SIZE, delay_unit, key_above, pale, series, sign_look,
@@ -141,16 +141,17 @@ def draw_envelope(picture: Picture, axes: Axes, view: LinkView, color: str, with
 def mark_drops(picture: Picture, axes: Axes, links: Sequence[LinkView], flows: Sequence[FlowView], greatest: float,
                width: float) -> tuple[list[Line2D], int]:
     """Signs for the packets that were dropped in sight, in rows above the queue: one for each flow where flows are told apart,
-    else one for each link, in its colour where there are several. Answers the key's entries, and how many rows there are."""
+    else one for each link, in its colour where there are several; and more where signs of two sorts would meet. Answers the
+    key's entries, and how many rows there are."""
     several, reasons, found = len(links) > 1, list(SIGNS), {}
-    rows = [(view, flow) for view in links for flow in flows or [None]]
-    for view, flow in rows:
+    whose = [(view, flow) for view in links for flow in flows or [None]]
+    for view, flow in whose:
         for time, reason, of, sort, _ in view.run.drops:
             if picture.sees(time) and (flow is None or flow.run.number == of):
                 found.setdefault((view, flow), {}).setdefault((reasons.index(reason), sort == ACK), []).append(time)
-    rows, counts = [row for row in rows if row in found], {}
-    for at, (view, flow) in enumerate(rows):
-        for (reason, is_ack), times in found[view, flow].items():
+    rows, counts = [(*each, row) for each in whose for row in rows_apart(picture, found.get(each, {}), width)], {}
+    for at, (view, flow, row) in enumerate(rows):
+        for (reason, is_ack), times in row.items():
             own = picture.color_of(flow) if flow else picture.look_of(view)['color'] if several else None
             color = own or (OF_ACKS if is_ack else SIGNS[reasons[reason]][1])
             mark_row(picture, axes, times, greatest * (1.07 + picture.row * (at + .5)), width, color=color,

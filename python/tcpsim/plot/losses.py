@@ -63,6 +63,30 @@ def mark_row(picture: Picture, axes: Axes, times: Iterable[int], height: float, 
                           fontsize=COUNT_SIZE, color='#222222', zorder=3.7, bbox={**ON_WHITE, 'boxstyle': 'square,pad=0'})
 
 
+def rows_apart(picture: Picture, sorts: dict, width: float) -> list[dict]:
+    """Sorts of signs in rows in which no sign or count lies on one of another sort: the sorts of each row. `sorts` has of each
+    its moments in ns; the panel is so wide (points)."""
+    rows = []
+    for sort, times in sorts.items():
+        room = extents(picture, times, width)
+        row = next((row for row in rows if not any(meet(room, extents(picture, others, width)) for others in row.values())), None)
+        if row is None:
+            rows.append(row := {})
+        row[sort] = times
+    return rows
+
+
+def extents(picture: Picture, times: Iterable[int], width: float) -> list[tuple[float, float]]:
+    """From where to where the signs of a sort go, each with its count, in a row of a panel so wide; in points."""
+    places = picture.across(sorted(times), width)
+    return [(part[0] - TOUCH / 2, part[0] + (COUNTED if len(part) > 1 else TOUCH / 2)) for part in groups(places, places)]
+
+
+def meet(spans: Iterable[tuple[float, float]], others: Iterable[tuple[float, float]]) -> bool:
+    """Whether one of the spans has a part of one of the others."""
+    return any(left < its_right and its_left < right for left, right in spans for its_left, its_right in others)
+
+
 def groups(places: Sequence[float], times: Sequence[int]) -> list[list[int]]:
     """Moments in their order, those together whose places, in points, are so near that their signs would touch each other or
     the count of the one before."""
@@ -77,13 +101,14 @@ def groups(places: Sequence[float], times: Sequence[int]) -> list[list[int]]:
     return found
 
 
-def loss_rows(picture: Picture, losses: Iterable[Loss]) -> list[tuple[str, list[Loss]]]:
-    """Lost segments by the link at which they were lost, where the picture has several of these: its name, and the losses. One
-    row at least."""
-    links, rows = links_of_losses(picture), {}
+def loss_rows(picture: Picture, losses: Iterable[Loss], width: float) -> list[tuple[str, dict]]:
+    """When segments were lost, by the link, where the picture has several at which some were, and in a panel so wide (points) by
+    the reason too, where signs would meet: the link's name, and of each reason the moments in ns. One row at least."""
+    links, found = links_of_losses(picture), {}
     for loss in sorted(losses, key=lambda loss: loss.link):
-        rows.setdefault(links[loss.link].name if loss.link in links else '', []).append(loss)
-    return list(rows.items()) or [('', [])]
+        of_link = found.setdefault(links[loss.link].name if loss.link in links else '', {})
+        of_link.setdefault(loss.reason, []).append(loss.time)
+    return [(name, row) for name, reasons in found.items() for row in rows_apart(picture, reasons, width)] or [('', {})]
 
 
 def loss_key(picture: Picture, acks: bool = False) -> list:
