@@ -183,8 +183,11 @@ def test_the_wheel_with_no_network(made, tmp_path):
     assert installed('tcpsim-flows', 'one.txt').returncode == 0
     page = installed('tcpsim-replay', 'one.txt', '-o', 'one.html')
     assert page.returncode == 0 and 'version:"3.' in (tmp_path / 'one.html').read_text()
-    lacking = installed('tcpsim-plot', 'one.txt', '-o', 'one.svg')
-    assert lacking.returncode == 1 and 'matplotlib is not there' in lacking.stderr
+    drawn = installed('tcpsim-plot', 'one.txt', '-o', 'one.svg')       # by Debian's python3, where that has what the wheel lacks
+    if ran('/usr/bin/python3', '-c', 'import matplotlib').returncode == 0:
+        assert drawn.returncode == 0 and '<svg' in (tmp_path / 'one.svg').read_text()
+    else:
+        assert drawn.returncode == 1 and 'matplotlib is not there' in drawn.stderr
 
 
 def test_the_wheel_has_its_licenses_and_d3(made):

@@ -245,7 +245,10 @@ def test_a_fault_is_shown_at_its_place():
     for before, number, rows in ((canonical.RIGHT, 4, canonical.FOURTH), (canonical.RIGHT + canonical.FLOWS, 132, canonical.ONE_MORE)):
         for line, code, start, count in rows:
             shown = f"{line}\n{' ' * start}{'^' * count}\n".replace('\t', '?')
-            expect_why(['asm'], (before + line).encode(), code, shown)
+            status, said, output = outcome(['asm', '--explain'], (before + line).encode())
+            note, rest = said.decode().split('\n', 1)
+            assert (status, note, output) == (1, f'refused {code} line {number}', b'')
+            assert rest.startswith(shown) and rest.endswith(meaning(code))
             expect_faults(outcome, [((before + line).encode(), f'{code} line {number}', None)])
 
 
