@@ -50,7 +50,7 @@ pub queue_after : (now : ℕ) (old : PortState) → (taken now old).port.queue �
 queue_after now old = let take = taken_from old.queue now in queue_same now old take.queue (take_reason old.queue) take.given
 
 -- of one packet that waits none is dropped
-none_dropped : (q : Queue) (now : ℕ) (cell : Stamped) → waiting_in q ≡ cell ∷ [] → (taken_from q now).dropped ≡ []
+pub none_dropped : (q : Queue) (now : ℕ) (cell : Stamped) → waiting_in q ≡ cell ∷ [] → (taken_from q now).dropped ≡ []
 none_dropped q now cell is = none (taken_from q now).dropped (last_stays q now cell [] is)
   where
     none : (dropped : List Stamped) → length dropped ≤ 0 → dropped ≡ []
@@ -63,7 +63,7 @@ Idle port = NothingWaitsWhereIdle port
 pub idle : (port : PortState) → IsKept port → Idle port
 idle port kept none = kept.idle_empty (subst (λ (o : Option ℕ). IsNone o) (sym none) refl)
 
-alone : (now : ℕ) (old : PortState) (packet : Packet) → Idle old → is_none old.next_free ≡ true → refuses old.queue ≡ false → waiting_in (with_packet now (counted old) packet).queue ≡ (packet, now) ∷ []
+pub alone : (now : ℕ) (old : PortState) (packet : Packet) → Idle old → is_none old.next_free ≡ true → refuses old.queue ≡ false → waiting_in (with_packet now (counted old) packet).queue ≡ (packet, now) ∷ []
 alone now old packet kept free room = enters_last old.queue (packet, now) now room ∙ ap (λ ls. ls ++ (packet, now) ∷ []) (kept (to_none old.next_free free))
 
 one_drops_none : (now : ℕ) (old : PortState) (packet : Packet) → Idle old → drops_in (offered_one now old packet).acts ≡ []
@@ -74,7 +74,7 @@ one_drops_none now old packet kept =
     (λ free. let waits = with_packet now (counted old) packet in take_drops now waits ∙ ap (map (λ (cell : Stamped). cell.0)) (none_dropped waits.queue now (packet, now) (alone now old packet kept free room)))
     (λ _. refl)))
 
-idle_after : (now : ℕ) (old : PortState) (packet : Packet) → Idle old → Idle (offered_one now old packet).port
+pub idle_after : (now : ℕ) (old : PortState) (packet : Packet) → Idle old → Idle (offered_one now old packet).port
 idle_after now old packet kept = idle_links_keep_nothing old (Offer now packet ∷ []) kept
 
 all_drop_none : (now : ℕ) (old : PortState) (packets : List Packet) → Idle old → drops_in (offered_all now old packets).acts ≡ []

@@ -18,3 +18,4 @@ pub mod Offered
 pub mod Forwarding
 pub mod Timing
 pub mod DropState
+pub mod Waits

@@ -50,7 +50,7 @@ abbrev InTurn : ℕ → PortState → PortStep → Type 0
 InTurn now old step = LeavesInTurn now old step.acts step.port
 
 module _ (now : ℕ) (old : PortState) (queue : Queue) (reason : TakeDrop) where
-  leave : (dropped : List Stamped) (given : Option Stamped) → filter_map left_by (took now old queue reason dropped given).acts ≡ map packet_in (dropped ++ listed given)
+  pub leave : (dropped : List Stamped) (given : Option Stamped) → filter_map left_by (took now old queue reason dropped given).acts ≡ map packet_in (dropped ++ listed given)
   leave [] None = refl
   leave [] (Some cell) = refl
   leave (x ∷ dropped) given = ap (λ ls. x.0 ∷ ls) (leave dropped given)

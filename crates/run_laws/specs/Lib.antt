@@ -3,3 +3,4 @@ pub mod Links
 pub mod Senders
 pub mod Forwarding
 pub mod Timing
+pub mod Waits

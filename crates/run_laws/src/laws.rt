@@ -4,6 +4,7 @@ ghost use Rattle.run_laws.specs.Laws.{AcknowledgedWasReceived, WindowsHold, Time
 ghost use Rattle.run_laws.specs.Links.{PacketsAreConserved, PacketsArriveOnce, RatesHold, AtEachLink, LeavesInTurn, TurnsAwayByRule, SendsAllThatEntered, SendsOneByOne, DropsForCause, DropsOnTime, KeepsDropState};
 ghost use Rattle.run_laws.specs.Forwarding.{SendersOfferSegments, RoutersForward, ReceiversAcknowledge, DelayedAnswersAreDue};
 ghost use Rattle.run_laws.specs.Timing.{LinksTakeTheirTime};
+ghost use Rattle.run_laws.specs.Waits.{WaitsFromOffer};
 ghost use Rattle.run_laws.specs.Senders.{AtEachSender, FitsWindows, IsSilentOnceComplete, EndsAfterRto, GoesByTimeouts, TimesNoneResent, SendersOfferWhatTheySend, AnswersTimeouts, AnswersDuplicates, ThresholdStaysWithoutLoss, GrowsByReno, KeepsRecovery, FillsWindows, RestartsTimer, MeasuresRoundTrips};
 
 /// In every state of every run una <= nxt <= high <= the flow's bytes at each sender. Its receiver has what it knows to
@@ -169,6 +170,12 @@ pub fn packets_arrive_once()
 /// drops them.
 pub fn packets_leave_in_turn()
     ensures { AtEachLink LeavesInTurn }
+{}
+
+/// In every run what a packet waited at a link is the moment at which it leaves less the one at which it was offered.
+/// An idle link sends the first that joins in that event: it waited for 0. While a link is busy, none leaves.
+pub fn packets_wait_from_offer_to_sending()
+    ensures { AtEachLink WaitsFromOffer }
 {}
 
 /// In every run a link loses the packets whose numbers its `lose` names, counted as they are offered, and no others. It
