@@ -39,7 +39,7 @@ use Rattle.run_laws.specs.Laws.{HasNotStarted, NoFlowHangs, SendsWithinWindow, b
 use Rattle.run_laws.specs.Senders.{for_packet, row_of}
 use Rattle.run_laws.proofs.Events.{there}
 use Rattle.run_laws.proofs.Ports.{by_test}
-use Rattle.run_laws.proofs.Rows.{started_fits, timeout_fits, ack_fits}
+use Rattle.run_laws.proofs.Rows.{FitsAtAck, started_fits, timeout_fits, ack_fits}
 use Rattle.run_laws.proofs.Losses.{slow_start, avoidance}
 use Rattle.run_laws.proofs.Senders.{Comes, starts, times_out, acks, others, comes, role_after}
 
@@ -258,11 +258,18 @@ ack_goes_up f ack now =
 
 started_within : (f : SenderFields) (now : ℕ) → IsSound f → f.high ≡ 0 → Fits (started f now).fields
 unfolding started
-started_within f now sound none = stays_within f (started f now).fields (f.cwnd + 2 * f.mss) (record { una = omega arith; rwnd = refl }) (started_fits f now sound) (omega (arith, none))
+started_within f now sound none = stays_within f (started f now).fields f.cwnd (record { una = omega arith; rwnd = refl }) (started_fits f now sound) (omega (arith, none))
 
 timeout_within : (f : SenderFields) (now : ℕ) → IsSound f → Fits f → Fits (timed_out f now).fields
 unfolding timed_out
-timeout_within f now sound was = stays_within f (timed_out f now).fields (f.mss + 2 * f.mss) (record { una = omega arith; rwnd = refl }) (timeout_fits f now sound) was
+timeout_within f now sound was = stays_within f (timed_out f now).fields f.mss (record { una = omega arith; rwnd = refl }) (timeout_fits f now sound) was
+
+ack_within : (f : SenderFields) (ack now : ℕ) → IsSound f → IsAckFor f ack now → Fits f → Fits (acknowledged f ack now).fields
+ack_within f ack now sound is_ack was = by (acknowledged f ack now) (ack_goes_up f ack now) (ack_fits f ack now sound is_ack)
+  where
+    by : (q : Planned) → GoesUp f q.fields → FitsAtAck f ack q → Fits q.fields
+    by q up (inl fits) = stays_within f q.fields q.fields.cwnd up fits was
+    by q up (inr (_, within)) = stays_within f q.fields (q.fields.cwnd + 2 * q.fields.mss) up (inr within) was
 
 pub sends_within_window : SendsWithinWindow
 sends_within_window p n lines s is_scenario e number flow its =
@@ -278,5 +285,5 @@ sends_within_window p n lines s is_scenario e number flow its =
           ⊎_elim
           (λ (none : HasNotStarted number lines). let high = ap high_of (sym F.sender_role) ∙ sound.unstarted number flow its (sound.starts.waits number flow its none) in omega (arith, high))
           (λ (holds : (f : SenderFields) → (part_at s flow.sender).role ≡ Sends number f → Fits f). let a = holds F.fields F.sender_role in omega (arith, a, rwnd))
-          (kept_along Fits (record { start = started_within; timeout = timeout_within; acknowledgement = λ f ack now sound is_ack was. stays_within f (acknowledged f ack now).fields _ (ack_goes_up f ack now) (ack_fits f ack now sound is_ack) was }) p n lines s is_scenario e number flow its);
+          (kept_along Fits (record { start = started_within; timeout = timeout_within; acknowledgement = ack_within }) p n lines s is_scenario e number flow its);
     }

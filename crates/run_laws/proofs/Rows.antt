@@ -1,6 +1,6 @@
 -- What each row of the sender's table does to what was sent, the timer and the rto.
-use Rattle.std.proofs.Common.{◌≡◌, ℕ, ◌+◌, ◌-◌, ◌*◌, ◌/◌, ◌<◌, ◌≤◌, min, max, Bool, true, false, cond, ◌&&◌, eqb, leb, ltb, List, [], ◌∷◌, refl, Option, Some, None, arith, inl, inr, ◌⊎◌, ⊎_elim}
-use Rattle.std.proofs.lemmas.Bool.{cases_lt, and_parts, eqb-true, leb-true, le-ltb, or_right, eq-eqb}
+use Rattle.std.proofs.Common.{◌≡◌, ℕ, ◌+◌, ◌-◌, ◌*◌, ◌/◌, ◌<◌, ◌≤◌, min, max, Bool, true, false, cond, ◌&&◌, ◌||◌, eqb, leb, ltb, List, [], ◌∷◌, refl, Option, Some, None, arith, inl, inr, ◌⊎◌, ⊎_elim}
+use Rattle.std.proofs.lemmas.Bool.{cases_lt, and_parts, or_parts, eqb-true, eqb-false, leb-true, le-ltb, ltb-true, ltb-false, or_right, eq-eqb}
 use Rattle.std.proofs.Math.Nat.{div-add-mod'}
 use Rattle.std.specs.Option.{option_or}
 use Rattle.reno_sender.specs.declared.fields.SenderFields.{SenderFields}
@@ -8,16 +8,22 @@ use Rattle.reno_sender.specs.declared.fields.Timing.{Timing}
 use Rattle.reno_sender.specs.Fields.{IsSound, total}
 use Rattle.reno_sender.specs.Laws.{IsAckFor}
 use Rattle.reno_sender.specs.Sending.{Planned, spaced, fill_count, allowed_end, deadline_after, filling}
-use Rattle.reno_sender.specs.LossRecovery.{nothing_sent, may_send_new, partly, advanced, inflated, one_more}
+use Rattle.reno_sender.specs.LossRecovery.{nothing_sent, may_send_new, partly, advanced, inflated, one_more, enters, is_partial, new_acknowledgement, partial_acknowledgement, early_duplicate, further_duplicate, fast_retransmit, repeated_duplicate}
 use Rattle.reno_sender.specs.Table.{started, acknowledged, timed_out}
 use Rattle.reno_sender.specs.Timer.{measured_by}
 use Rattle.reno_sender.proofs.RowLaws.{by_rows}
 use Rattle.reno_sender.proofs.Samples.{by_sample}
 use Rattle.run_laws.proofs.Ports.{by_test}
 
--- new segments lie within the window
+-- new segments lie within both windows, or an early duplicate sends past one
 abbrev pub FitsNew : SenderFields → Planned → Type 0
-FitsNew f q = let g = q.fields in (g.high ≡ f.high) ⊎ (g.high ≤ g.una + min (g.cwnd + 2 * g.mss) g.rwnd)
+FitsNew f q = let g = q.fields in (g.high ≡ f.high) ⊎ (g.high ≤ g.una + min g.cwnd g.rwnd)
+
+abbrev IsEarly : SenderFields → ℕ → Type 0
+IsEarly f ack = (ack ≡ f.una) × (f.una < f.nxt) × (f.recovery ≡ false) × (f.dups < 2)
+
+abbrev pub FitsAtAck : SenderFields → ℕ → Planned → Type 0
+FitsAtAck f ack q = let g = q.fields in FitsNew f q ⊎ (IsEarly f ack × (g.high ≤ g.una + min (g.cwnd + 2 * g.mss) g.rwnd))
 
 fill_end : (nxt end mss : ℕ) → nxt + (end - nxt) / mss * mss ≤ max nxt end
 fill_end nxt end mss = let a = div-add-mod' (end - nxt) mss in omega (arith, a)
@@ -53,27 +59,47 @@ timeout_fits f now sound =
     (λ (a : f.una + f.mss ≤ f.high). inl (omega (arith, a)))
     (cases_lt f.high (f.una + f.mss))
 
-pub ack_fits : (f : SenderFields) (ack now : ℕ) → IsSound f → IsAckFor f ack now → FitsNew f (acknowledged f ack now)
+-- the rows of an acknowledgement, and which is an early duplicate
+rows : (P : Planned → Type 0) (f : SenderFields) (ack now : ℕ) → P (new_acknowledgement f ack now) → P (partial_acknowledgement f ack now) → P (nothing_sent f) → P (further_duplicate f now)
+    → P (fast_retransmit f now) → P (nothing_sent (record f { dups = 3 })) → (ack ≡ f.una → (f.una ≡ f.nxt → ⊥) → f.recovery ≡ false → f.dups < 2 → P (early_duplicate f now)) → P (repeated_duplicate f)
+    → P (acknowledged f ack now)
+unfolding acknowledged
+rows P f ack now new part old further fast counted early repeated =
+    by_test P (ltb f.una ack) _ _ (λ _. by_test P (is_partial f ack) _ _ (λ _. part) (λ _. new))
+    (λ not_new. by_test P (ltb ack f.una || eqb f.una f.nxt) _ _ (λ _. old)
+    (λ flies. by_test P f.recovery _ _ (λ _. further)
+    (λ off. by_test P (eqb f.dups 2) _ _ (λ _. by_test P (enters f) _ _ (λ _. fast) (λ _. counted))
+    (λ _. by_test P (ltb f.dups 2) _ _
+    (λ few.
+    let parts = or_parts (ltb ack f.una) (eqb f.una f.nxt) flies in
+    let a = ltb-false f.una ack not_new in
+    let b = ltb-false ack f.una parts.0 in
+    early (omega (arith, a, b)) (eqb-false f.una f.nxt parts.1) off (ltb-true f.dups 2 few))
+    (λ _. repeated)))))
+
+pub ack_fits : (f : SenderFields) (ack now : ℕ) → IsSound f → IsAckFor f ack now → FitsAtAck f ack (acknowledged f ack now)
 ack_fits f ack now sound is_ack =
     let below = sound.nxt_high in
     let most = is_ack.most in
     let measured = measured_window f.timing f ack now in
-    let g = measured_by f.timing f ack now in
-    by_rows (FitsNew f) f ack now
-    (λ _ _. filling_fits f (advanced f ack now) now measured.0 (let a = measured.0 in omega (arith, a, below, most)))
-    (λ _ _. let h = partly f ack now in by_test (FitsNew f) (may_send_new h (h.una + min h.cwnd h.rwnd)) _ _
+    rows (FitsAtAck f ack) f ack now
+    (inl (filling_fits f (advanced f ack now) now measured.0 (let a = measured.0 in omega (arith, a, below, most))))
+    (inl (let h = partly f ack now in by_test (FitsNew f) (may_send_new h (h.una + min h.cwnd h.rwnd)) _ _
     (λ may. let parts = may_parts h (h.una + min h.cwnd h.rwnd) may in inr (let a = parts.0 in let b = parts.1 in omega (arith, a, b)))
-    (λ _. inl (let a = measured.0 in omega (arith, a, below, most))))
-    (inl refl)
-    (λ _. by_test (FitsNew f) (may_send_new f (f.una + min (inflated f).cwnd f.rwnd)) _ _
+    (λ _. inl (let a = measured.0 in omega (arith, a, below, most)))))
+    (inl (inl refl))
+    (inl (by_test (FitsNew f) (may_send_new f (f.una + min (inflated f).cwnd f.rwnd)) _ _
     (λ may. let parts = may_parts f (f.una + min (inflated f).cwnd f.rwnd) may in inr (let a = parts.0 in let b = parts.1 in omega (arith, a, b)))
-    (λ _. inl refl))
-    (λ _ _ _. inl (omega (arith, below)))
-    (λ _ _. inl refl)
-    (λ _ _. by_test (FitsNew f) (may_send_new f (f.una + min (f.cwnd + 2 * f.mss) f.rwnd)) _ _
-    (λ may. let parts = may_parts f (f.una + min (f.cwnd + 2 * f.mss) f.rwnd) may in inr (let a = parts.0 in let b = parts.1 in omega (arith, a, b)))
-    (λ _. inl refl))
-    (λ _ _. inl refl)
+    (λ _. inl refl)))
+    (inl (inl (omega (arith, below))))
+    (inl (inl refl))
+    (λ at apart off few. by_test (FitsAtAck f ack) (may_send_new f (f.una + min (f.cwnd + 2 * f.mss) f.rwnd)) _ _
+    (λ may. let parts = may_parts f (f.una + min (f.cwnd + 2 * f.mss) f.rwnd) may in inr ((at, flies apart, off, few), let a = parts.0 in let b = parts.1 in omega (arith, a, b)))
+    (λ _. inl (inl refl)))
+    (inl (inl refl))
+  where
+    flies : (f.una ≡ f.nxt → ⊥) → f.una < f.nxt
+    flies apart = ⊎_elim (λ (less : f.una < f.nxt). less) (λ (most : f.nxt ≤ f.una). absurd (apart (let least = sound.una_nxt in omega (arith, most, least)))) (cases_lt f.una f.nxt)
 
 -- a timer that is set ends one rto later
 abbrev pub EndsAfter : ℕ → SenderFields → Planned → Type 0

@@ -33,7 +33,7 @@ use Rattle.table_run.proofs.RunLaws.{sound_run}
 use Rattle.run_laws.specs.Senders.{for_packet, row_of, AtEachSender, FitsWindows, IsSilentOnceComplete, EndsAfterRto, GoesByTimeouts, TimesNoneResent}
 use Rattle.run_laws.proofs.Acknowledged.{ack_given}
 use Rattle.run_laws.proofs.Events.{here}
-use Rattle.run_laws.proofs.Rows.{started_fits, timeout_fits, ack_fits, started_ends, timeout_ends, ack_ends, start_keeps_rto, ack_silent}
+use Rattle.run_laws.proofs.Rows.{FitsAtAck, started_fits, timeout_fits, ack_fits, started_ends, timeout_ends, ack_ends, start_keeps_rto, ack_silent}
 
 same_fields : (a b : ℕ) (f g : SenderFields) → Sends a f ≡ Sends b g → f ≡ g
 same_fields a b f g e = cc
@@ -172,8 +172,12 @@ by_rows P a b c d = at_each_sender P each
 
 pub new_segments_fit : AtEachSender FitsWindows
 new_segments_fit =
-    by_rows FitsWindows (λ now _ _ f sound _ _. started_fits f now sound) (λ now _ _ f sound _ _. timeout_fits f now sound)
-    (λ now x _ f sound _ _ fits. ack_fits f x.number now sound fits) (λ _ _ _ _ _. inl refl)
+    by_rows FitsWindows (λ now _ _ f sound _ _. inl (started_fits f now sound)) (λ now _ _ f sound _ _. inl (timeout_fits f now sound)) (λ now x v f sound is kind fits. at_ack x v f kind is (acknowledged f x.number now) (ack_fits f x.number now sound fits))
+    (λ _ _ _ _ _. inl (inl refl))
+  where
+    at_ack : (x : Packet) (v : Event) (f : SenderFields) → x.kind ≡ Ack → v ≡ Arrive x → (q : Planned) → FitsAtAck f x.number q → FitsWindows 0 v f q
+    at_ack x v f kind is q (inl fits) = inl fits
+    at_ack x v f kind is q (inr (early, fits)) = inr (((x, is, kind, early.0, early.1), early.2, early.3), fits)
 
 pub timers_end_after_rto : AtEachSender EndsAfterRto
 timers_end_after_rto =

@@ -36,11 +36,7 @@ abbrev pub AtEachSender : (ℕ → Event → SenderFields → Planned → Type 0
 AtEachSender P = AtEachEvent (λ p s k v. (number : ℕ) (flow : FlowPart) → slice_get p.flows number ≡ Some flow → flow.sender ≡ k.node → (f : SenderFields) → (part_at s flow.sender).role ≡ Sends number f
     → ((part_at (stepped s k (effect_of s (k, v))) flow.sender).role ≡ Sends number (row_of f v k.time).fields) × P k.time v f (row_of f v k.time))
 
--- new segments end within the congestion window, with two more of limited transmit (RFC 3042), and the receiver's
-abbrev pub FitsWindows : ℕ → Event → SenderFields → Planned → Type 0
-FitsWindows now v f q = let g = q.fields in (g.high ≡ f.high) ⊎ (g.high ≤ g.una + min (g.cwnd + 2 * g.mss) g.rwnd)
-
--- of a flow that is complete nothing is sent, and nothing changes
+-- of a flow that is complete its sender sends nothing, and nothing of it changes
 abbrev pub IsSilentOnceComplete : ℕ → Event → SenderFields → Planned → Type 0
 IsSilentOnceComplete now v f q = f.una ≡ total f → q ≡ nothing_sent f
 
@@ -69,6 +65,14 @@ IsNewAck v f ack = (x : Packet) × (v ≡ Arrive x) × (x.kind ≡ Ack) × (x.nu
 -- a duplicate comes: the last acknowledgement once more, while bytes are in flight (RFC 5681 section 2)
 abbrev pub IsDuplicate : Event → SenderFields → Type 0
 IsDuplicate v f = (x : Packet) × (v ≡ Arrive x) × (x.kind ≡ Ack) × (x.number ≡ f.una) × (f.una < f.nxt)
+
+-- a first or second duplicate outside recovery
+abbrev pub IsEarlyDuplicate : Event → SenderFields → Type 0
+IsEarlyDuplicate v f = IsDuplicate v f × (f.recovery ≡ false) × (f.dups < 2)
+
+-- new segments end within the congestion window and the receiver's; only an early duplicate may send up to two segments past the former (limited transmit, RFC 3042)
+abbrev pub FitsWindows : ℕ → Event → SenderFields → Planned → Type 0
+FitsWindows now v f q = let g = q.fields in ((g.high ≡ f.high) ⊎ (g.high ≤ g.una + min g.cwnd g.rwnd)) ⊎ (IsEarlyDuplicate v f × (g.high ≤ g.una + min (g.cwnd + 2 * g.mss) g.rwnd))
 
 -- half of some bytes, two segments at least (RFC 5681 section 3.1, equation 4)
 abbrev pub half_of : ℕ → SenderFields → ℕ

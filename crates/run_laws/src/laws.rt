@@ -54,8 +54,9 @@ pub fn packets_are_conserved()
     ensures { PacketsAreConserved }
 {}
 
-/// At each event of every run a sender does what the row of its table says. It sends new segments up to una + min(cwnd
-/// + 2 segments, rwnd) alone (RFC 5681 section 3.1, RFC 3042).
+/// At each event of every run a sender does what the row of its table says. New segments end at most at una + min(cwnd,
+/// rwnd). Only at a first or second duplicate outside recovery they may end up to two segments past cwnd (RFC 5681
+/// section 3.1, RFC 3042).
 pub fn new_segments_fit_the_windows()
     ensures { AtEachSender FitsWindows }
 {}
