@@ -185,7 +185,7 @@ all_leave now old (x ∷ packets) kept =
     schedule_on old.queue first.queue (offered_all now first packets).port.queue (one_leaves now old x kept) (all_leave now first packets (idle_after now old x kept))
 
 -- when drops are due is said in the queue's words
-due_is : (s : CodelState) (n : ℕ) → due_behind s n ≡ drop_due s n
+pub due_is : (s : CodelState) (n : ℕ) → due_behind s n ≡ drop_due s n
 due_is s zero = refl
 due_is s (suc n) = ap (λ m. m + gap_of s.interval (min (s.count + suc n) 4294967295)) (due_is s n)
 

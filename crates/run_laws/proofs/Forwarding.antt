@@ -1,8 +1,11 @@
 -- What each node offers to its links.
-use Rattle.std.proofs.Common.{◌≡◌, ◌≢◌, ℕ, ◌+◌, ◌<◌, Bool, true, false, cond, List, [], ◌∷◌, length, map, refl, sym, ap, subst, ◌∙◌, Some, None}
-use Rattle.std.specs.Prelude.{IfSome}
+use Rattle.std.proofs.Common.{◌≡◌, ◌≢◌, ℕ, ◌+◌, ◌<◌, ◌≤◌, Bool, true, false, cond, List, [], ◌∷◌, length, map, refl, sym, ap, subst, ◌∙◌, Some, None, arith, ⊎_elim, true≢false}
+use Rattle.std.specs.Prelude.{IfSome, nat_le}
+use Rattle.std.specs.Cmp.{unsigned_tied}
+use Rattle.std.specs.List.{list_any, list_all}
+use Rattle.std.specs.Ordering.{eq_by_cmp, nat_cmp}
 use Rattle.std.specs.FinMap as finmap
-use Rattle.std.proofs.lemmas.Bool.{and_parts, eqb-true}
+use Rattle.std.proofs.lemmas.Bool.{and_parts, or_cases, eqb-true, leb-true}
 use Rattle.std.proofs.lemmas.List.{get_or-set_same}
 use Rattle.sim_time.specs.declared.key.Key.{Key}
 use Rattle.packet_chain.specs.declared.packet.Packet.{Packet}
@@ -110,6 +113,14 @@ senders_offer_segments p n lines s is_scenario e k v is number flow its at f rol
     subst (λ (q : PartState). IsOffered (map (segment_of number flow) (row_of f v k.time).sent) (port_of_link s k.node 0) (effect_of s (k, v)).acts (link_at q.links 0).port) (sym (here p is_scenario lines s k v sound is))
     (subst (λ m. At (map (data_packet number m) (row_of f v k.time).sent) (part_at s k.node) 0 (effect_of s (k, v))) mss (sent_by_row (part_at s k.node) k number f role within v not))
 
+-- what has come is no greater than a number that all keys are upto
+upto_all : (xs : List ℕ) (seq high : ℕ) → list_any (eq_by_cmp nat_cmp seq) xs ≡ true → list_all (λ x. nat_le x high) xs ≡ true → seq ≤ high
+upto_all [] seq high any all = absurd (true≢false (sym any))
+upto_all (x ∷ xs) seq high any all =
+    let parts = and_parts (nat_le x high) (list_all (λ y. nat_le y high) xs) all in
+    ⊎_elim (λ (same : eq_by_cmp nat_cmp seq x ≡ true). let is = eqb-true seq x (sym (unsigned_tied seq x) ∙ same) in let low = leb-true x high parts.0 in omega (arith, is, low))
+    (λ (later : list_any (eq_by_cmp nat_cmp seq) xs ≡ true). upto_all xs seq high later parts.1) (or_cases (eq_by_cmp nat_cmp seq x) (list_any (eq_by_cmp nat_cmp seq) xs) any)
+
 -- receivers
 same_receiver : (a b : ℕ) (q r : ReceiverState) → Receives a q ≡ Receives b r → q ≡ r
 same_receiver a b q r e = cc
@@ -129,7 +140,7 @@ module _ (number now : ℕ) (x : Packet) (r : ReceiverState) (offered : List Pac
             let parts = and_parts _ _ may in
             let inner = and_parts _ _ parts.1 in
             let last = and_parts _ _ inner.1 in
-            (did, sym (same_some (now + r.delack) t is), to_none r.timer last.1, eqb-true x.number (next_of r) parts.0));
+            (did, sym (same_some (now + r.delack) t is), to_none r.timer last.1, eqb-true x.number (next_of r) parts.0, λ seq there. upto_all (finmap.keys r.received) seq x.number (sym (finmap.contains_key-keys r.received seq) ∙ there) inner.0));
       }
       by false may did = record {
         gains = λ seq. members_of_gaining r x.number seq;

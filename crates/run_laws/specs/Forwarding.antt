@@ -1,5 +1,5 @@
 -- What each node offers to its links, by name: senders their segments, routers what comes, receivers acknowledgements.
-use Rattle.std.specs.Prelude.{◌≡◌, ◌≢◌, ℕ, ◌+◌, ◌⊎◌, ◌↔◌, List, [], ◌∷◌, map, Option, Some, None, IfSome}
+use Rattle.std.specs.Prelude.{◌≡◌, ◌≢◌, ℕ, ◌+◌, ◌≤◌, ◌⊎◌, ◌↔◌, List, [], ◌∷◌, map, Option, Some, None, IfSome}
 use Rattle.std.specs.List.{slice_get}
 use Rattle.std.specs.FinMap as finmap
 use Rattle.packet_chain.specs.declared.packet.Packet.{Packet}
@@ -42,11 +42,11 @@ abbrev pub RoutersForward : Type 0
 RoutersForward = AtEachEvent (λ p s k v. (x : Packet) → v ≡ Arrive x → (table : List FlowExits) → (part_at s k.node).role ≡ Routes table
     → let e = effect_of s (k, v) in IsForwarded x (λ (index : ℕ). IsOffered (x ∷ []) (port_of_link s k.node index) e.acts (port_of_link (stepped s k e) k.node index)) (exit_for table x))
 
--- a segment that comes joins those received; where no answer waits afterwards, the next byte is acknowledged at once; else it waits for the delay, and it is the segment that was next, and no answer waited before
+-- a segment that comes joins those received; where no answer waits afterwards, the next byte is acknowledged at once; else it waits for the delay, it is the segment that was next, none above it has come, and no answer waited before
 pub record AnswersSegment (number now : ℕ) (x : Packet) (r a : ReceiverState) (offered : List Packet → Type 0) : Type 0 where
   pub gains : (seq : ℕ) → IsReceived a seq ↔ ((seq ≡ x.number) ⊎ IsReceived r seq)
   pub at_once : a.timer ≡ None → offered (acknowledgement_of number (next_of a) ∷ [])
-  pub waits : (t : ℕ) → a.timer ≡ Some t → offered [] × (t ≡ now + r.delack) × (r.timer ≡ None) × (x.number ≡ next_of r)
+  pub waits : (t : ℕ) → a.timer ≡ Some t → offered [] × (t ≡ now + r.delack) × (r.timer ≡ None) × (x.number ≡ next_of r) × ((seq : ℕ) → IsReceived r seq → seq ≤ x.number)
 
 -- a delayed answer that is due acknowledges the next byte
 pub record AnswersDelay (number : ℕ) (r a : ReceiverState) (offered : List Packet → Type 0) : Type 0 where

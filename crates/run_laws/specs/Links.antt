@@ -138,6 +138,21 @@ pub record KeepsDropState (now : ℕ) (old : PortState) (acts : List Act) (new :
   pub leaves : (s q : CodelState) (head cell : Stamped) → old.queue ≡ Codel s → new.queue ≡ Codel q → 1 ≤ count_by is_sent acts → slice_get s.fifo.waiting 0 ≡ Some head → s.dropping ≡ true
       → let k = length (filter_map queue_drop_in acts) in slice_get s.fifo.waiting k ≡ Some cell → IsBelow s now (bytes_of (drop (k + 1) s.fifo.waiting)) cell → (q.dropping ≡ false) × (q.first_above ≡ None)
 
+-- how a drop state begins (RFC 8289 sections 5.4 and 5.5): with as many drops as the one before made after its first, where those are more than one and less than 16 intervals passed since the next one was due; else with one. The next drop is due a gap of the control law later
+pub record BeginsDropState (now : ℕ) (s q : CodelState) : Type 0 where
+  pub again : 1 < s.count - s.lastcount → now - s.drop_next < 16 * s.interval → q.count ≡ s.count - s.lastcount
+  pub anew : (s.count - s.lastcount ≤ 1) ⊎ (16 * s.interval ≤ now - s.drop_next) → q.count ≡ 1
+  pub lastcount : q.lastcount ≡ q.count
+  pub next : q.drop_next ≡ now + gap_of s.interval q.count
+
+-- how CoDel counts its drops, where a link takes and sends: in drop state by one for each, up to 2^32 - 1, and where it ends the moment stays at which the last drop was due; outside it nothing changes before the next begins
+pub record CountsDrops (now : ℕ) (old : PortState) (acts : List Act) (new : PortState) : Type 0 where
+  pub counts : (s q : CodelState) (head : Stamped) → old.queue ≡ Codel s → new.queue ≡ Codel q → 1 ≤ count_by is_sent acts → slice_get s.fifo.waiting 0 ≡ Some head → s.dropping ≡ true
+      → let k = length (filter_map queue_drop_in acts) in (q.count ≡ min (s.count + k) 4294967295) × (q.lastcount ≡ s.lastcount) × (q.dropping ≡ false → q.drop_next ≡ due_behind s (k - 1))
+  pub begins : (s q : CodelState) (head : Stamped) → old.queue ≡ Codel s → new.queue ≡ Codel q → 1 ≤ count_by is_sent acts → slice_get s.fifo.waiting 0 ≡ Some head → s.dropping ≡ false → q.dropping ≡ true → BeginsDropState now s q
+  pub outside : (s q : CodelState) (head : Stamped) → old.queue ≡ Codel s → new.queue ≡ Codel q → 1 ≤ count_by is_sent acts → slice_get s.fifo.waiting 0 ≡ Some head → s.dropping ≡ false → q.dropping ≡ false
+      → (q.count ≡ s.count) × (q.lastcount ≡ s.lastcount) × (q.drop_next ≡ s.drop_next)
+
 -- the bytes that an act tells to be sent
 abbrev pub bytes_by : Act → ℕ
 bytes_by (Tx link packet) = packet.bytes

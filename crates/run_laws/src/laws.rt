@@ -1,7 +1,7 @@
 //! What a networker expects of a run, whatever its scenario. Each function is a law: its contract is the statement, and its
 //! body is empty.
 ghost use Rattle.run_laws.specs.Laws.{AcknowledgedWasReceived, WindowsHold, TimersRun, NoFlowHangs, SendsWithinWindow, ArrivalsKeepOrder, IdleLinksAreEmpty};
-ghost use Rattle.run_laws.specs.Links.{PacketsAreConserved, PacketsArriveOnce, RatesHold, AtEachLink, LeavesInTurn, TurnsAwayByRule, SendsAllThatEntered, SendsOneByOne, DropsForCause, DropsOnTime, KeepsDropState};
+ghost use Rattle.run_laws.specs.Links.{PacketsAreConserved, PacketsArriveOnce, RatesHold, AtEachLink, LeavesInTurn, TurnsAwayByRule, SendsAllThatEntered, SendsOneByOne, DropsForCause, DropsOnTime, KeepsDropState, CountsDrops};
 ghost use Rattle.run_laws.specs.Forwarding.{SendersOfferSegments, RoutersForward, ReceiversAcknowledge, DelayedAnswersAreDue};
 ghost use Rattle.run_laws.specs.Timing.{LinksTakeTheirTime};
 ghost use Rattle.run_laws.specs.Waits.{WaitsFromOffer};
@@ -150,7 +150,8 @@ pub fn routers_forward_what_comes()
 {}
 
 /// In every run a receiver takes in each segment that comes. It acknowledges its next byte in that event, or after the
-/// flow's delay (RFC 5681 section 4.2). It may wait only where the segment was the next one, and no other answer waits.
+/// flow's delay (RFC 5681 section 4.2). It may wait only where the segment was the next
+/// one, none above it has come, and no other answer waits.
 pub fn receivers_acknowledge_what_comes()
     ensures { ReceiversAcknowledge }
 {}
@@ -223,4 +224,11 @@ pub fn codel_drops_on_time()
 /// that is sent was not (RFC 8289 sections 5.5 and 5.6).
 pub fn codel_drops_once_the_interval_is_over()
     ensures { AtEachLink KeepsDropState }
+{}
+
+/// In every run CoDel counts the drops of its drop state. A drop state begins with a count of one, or with what the one
+/// before dropped after its first. The latter is so where that is more than one, and less than 16 intervals passed since
+/// the next was due. The next drop is due a gap of the control law later (RFC 8289 sections 5.4 and 5.5).
+pub fn codel_counts_its_drops()
+    ensures { AtEachLink CountsDrops }
 {}
