@@ -19,3 +19,4 @@ pub mod Forwarding
 pub mod Timing
 pub mod DropState
 pub mod Waits
+pub mod Setup

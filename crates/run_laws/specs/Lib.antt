@@ -4,3 +4,4 @@ pub mod Senders
 pub mod Forwarding
 pub mod Timing
 pub mod Waits
+pub mod Setup

@@ -5,7 +5,32 @@ ghost use Rattle.run_laws.specs.Links.{PacketsAreConserved, PacketsArriveOnce, R
 ghost use Rattle.run_laws.specs.Forwarding.{SendersOfferSegments, RoutersForward, ReceiversAcknowledge, DelayedAnswersAreDue};
 ghost use Rattle.run_laws.specs.Timing.{LinksTakeTheirTime};
 ghost use Rattle.run_laws.specs.Waits.{WaitsFromOffer};
+ghost use Rattle.run_laws.specs.Setup.{FlowsBeginAfresh, FlowsStayAsStated, LinksBeginIdle, LinksStayAsStated};
 ghost use Rattle.run_laws.specs.Senders.{AtEachSender, FitsWindows, IsSilentOnceComplete, EndsAfterRto, GoesByTimeouts, TimesNoneResent, SendersOfferWhatTheySend, AnswersTimeouts, AnswersDuplicates, ThresholdStaysWithoutLoss, GrowsByReno, KeepsRecovery, FillsWindows, RestartsTimer, MeasuresRoundTrips};
+
+/// Each run begins with nothing sent and nothing received. Cwnd is the flow's initial window, of RFC 5681 section 3.1
+/// or of RFC 6928 section 2. Ssthresh is the receiver's window, the timer is off, and the rto is a second (RFC 6298
+/// section 2).
+pub fn flows_begin_afresh()
+    ensures { FlowsBeginAfresh }
+{}
+
+/// In every state of every run the two ends of a flow have the scenario's mss, and the sender its segments, receiver's
+/// window and variant.
+pub fn flows_stay_as_stated()
+    ensures { FlowsStayAsStated }
+{}
+
+/// Each run begins with idle links that nothing waits for, and CoDel outside drop state.
+pub fn links_begin_idle()
+    ensures { LinksBeginIdle }
+{}
+
+/// In every state of every run a link goes from node to node as in the scenario, with its rate, delay and losses. Its
+/// queue is of the scenario's kind, with its capacity and CoDel's parameters.
+pub fn links_stay_as_stated()
+    ensures { LinksStayAsStated }
+{}
 
 /// In every state of every run una <= nxt <= high <= the flow's bytes at each sender. Its receiver has what it knows to
 /// be acknowledged, and in order a prefix of what was sent. A complete flow has delivered all (RFC 9293 section 3.4).
