@@ -49,20 +49,27 @@ def wrapped(text):
         yield from textwrap.wrap(line, WIDTH, subsequent_indent='-- ' if line.startswith('--') else indent, break_long_words=False, break_on_hyphens=False)
 
 
+def shown_by(text, known, shown):
+    """The definitions that a text goes by and that were not shown, each behind those that it goes by itself."""
+    for name in re.findall(r'\w+', re.sub(r'^--.*', '', text, flags=re.M)):
+        if name in known and name not in shown:
+            shown.add(name)
+            yield from shown_by(known[name][0], known, shown)
+            yield name
+
+
+def statement(law):
+    """A law's clauses, and the texts of all definitions that they go by."""
+    known, shown = definitions(), set()
+    clauses = next(clauses for name, _, clauses in laws() if name == law)
+    return [*clauses, *(known[it][0] for clause in clauses for it in shown_by(clause, known, shown))]
+
+
 def page():
     known, shown, lines = definitions(), set(), [HEAD]
-
-    def names_in(text):
-        """The definitions that a text goes by and that were not shown, each behind those that it goes by itself."""
-        for name in re.findall(r'\w+', re.sub(r'^--.*', '', text, flags=re.M)):
-            if name in known and name not in shown:
-                shown.add(name)
-                yield from names_in(known[name][0])
-                yield name
-
     for name, words, clauses in laws():
         lines += [f'## {name}', '', words, '', '```', *(line for it in clauses for line in wrapped(it)), '```', '']
-        used = [it for clause in clauses for it in names_in(clause)]
+        used = [it for clause in clauses for it in shown_by(clause, known, shown)]
         if used:
             lines += ['```', *(line for at, it in enumerate(used) for line in [*([''] if at else []), *wrapped(known[it][0])]), '```', '']
     return '\n'.join(lines).rstrip('\n') + '\n'

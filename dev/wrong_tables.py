@@ -2,35 +2,45 @@
 """Tries the wrong tables of dev/wrong_tables.txt: mistakes in the definitions alone, which the laws of every run (docs/LAWS.md)
 must refuse. The prover then cannot prove one of the laws that the table names.
 
-    dev/wrong_tables.py [--check] [--lanes N] [WORD ..]
+    dev/wrong_tables.py [--check] [--due] [--lanes N] [WORD ..]
 
-With words only the tables whose names have them all are tried. The crates from the edited definition up to run_laws are checked
-as source, so far as the law's proof cites them, over what `make run` keeps of those below; before, each law is proved so
-without an edit. A table takes a minute of a processor for each law that is tried, so all are tried by hand, before a release.
---check proves nothing, and says which edits no longer fit. The status is 1 where a table was not refused.
+With words only the tables whose names have them all are tried, with --due only those of which bench/wrong_tables.csv has no row
+that still fits. The crates from the edited definition up to run_laws are checked as source, so far as the proofs of the laws
+cite them, over what `make run` keeps of those below. Before, the same laws are proved so without an edit. A table takes a minute
+of a processor, so all are tried by hand, before a release. bench/wrong_tables.csv keeps of each table that was refused the laws
+that refused it, a sum of what was tried, the day and the toolchain. --check proves nothing, and says which edits no longer fit.
+The status is 1 where a table was not refused.
 """
 import argparse
 import concurrent.futures
+import contextlib
+import csv
+import datetime
+import hashlib
 import os
 import re
 import shutil
 import subprocess
 import sys
 import tempfile
+import threading
 
 import build
+import laws_page
 import mutants
 
-TABLES = f'{build.TOP}/dev/wrong_tables.txt'
+TABLES, RECORD, FIELDS = f'{build.TOP}/dev/wrong_tables.txt', f'{build.TOP}/bench/wrong_tables.csv', ('table', 'refused by', 'sum', 'date', 'toolchain')
 LAWS = 'run_laws'
+JUDGED = re.compile(rf'fn {LAWS}::laws::(\w+): (proved|not proved)$')
 
 
 class Table:
-    """A wrong table: its name, the laws that it names, and the changes that it asks for, by crate."""
+    """A wrong table: its name, the laws that it names, the changes that it asks for, by crate, and those by which the model makes
+    the same mistake."""
 
     def __init__(self, block):
         self.name, *lines = block.split('\n')
-        self.laws, self.pairs, crate, path, old = [], {}, '', '', ''
+        self.laws, self.pairs, self.model, crate, path, old = [], {}, [], '', '', ''
         for line in lines:
             word, _, rest = line.partition(': ')
             if word == 'laws':
@@ -40,11 +50,12 @@ class Table:
             elif word == 'old':
                 old = rest.replace('\\n', '\n')
             elif word == 'new':
-                self.pairs.setdefault(crate, []).append((path, old, rest.replace('\\n', '\n')))
+                pairs = self.model if crate == 'tcpsim_model' else self.pairs.setdefault(crate, [])
+                pairs.append((path, old, rest.replace('\\n', '\n')))
 
     def fault(self):
         """Why it can't be made in the crates; None where it can."""
-        known = re.findall(r'^pub fn (\w+)', read(f'crates/{LAWS}/src/laws.rt'), re.M)
+        known = [name for name, _, _ in laws_page.laws()]
         strange = [it for it in self.laws if it not in known]
         if strange or not self.laws:
             return f'there is no law {" ".join(strange)}'
@@ -57,7 +68,18 @@ class Table:
     def sources(self, libraries):
         """The crates from the edited ones up to that of the laws."""
         below = build.below(LAWS, libraries)
-        return [it for it in below if it in self.pairs or any(edited in build.below(it, libraries) for edited in self.pairs)]
+        return tuple(it for it in below if it in self.pairs or any(edited in build.below(it, libraries) for edited in self.pairs))
+
+    def sum(self, laws):
+        """A sum of what a try is of: the edited files, as they are and as they are edited, and the statements of the laws."""
+        taken = hashlib.sha256()
+        for crate, pairs in self.pairs.items():
+            texts, _ = mutants.made(pairs, f'{build.TOP}/crates/{crate}')
+            for path, text in texts.items():
+                taken.update(f'{crate}/{path}\0{read(f"crates/{crate}/{path}")}\0{text}\0'.encode())
+        for law in laws:
+            taken.update('\0'.join(laws_page.statement(law)).encode() + b'\0')
+        return taken.hexdigest()[:16]
 
 
 def read(path):
@@ -70,21 +92,47 @@ def tables():
     return [Table(block) for block in re.split(r'\n\n+', text.strip('\n'))]
 
 
-def check_words(kit, libraries, sources, folder, law):
-    """The command that proves one law over these crates' sources, which lie in a folder."""
+def kept():
+    """The rows of the record, by table."""
+    with contextlib.suppress(FileNotFoundError), open(RECORD, encoding='utf-8', newline='') as file:
+        return {row['table']: row for row in csv.DictReader(file)}
+    return {}
+
+
+def is_kept(table, row):
+    """Whether a row is of what the table is now."""
+    return bool(row) and table.sum(row['refused by'].split()) == row['sum']
+
+
+def keep(table, laws, toolchain):
+    """Keeps which laws refused a table, in the order of the tables; where none did, no row."""
+    rows = kept()
+    rows.pop(table.name, None)
+    if laws:
+        rows[table.name] = dict(zip(FIELDS, (table.name, ' '.join(laws), table.sum(laws), datetime.date.today(), toolchain)))
+    with open(RECORD, 'w', encoding='utf-8', newline='') as file:
+        to = csv.DictWriter(file, FIELDS, lineterminator='\n')
+        to.writeheader()
+        to.writerows(rows[it.name] for it in tables() if it.name in rows)
+
+
+def check_words(kit, libraries, sources, folder, laws):
+    """The command that proves laws over these crates' sources, which lie in a folder."""
     words = [f'{kit}/bin/rattle', 'check', '--crate-name', LAWS, f'{build.TOP}/crates/{LAWS}/src/lib.rt']
-    for it in dict.fromkeys(['core', 'std', *libraries[LAWS]]):
+    for it in dict.fromkeys(['core', 'std', *(it for crate in (LAWS, *sources) for it in libraries[crate])]):
         if it not in sources:
             words += ['--extern', f'{it}={build.KEPT if it in libraries else f"{kit}/rlibs"}/{it}.rlib']
     for it in sources:
         words += ['--lib', f'{it}:{",".join(dict.fromkeys(["core", "std", *libraries[it]]))}={folder}/{it}/src/lib.rt']
     words += ['-L', f'dependency={kit}/rlibs', '-L', f'dependency={build.KEPT}', '--links', f'{LAWS}=', '--jobs', '1']
-    return [*words, '--antt-project', f'{kit}/rattle/logic/antt-project.json', '--logic-built', f'{kit}/logic_built', '--only', f'laws::{law}']
+    words += ['--antt-project', f'{kit}/rattle/logic/antt-project.json', '--logic-built', f'{kit}/logic_built']
+    return [*words, *(word for law in laws for word in ('--only', f'laws::{law}'))]
 
 
-def prove(kit, libraries, sources, law, pairs=()):
-    """Whether a law is proved with these changes: the prover's status, and the first fault that it found."""
-    with tempfile.TemporaryDirectory() as folder:
+def prove(kit, libraries, sources, laws, pairs=()):
+    """Which of the laws are proved and which are not with these changes, and what the prover found first; or None, and why there
+    is no verdict."""
+    with tempfile.TemporaryDirectory(prefix='wrong-tables-') as folder:
         for crate in sources:
             for part in build.PARTS:
                 if os.path.isdir(f'{build.TOP}/crates/{crate}/{part}'):
@@ -95,51 +143,64 @@ def prove(kit, libraries, sources, law, pairs=()):
                 with open(f'{folder}/{crate}/{path}', 'w', encoding='utf-8') as file:
                     file.write(text)
         how = {'stdin': subprocess.DEVNULL, 'stdout': subprocess.PIPE, 'stderr': subprocess.STDOUT, 'text': True, 'errors': 'replace'}
-        done = subprocess.run(check_words(kit, libraries, sources, folder, law), cwd=build.TOP, check=False, **how)
-        faults = [at for at in map(mutants.FAULT.match, done.stdout.splitlines()) if at]
-        for at in faults:
-            if '/specs/' in at[1] and (not at[2] or mutants.UNREAD.search(re.sub('`[^`]*`', '', at[3]))):
-                return 2, f'the edited text cannot be read: {at[0][:300]}'
-        where = re.sub(r'.*/(?=\w+/proofs/)', '', faults[0][1]) if faults else done.stdout.strip().splitlines()[-1][:300]
-        return done.returncode, f'{where} {faults[0][2] or ""}'.strip() if faults else where
+        said = subprocess.run(check_words(kit, libraries, sources, folder, laws), cwd=build.TOP, check=False, **how).stdout.splitlines()
+    faults = [at for at in map(mutants.FAULT.match, said) if at]
+    # A definition with a fault is no table at all, wrong or right.
+    unread = [at for at in faults if '/specs/' in at[1]]
+    judged = {at[1]: at[2] for at in map(JUDGED.match, said) if at}
+    if unread or set(judged) != set(laws):
+        return None, f'there is no verdict: {(unread[0][0] if unread else said[-1] if said else "it printed nothing")[:300]}'
+    first = f'{re.sub(r".*/(?=[a-z_]+/proofs/)", "", faults[0][1])} {faults[0][2] or ""}'.strip() if faults else ''
+    return judged, first
 
 
 def tried(kit, libraries, table):
-    """Whether one of its laws refuses a table, and what to say."""
+    """The laws that refuse a table, and what to say."""
     why = table.fault()
     if why:
-        return False, f'{table.name}: FAILED: {why}'
-    said = []
-    for law in table.laws:
-        status, what = prove(kit, libraries, table.sources(libraries), law, table.pairs)
-        if status == 1:
-            return True, f'{table.name}: refused by {law} ({what})'
-        said.append(f'{law}: {what if status else "proved"}')
-    return False, f'{table.name}: NOT REFUSED: {"; ".join(said)}'
+        return [], f'{table.name}: FAILED: {why}'
+    judged, what = prove(kit, libraries, table.sources(libraries), table.laws, table.pairs)
+    if judged is None:
+        return [], f'{table.name}: FAILED: {what}'
+    laws = [law for law in table.laws if judged[law] == 'not proved']
+    return laws, f'{table.name}: refused by {", ".join(laws)} ({what})' if laws else f'{table.name}: NOT REFUSED by {", ".join(table.laws)}'
 
 
 def main():
     reader = argparse.ArgumentParser(description='Tries wrong tables, which the laws must refuse.')
     reader.add_argument('--check', action='store_true', help='prove nothing, see that each edit fits')
+    reader.add_argument('--due', action='store_true', help='only tables of which the record has no row that fits')
     reader.add_argument('--lanes', type=int, default=0, help='how many at once (left out: one a processor)')
     reader.add_argument('words', nargs='*', metavar='WORD', help='words of a name (left out: all tables)')
     given = reader.parse_args()
-    chosen = [it for it in tables() if all(word in it.name for word in given.words)]
+    rows = kept()
+    chosen = [it for it in tables() if all(word in it.name for word in given.words) and not (given.due and is_kept(it, rows.get(it.name)))]
     if not chosen:
-        sys.exit('no wrong table has these words in its name')
+        sys.exit('there is no such wrong table to try')
     if given.check:
         faults = [(it.name, why) for it in chosen for why in [it.fault()] if why]
         print(*(f'{name}: FAILED: {why}' for name, why in faults), f'{len(chosen) - len(faults)} fit, {len(faults)} failed', sep='\n')
         return 1 if faults else 0
     kit, libraries = build.toolchain(), build.declared()
+    toolchain = subprocess.run(['rt', 'version'], capture_output=True, text=True, check=True).stdout.strip()
+    lock, refused = threading.Lock(), 0
     with concurrent.futures.ThreadPoolExecutor(build.jobs_at_once(given.lanes)) as pool:
-        plain = {(law, tuple(it.sources(libraries))) for it in chosen if not it.fault() for law in it.laws}
-        for (law, _), (status, what) in zip(plain, pool.map(lambda it: prove(kit, libraries, it[1], it[0]), plain)):
-            if status:
-                sys.exit(f'{law} is not proved without an edit: {what}')
-        print(f'{len({law for law, _ in plain})} laws are proved over sources', flush=True)
-        refused = 0
-        for is_refused, words in pool.map(lambda it: tried(kit, libraries, it), chosen):
+        plain = {}
+        for it in chosen:
+            if not it.fault():
+                plain.setdefault(it.sources(libraries), set()).update(it.laws)
+        for judged, what in pool.map(lambda it: prove(kit, libraries, it[0], sorted(it[1])), plain.items()):
+            if judged is None or 'not proved' in judged.values():
+                sys.exit(f'without an edit: {what}')
+        print(f'{len(set().union(*plain.values()))} laws are proved over sources', flush=True)
+
+        def one(table):
+            laws, words = tried(kit, libraries, table)
+            with lock:
+                keep(table, laws, toolchain)
+            return bool(laws), words
+
+        for is_refused, words in pool.map(one, chosen):
             print(words, flush=True)
             refused += is_refused
     print(f'{refused} refused, {len(chosen) - refused} failed')
