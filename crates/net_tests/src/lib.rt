@@ -14,4 +14,6 @@ mod scenarios;
 #[cfg(test)]
 mod tables;
 #[cfg(test)]
+mod tallies;
+#[cfg(test)]
 mod windows;
