@@ -9,7 +9,7 @@ use port::Port;
 use sim_time::Time;
 
 /// What the acts at a link tell of what it sends.
-#[derive(Clone, Copy, Debug, PartialEq, Eq)]
+#[derive(Clone, Copy)]
 pub struct Reported {
     /// How many packets began to be sent.
     pub sent: u64,

@@ -8,7 +8,7 @@ use reno_sender::{SenderFields, Timing};
 use sim_time::Time;
 
 /// Why a sender acts.
-#[derive(Clone, Copy, Debug, PartialEq, Eq)]
+#[derive(Clone, Copy)]
 pub enum Cause {
     /// Its flow starts.
     Starts,
@@ -19,7 +19,7 @@ pub enum Cause {
 }
 
 /// What is kept of a sender from before it acts: what tells afterwards what it has sent and timed.
-#[derive(Clone, Copy, Debug, PartialEq, Eq)]
+#[derive(Clone, Copy)]
 pub struct KeptSender {
     /// The first byte that is not acknowledged yet.
     pub una: u64,
@@ -48,7 +48,7 @@ pub fn kept_of(fields: &SenderFields) -> KeptSender
 }
 
 /// How many segments are sent, and how many of them again.
-#[derive(Clone, Copy, Debug, PartialEq, Eq)]
+#[derive(Clone, Copy)]
 pub struct Sent {
     /// All of them.
     pub segments: u64,

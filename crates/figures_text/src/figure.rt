@@ -6,7 +6,7 @@ use aqm::DropReason;
 use std::alloc::AllocError;
 
 /// What a line of the table tells.
-#[derive(Clone, Copy, Debug, PartialEq, Eq)]
+#[derive(Clone, Copy)]
 pub enum Figure {
     /// When a flow starts, in nanoseconds.
     Start,

@@ -3,7 +3,7 @@
 use crate::summary::FlowSummary;
 
 /// A sender's window at the end of a step.
-#[derive(Clone, Copy, Debug, PartialEq, Eq)]
+#[derive(Clone, Copy)]
 pub struct SenderWindow {
     /// The congestion window, in bytes.
     pub cwnd: u64,
@@ -12,7 +12,7 @@ pub struct SenderWindow {
 }
 
 /// The figures of a flow in a step.
-#[derive(Clone, Copy, Debug, PartialEq, Eq)]
+#[derive(Clone, Copy)]
 pub struct FlowStep {
     /// What was counted from the step's begin on.
     pub counts: FlowSummary,
@@ -21,7 +21,7 @@ pub struct FlowStep {
 }
 
 /// A step: from a moment on, and before another.
-#[derive(Clone, Copy, Debug, PartialEq, Eq)]
+#[derive(Clone, Copy)]
 pub struct Span {
     /// When it begins.
     pub begin: u64,

@@ -2,7 +2,7 @@
 use aqm::REASONS;
 
 /// The figures of a flow.
-#[derive(Clone, Copy, Debug, PartialEq, Eq)]
+#[derive(Clone, Copy)]
 pub struct FlowSummary {
     /// When it starts.
     pub start: u64,
@@ -33,7 +33,7 @@ pub struct FlowSummary {
 }
 
 /// The figures of a link.
-#[derive(Clone, Copy, Debug, PartialEq, Eq)]
+#[derive(Clone, Copy)]
 pub struct LinkSummary {
     /// The packets that were offered to it.
     pub offered: u128,
@@ -60,7 +60,7 @@ pub struct LinkSummary {
 }
 
 /// The figures of a run as a whole.
-#[derive(Clone, Copy, Debug, PartialEq, Eq)]
+#[derive(Clone, Copy)]
 pub struct RunSummary {
     /// How many events it had.
     pub events: u64,

@@ -7,7 +7,7 @@ use reno_sender::Sender;
 use sim_time::Time;
 
 /// How a flow stands.
-#[derive(Clone, Copy, Debug, PartialEq, Eq)]
+#[derive(Clone, Copy)]
 pub(crate) enum FlowStatus {
     /// It starts at this moment, in nanoseconds.
     NotStarted(Time),

@@ -6,7 +6,7 @@ use node_core::Event;
 use sim_time::{Key, Time};
 
 /// A timer of a flow.
-#[derive(Clone, Copy, Debug, PartialEq, Eq)]
+#[derive(Clone, Copy)]
 pub(crate) enum FlowTimer {
     /// The flow starts.
     Starts,
@@ -17,7 +17,7 @@ pub(crate) enum FlowTimer {
 }
 
 /// A timer of a flow with its moment.
-#[derive(Clone, Copy, Debug, PartialEq, Eq)]
+#[derive(Clone, Copy)]
 pub(crate) struct DueTimer {
     /// When it is due, in nanoseconds.
     pub time: Time,
