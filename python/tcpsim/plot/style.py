@@ -15,15 +15,12 @@ from matplotlib.patches import Patch
 from matplotlib.patheffects import withStroke
 from matplotlib.textpath import text_to_path
 
+from tcpsim.looks import DROPS, FLOWS, LINKS, ORANGE, PURPLE, RED, SKY, TIMEOUT  # noqa: F401  (the panels' names for them)
 from tcpsim.scenario.text import Link
 
-# Those of series differ in lightness too, by 16 of 100 at least, for grey print and for who doesn't see red and green.
-BLUE, RUST, GREEN, AMBER = '#0B3C6F', '#9C4A1A', '#2FA08A', '#F2BE4A'
-ORANGE, RED, PURPLE, SKY = '#E69F00', '#D55E00', '#CC79A7', '#56B4E9'       # of Okabe and Ito
+SERIES = BLUE, RUST, GREEN, AMBER = FLOWS[:4]
 IN_FLIGHT = '#F3E6C4'
-SERIES = (BLUE, RUST, GREEN, AMBER)         # of flows
-LINKS = ('#3A3A3A', '#9715D8', '#2CB211', '#F2B5D3')       # of links, told apart as those are, and from them
-SSTHRESH, RECEIVER, TIMEOUT = '#000000', '#6A51A3', '#D6005A'       # none of a flow's or link's
+SSTHRESH, RECEIVER = '#000000', '#6A51A3'       # none of a flow's or link's
 DARK_RED = '#A8003F'    # of a timeout, in which letters can be read
 # What is shaded in panels of flows. Where two of them are at once there is a look of its own.
 SHADES = {'stall': {'color': '#000000', 'alpha': .13, 'zorder': .8}, 'recovery': {'color': SKY, 'alpha': .3, 'zorder': .9},
@@ -31,8 +28,7 @@ SHADES = {'stall': {'color': '#000000', 'alpha': .13, 'zorder': .8}, 'recovery':
 ON_WHITE = {'boxstyle': 'square,pad=.1', 'fc': '#FFFFFF', 'ec': 'none', 'alpha': .8}
 DASHES = ('-', (0, (5, 1.5)), (0, (1, 1)), (0, (5, 1, 1, 1)))  # one for each four series
 # One sign for one meaning, in every panel.
-SIGNS = {'full': ('x', RED, 'dropped: queue full'), 'codel': ('v', PURPLE, 'dropped by CoDel'),
-         'lost': ('+', '#000000', 'lost by the scenario\'s list')}
+SIGNS = dict(DROPS)
 # Those of acknowledgements have three arms, or are hollow.
 OF_ACK = {'x': ('2', 'full'), '+': ('1', 'full'), 'v': ('v', 'none')}
 HALO = [withStroke(linewidth=3.2, foreground='#FFFFFF')]    # behind a sign, so that it is seen on dots and lines
