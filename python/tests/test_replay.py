@@ -42,7 +42,7 @@ READ = '''(() => {
   const all = (css, what) => [...document.querySelectorAll(css)].filter(e => e.getAttribute('display') !== 'none').map(what);
   return {
     event: document.documentElement.dataset.event, hash: location.hash,
-    present: all('#lines li.present', e => e.textContent),
+    present: all('#lines li.present', e => e.title),
     packets: all('.packet', e => ({...e.dataset, transform: e.getAttribute('transform'), squares: e.querySelectorAll('rect').length,
       rings: e.querySelectorAll('.ring').length, word: e.querySelector('text').textContent})),
     links: all('g.link', e => ({...e.dataset})),
@@ -534,12 +534,17 @@ class TestInBrowser(WithBrowser):
             assert packet['rings'] == int(packet['again']), where
             assert packet['word'] == mark_of(scenario, flow), where
 
+    def open_whole(self, path, address=''):
+        """Opens a page, with the ends of its net whole."""
+        self.browser.open(path, address)
+        self.browser.value('page.makeNet(false); page.draw()')
+
     def walk(self, name):
         scenario = scenario_of(name)
         lines = example(name)[1][:-1]
         positions = positions_of(name, len(lines))
         assert len(positions) == POSITIONS
-        self.browser.open(self.made(name), f'#event={positions[0]}')
+        self.open_whole(self.made(name), f'#event={positions[0]}')
         at = positions[0]
         for number, (position, dump) in enumerate(zip(positions, dumps(name, positions))):
             if number and number < 34 and abs(position - at) == 1:
@@ -559,7 +564,7 @@ class TestInBrowser(WithBrowser):
             scenario = scenario_of(name)
             lines = example(name)[1][:-1]
             chosen = [len(lines) // 10 + 1, len(lines) // 2, len(lines)]
-            self.browser.open(self.made(name))
+            self.open_whole(self.made(name))
             for position, dump in zip(chosen, dumps(name, chosen)):
                 self.browser.go(position)
                 self.compare(name, scenario, lines, position, self.browser.shown(), dump)
@@ -596,7 +601,7 @@ class TestInBrowser(WithBrowser):
     def test_from_a_moment_on(self):
         name, scenario = 'four_flows_share_codel', scenario_of('four_flows_share_codel')
         lines = example(name)[1][:-1]
-        self.browser.open(self.made(name, '--from', '2s', '--to', '3s'))
+        self.open_whole(self.made(name, '--from', '2s', '--to', '3s'))
         first = sum(int(line.split()[1]) < 2 * 10**9 for line in lines)
         last = sum(int(line.split()[1]) < 3 * 10**9 for line in lines)
         assert int(self.browser.shown()['event']) == first
@@ -694,7 +699,7 @@ class TestInBrowser(WithBrowser):
         for chart in ('windows', 'lengths'):
             self.browser.click(f'document.querySelector("#{chart} .catch")')
             times = self.browser.json('[page.time, page.record.timeOf(page.record.at), page.record.timeOf(page.record.at + 1), '
-                                      '...page.windows.x.domain()]')
+                                      '...page.panels.charts.windows.x.domain()]')
             middle = (times[3] + times[4]) / 2
             assert times[0] == pytest.approx(middle, rel=0, abs=(times[4] - times[3]) / 400)
             assert times[1] < times[0]

@@ -10,13 +10,14 @@ import os
 import re
 import zlib
 
+from tcpsim import looks
 from tcpsim.replay.recording import Part
 from tcpsim.scenario.text import Scenario
 
 HERE = os.path.dirname(os.path.realpath(__file__))
 PARTS = os.path.join(HERE, 'web')
 # What shows a run, here and in the page with the simulator (dev/page.py); behind it what opens this page.
-SCRIPTS = ('trace.js', 'record.js', 'words.js', 'layout.js', 'queue.js', 'net.js', 'charts.js', 'page.js')
+SCRIPTS = ('trace.js', 'record.js', 'words.js', 'layout.js', 'queue.js', 'net.js', 'charts.js', 'panels.js', 'page.js')
 OPENING = 'boot.js'
 # What has two runs under one clock.
 OF_TWO = ('clock.js', 'beside.js')
@@ -51,8 +52,14 @@ def read_part(name: str) -> str:
 
 
 def scripts() -> str:
-    """The scripts that show a run, in their order."""
-    return '\n'.join(read_part(os.path.join(PARTS, name)) for name in SCRIPTS)
+    """The scripts that show a run, in their order, with the words of pictures."""
+    told = {'flows': len(looks.FLOWS), 'links': len(looks.LINKS), 'drops': {reason: words for reason, (*_, words) in looks.DROPS.items()}, 'panels': looks.PANELS}
+    return '\n'.join(("'use strict';", f'const LOOKS = {for_script(told)};', *(read_part(os.path.join(PARTS, name)) for name in SCRIPTS)))
+
+
+def style() -> str:
+    """The style of what shows a run."""
+    return looks.css() + read_part(os.path.join(PARTS, 'page.css'))
 
 
 def page(title: str, scenario: Scenario, part: Part, slide: bool = False, within: bool = False) -> str:
@@ -64,7 +71,7 @@ def page(title: str, scenario: Scenario, part: Part, slide: bool = False, within
     holes = {
         'TITLE': html.escape(title),
         'LOOK': ' '.join(name for name, on in (('slide', slide), ('within', within)) if on),
-        'STYLE': read_part(os.path.join(PARTS, 'page.css')),
+        'STYLE': style(),
         'LIBRARY': read_part(LIBRARY).replace('</script', '<\\/script'),
         'FACTS': for_script(facts),
         'TRACE': packed,

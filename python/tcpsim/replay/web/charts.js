@@ -1,54 +1,69 @@
 'use strict';
-// Two charts over the page's whole span: windows of the flows that are ticked, lengths of the queues.
+// A chart over the page's whole span: curves, points and areas in lanes below each other, one axis of time, a line at the present
+// moment. What lies behind them is shaded, and marks say what happened.
 
 const CHART = {wide: 632, tall: 150, left: 52, right: 8, apart: 8};
-const UNDER_AXIS = 1.9;                 // the room below a chart, as a part of its letters' height
+const UNDER_AXIS = 1.7;                 // the room below a chart, as a part of its letters' height
 const BESIDE_AXIS = 10;                 // what an axis' ticks take beside their labels
 const TICKS = [8, 6, 5, 4, 3, 2, 1];
 const DASHES = ['', '7 3', '2 3', '9 3 2 3'];
+const LEAST_LANE = 40, LANE_GAP = 5;    // pixels: of a lane's height, and between two
+const OWN_SCALE = 5;                    // a lane with values smaller than the others' by this has an axis of its own
+const TOGETHER = 4;                     // marks of a kind that are no further apart are one
+const MARK = 4;                         // half of a mark's width
+const SIGNS = {full: 'm-4-4l8 8m0-8l-8 8', codel: 'm-4-4h8l-4 8z', lost: 'm-5 0h10m-5-5v10', timeout: ''};
+const GREY = 'var(--line)';
 
-// Points of a curve of steps: of each column of the picture the first, least, greatest and last value.
+// Of each column of the picture the first, least, greatest and last point of a curve: [time, value] each.
 function thinned(curve, scale) {
-  const points = [], {times, values} = curve, [[begin, end], [left, right]] = [scale.domain(), scale.range()];
+  const kept = [], {times, values} = curve, [[begin, end], [left, right]] = [scale.domain(), scale.range()];
   const across = (right - left) / (end - begin);
-  let column = -1, low = 0, high = 0, last = 0;
-  const close = () => { if (column >= 0) for (const k of [...new Set([low, high, last])].sort((a, b) => a - b)) points.push(k); };
+  let column = -Infinity, first = 0, low = 0, high = 0, last = -1;
+  const add = k => { if (k > last) { kept.push([times[k], values[k]]); last = k; } };
+  const close = k => { const [one, two] = low < high ? [low, high] : [high, low]; add(first); add(one); add(two); add(k); };
   for (let k = 0; k < times.length; k++) {
-    const x = Math.floor(left + (times[k] - begin) * across);
-    if (x !== column) { close(); column = x; low = high = last = k; points.push(k); }
-    if (values[k] < values[low]) low = k;
-    if (values[k] > values[high]) high = k;
-    last = k;
+    const x = Math.floor(left + (times[k] - begin) * across), value = values[k];
+    if (x !== column) {
+      if (k) close(k - 1);
+      column = x; first = low = high = k;
+    } else if (value < values[low]) low = k;
+    else if (value > values[high]) high = k;
   }
-  close();
-  return [...new Set(points)].map(k => [times[k], values[k]]);
+  if (times.length) close(times.length - 1);
+  return kept;
 }
-
+// The greatest of many numbers, and none of no numbers.
+function greatestOf(values) {
+  let most = -Infinity;
+  for (let k = 0; k < values.length; k++) if (values[k] > most) most = values[k];
+  return most;
+}
 // The width of the widest label of an axis.
 function widestOf(axis) {
   return d3.max(axis.selectAll('text')[0], text => text.getComputedTextLength()) || 0;
 }
 
 class Chart {
-  // `titles` say the same, the longest first; the first that has room is shown.
-  constructor(svg, record, titles, go) {
-    Object.assign(this, {record, go});
+  // `titles` say the same, the longest first; the first that has room is shown. `whole`: values are whole numbers.
+  constructor(svg, record, titles, go, whole = true) {
+    Object.assign(this, {record, go, whole});
     const box = svg.node().getBoundingClientRect();
-    this.wide = Math.max(300, box.width || CHART.wide); this.tall = Math.max(80, box.height || CHART.tall);
+    this.wide = Math.max(240, box.width || CHART.wide); this.tall = Math.max(80, box.height || CHART.tall);
     this.svg = svg.attr('viewBox', `0 0 ${this.wide} ${this.tall}`).attr('preserveAspectRatio', 'none');
     const begin = record.times[0], end = record.times[record.count];
     this.x = d3.scale.linear().domain([begin, Math.max(end, begin + 1)]);
     this.title = this.svg.append('text').attr('class', 'title');
-    this.left = this.svg.append('g').attr('class', 'axis');
+    this.axes = this.svg.append('g');
     this.under = this.svg.append('g').attr('class', 'axis');
-    this.bottom = Math.max(20, UNDER_AXIS * parseFloat(getComputedStyle(this.under.append('text').node()).fontSize));
-    this.under.attr('transform', `translate(0,${this.tall - this.bottom})`).select('text').remove();
-    this.bands = this.svg.append('g').attr('class', 'stalls');
+    this.letters = parseFloat(getComputedStyle(this.title.node()).fontSize);
+    this.bottom = Math.max(20, UNDER_AXIS * this.letters);
+    this.under.attr('transform', `translate(0,${this.tall - this.bottom})`);
+    this.bands = this.svg.append('g');
     this.curves = this.svg.append('g');
+    this.marks = this.svg.append('g');
+    this.names = this.svg.append('g');
+    this.key = this.svg.append('g');
     this.layTitle(titles);
-    this.y = d3.scale.linear().range([this.tall - this.bottom, this.top]);
-    // So many ticks of the axis of values have room for their labels.
-    this.rows = Math.max(2, Math.min(4, Math.floor(UNDER_AXIS * (this.tall - this.bottom - this.top) / (1.1 * this.bottom))));
     // The line at the present moment lies over the picture, which then need not be drawn again.
     this.node = svg.node();
     this.present = document.createElement('div');
@@ -61,11 +76,11 @@ class Chart {
   }
   // The title as high as its letters are, and what is below it further down.
   layTitle(titles) {
-    const node = this.title.attr('x', CHART.left).attr('y', 0).node(), room = this.wide - CHART.left - 2;
+    const node = this.title.attr('x', 4).attr('y', 0).node(), room = this.wide - 6;
     this.title.text(titles.find(words => { this.title.text(words); return node.getComputedTextLength() <= room; }) || '');
     const {y, height} = node.getBBox();
     this.title.attr('y', -y);
-    this.top = height + 1;
+    this.top = height + 2;
   }
   // The axis of time from `left` on: as many ticks as have room for their labels, the first and the last whole.
   layTime(left) {
@@ -84,42 +99,114 @@ class Chart {
     this.under.call(axis.scale(times));
     const [from, to] = this.x.range();
     this.leftOf = left;
-    this.left.attr('transform', `translate(${from},0)`);
     this.catch.attr('x', from).attr('width', to - from);
   }
   resize() {
     const box = this.node.getBoundingClientRect();
     this.shown = box.width;
-    this.present.style.height = `${box.height * 0.82}px`;
-    this.present.style.top = `${this.node.parentNode.clientHeight - box.height * 0.92}px`;
+    this.present.style.height = `${box.height * (this.tall - this.bottom - this.top) / this.tall}px`;
+    this.present.style.top = `${this.node.parentNode.clientHeight - box.height * (1 - this.top / this.tall)}px`;
   }
-  // Each of `series` is {curve, colour, dash, thin, name}; each of `bands` a span that is shaded, {from, to, name, colour, lane,
-  // lanes}: the panel's height is divided among so many lanes.
-  show(series, bands = []) {
-    const greatest = d3.max(series.filter(s => !s.thin), s => d3.max(s.curve.values)) || 1;
-    this.y.domain([0, greatest * 1.1]);
-    this.left.call(d3.svg.axis().scale(this.y).orient('left').tickValues(this.y.ticks(this.rows).filter(Number.isInteger)).tickFormat(d3.format('s')));
-    const left = Math.max(CHART.left, widestOf(this.left) + BESIDE_AXIS);
+  within(time) { return this.x(Math.min(this.x.domain()[1], Math.max(this.x.domain()[0], time))); }
+
+  // Each lane is {name, colour, series, bands, marks}. Of `series` each is {curve, colour, dash, thin, name}, or {dots, ..} with points,
+  // or {area, ..} with [time, from, to] of each column; of `bands` a span that is shaded, {kind, from, to, name, lane, lanes}; of `marks`
+  // a moment, {kind, time, value, name}. `key` has [kind, words, colour] of bands, marks and flows. Lanes that have no room are one, in which the
+  // first is before the others in grey.
+  show(lanes, key = []) {
+    const height = this.tall - this.bottom - this.top, room = lanes.length < 2 || height / lanes.length >= LEAST_LANE + LANE_GAP;
+    const kept = room ? lanes : [this.together(lanes)];
+    const tops = kept.map(({series}) => Math.max(0, ...series.filter(s => !s.thin).map(s => s.most === undefined ? greatestOf(s.curve.values) : s.most)) || 1);
+    const greatest = Math.max(...tops), lane = height / Math.max(1, kept.length);
+    for (const group of [this.axes, this.bands, this.curves, this.marks, this.names, this.key]) group.selectAll('*').remove();
+    this.lanes = kept.map((one, k) => {
+      const from = this.top + lane * k + (k ? LANE_GAP : 0), to = this.top + lane * (k + 1), most = tops[k] * OWN_SCALE < greatest ? tops[k] : greatest;
+      return {...one, from, to, y: d3.scale.linear().range([to, from]).domain([0, most * 1.1])};
+    });
+    this.lanes.forEach(({y, from, to}, k) => {
+      const rows = Math.max(to - from > 2 * this.letters ? 2 : 1, Math.min(4, Math.floor((to - from) / (1.6 * this.letters))));
+      const axis = this.axes.append('g').attr('class', 'axis').call(d3.svg.axis().scale(y).orient('left').tickSize(4)
+        .tickValues(y.ticks(rows).filter(value => !this.whole || Number.isInteger(value))).tickFormat(value => value < 1 ? String(value) : d3.format('s')(value)));
+      // Below another lane its highest label would lie over that one's lowest.
+      axis.selectAll('text').filter(value => value && y(value) < from + (k ? 0.9 : 0.33) * this.letters).remove();
+    });
+    const left = Math.max(CHART.left, widestOf(this.axes) + BESIDE_AXIS);
     if (left !== this.leftOf) { this.layTime(left); this.mark(this.time); }
-    const line = d3.svg.line().x(p => this.x(p[0])).y(p => Math.max(this.top, this.y(p[1]))).interpolate('step-after');
-    const end = this.record.times[this.record.count];
-    this.curves.selectAll('*').remove();
-    this.bands.selectAll('*').remove();
-    const within = time => this.x(Math.min(this.x.domain()[1], Math.max(this.x.domain()[0], time)));
-    const height = Math.max(0, this.tall - this.bottom - this.top);
-    for (const {from, to, name, colour, lane, lanes} of bands)
-      this.bands.append('rect').attr('x', within(from)).attr('width', Math.max(1, within(to) - within(from))).attr('fill', colour)
-        .attr('y', this.top + height * lane / lanes).attr('height', height / lanes).append('title').text(name);
-    for (const one of series) {
-      const points = thinned(one.curve, this.x);
-      points.push([end, points[points.length - 1][1]]);
-      this.curves.append('path').attr('d', line(points)).attr('stroke', one.colour).attr('stroke-dasharray', one.dash || null)
-        .attr('stroke-width', one.thin ? 1 : 1.7).attr('class', one.thin ? 'thin' : null).append('title').text(one.name);
+    this.axes.attr('transform', `translate(${this.x.range()[0]},0)`);
+    for (const one of this.lanes) this.drawLane(one, kept.length);
+    this.drawKey(key);
+  }
+  // All lanes in one: the first, and of the others what is drawn most, in grey behind it.
+  together([first, ...others]) {
+    const grey = others.flatMap(({series}) => series.filter(s => !s.thin).map(s => ({...s, colour: GREY})));
+    return {...first, series: [...grey, ...first.series]};
+  }
+  drawLane({name, colour, series, bands = [], marks = [], y, from, to}, count) {
+    const line = d3.svg.line().x(p => this.x(p[0])).y(p => Math.max(from, y(p[1]))).interpolate('step-after'), height = to - from;
+    for (const {kind, from: begin, to: end, name: words, lane = 0, lanes = 1} of bands)
+      this.bands.append('rect').attr('class', kind).attr('x', this.within(begin)).attr('width', Math.max(1, this.within(end) - this.within(begin)))
+        .attr('y', from + height * lane / lanes).attr('height', height / lanes).append('title').text(words);
+    for (const one of series) this.curveOf(one, y, line, from);
+    this.drawMarks(marks, y, from, to);
+    if (name && count > 1) {
+      const text = this.names.append('text').attr('class', 'lane').attr('x', this.x.range()[0] + 6).attr('y', from + this.letters).text(name);
+      if (colour) this.names.append('rect').attr('x', this.x.range()[0] + 6).attr('y', from + this.letters + 2).attr('width', text.node().getComputedTextLength())
+        .attr('height', 3).attr('fill', colour);
+    }
+  }
+  curveOf({curve, dots, area, colour, dash, thin, outline, name}, y, line, from) {
+    const path = this.curves.append('path');
+    if (area)
+      path.attr('class', 'area').style('fill', colour).attr('d', area.map(([x, low, high]) => `M${x} ${y(low).toFixed(1)}V${y(high).toFixed(1)}h1.02V${y(low).toFixed(1)}z`).join(''));
+    else if (dots)
+      path.attr('class', 'dots').attr('stroke', colour).attr('stroke-width', thin ? 1.5 : 3).attr('d', this.dotted(dots, y, from));
+    else {
+      const points = thinned(curve, this.x), end = this.record.times[this.record.count];
+      if (points.length) points.push([end, points[points.length - 1][1]]);
+      path.attr('d', points.length ? line(points) : null).attr('stroke', colour).attr('stroke-dasharray', dash || null).attr('stroke-width', thin ? 1 : 1.7)
+        .attr('class', thin ? 'thin' : outline ? 'outline' : null);
+    }
+    path.append('title').text(name);
+  }
+  // Points as dots: of each column the least and the greatest, and what lies between them as far as it is seen.
+  dotted(dots, y, from) {
+    return thinned(dots, this.x).map(([time, value]) => `M${this.x(time).toFixed(1)} ${Math.max(from, y(value)).toFixed(1)}h.01`).join('');
+  }
+  // Marks in their order; those of a kind that lie upon each other are one, which says how many.
+  drawMarks(marks, y, from, to) {
+    const last = new Map();
+    for (const {kind, time, value, name} of marks) {
+      const x = this.within(time), before = last.get(kind);
+      if (before && x - before.x < TOGETHER && (value === undefined || Math.abs(y(value) - before.y) < TOGETHER)) {
+        before.count += 1;
+        before.title.text(`${before.name}, and ${before.count} more`);
+        continue;
+      }
+      const at = value === undefined ? to - MARK - 1 : Math.max(from, y(value)), path = this.marks.append(kind === 'again' ? 'circle' : 'path').attr('class', kind);
+      if (kind === 'timeout') path.attr('d', `M${x} ${from}V${to}`);
+      else if (kind === 'again') path.attr('cx', x).attr('cy', at).attr('r', MARK + 1).attr('fill', 'none');
+      else path.attr('d', `M${x} ${at}${SIGNS[kind] || SIGNS.full}`);
+      last.set(kind, {x, y: at, name, count: 0, title: path.append('title').text(name)});
+    }
+  }
+  // What bands and marks mean, beside the title, as far as there is room.
+  drawKey(key) {
+    let x = this.wide - CHART.right;
+    const least = 4 + this.title.node().getComputedTextLength() + 12, y = this.top - 5;
+    for (const [kind, words, colour] of key) {
+      const text = this.key.append('text').attr('class', 'key').attr('y', y).text(words), wide = text.node().getComputedTextLength();
+      if (x - wide - 16 < least) { text.remove(); return; }
+      text.attr('x', x - wide);
+      const at = x - wide - 9;
+      if (['stall', 'recovery', 'flow'].includes(kind)) this.key.append('rect').attr('class', kind).attr('fill', colour || null).attr('x', at - 4).attr('y', y - 9).attr('width', 10).attr('height', 10);
+      else if (kind === 'again') this.key.append('circle').attr('class', kind).attr('cx', at).attr('cy', y - 4).attr('r', MARK).attr('fill', 'none');
+      else this.key.append('path').attr('class', kind).attr('d', kind === 'timeout' ? `M${at} ${y - 10}v11` : `M${at} ${y - 4}${SIGNS[kind] || SIGNS.full}`);
+      x -= wide + 26;
     }
   }
   mark(time) {
     this.time = time;
-    const x = this.x(Math.min(this.x.domain()[1], Math.max(this.x.domain()[0], time))).toFixed(1);
+    const x = this.within(time).toFixed(1);
     this.present.style.transform = `translateX(${x * this.shown / this.wide}px)`;
     this.present.dataset.time = time;
   }

@@ -9,27 +9,24 @@ const LINE_TALL = 12, EDGE_OF_ROW = 3;       // LINE_TALL: of a line of words
 // What things take, in units of the drawing: `row` is a track's height, `beside` leads from a track's middle to each of its lines,
 // `upper`, `lower` to its queues, `name` and `dropped` to its name and what was dropped, `reach` of a stub to the ends of its counts;
 // `kinds` says whether a node has its kind.
-const ON_PAGE = {edge: 8, round: 16, row: 98, beside: 7, least: 250, mostName: 240, end: 36, beyond: 24, router: 46, node: 58, kinds: true, counts: 'beside',
-  stub: {tall: 25, length: 90, upper: -21, lower: 9}, upper: -31, lower: 18, name: -36, dropped: 44, reason: 13, offNode: 11, kindSize: 10, down: -2,
-  box: {wide: 10, tall: 12, step: 11}, bar: {at: 13.2, tall: 4}, square: [13, 13], disc: 5.5, ring: 9.5};
-// On a slide no letter is smaller than another, so that all are large where the net has room: a unit is two pixels, and what
-// holds a flow's mark is as wide as that. Where the net is long, links' ends keep their words above each other.
-const ON_SLIDE = {...ON_PAGE, round: 8, row: 109, beside: 9, least: 150, mostName: 170, kindSize: 12,
-  stub: {tall: 22, length: 36, upper: -30, lower: 16, row: 32, reach: [27, 29], node: 30},
-  upper: -39, lower: 20, name: -42, dropped: 48, reason: 16, offNode: 14, down: -2.5};
+const ON_PAGE = {edge: 8, round: 12, row: 109, beside: 9, least: 245, mostName: 240, end: 36, beyond: 24, router: 46, node: 58, kinds: true, counts: 'beside',
+  stub: {tall: 22, length: 36, upper: -30, lower: 16, row: 32, reach: [27, 29], node: 30}, upper: -39, lower: 20, name: -42, dropped: 48, reason: 16, offNode: 14, kindSize: 12, down: -2.5, mark: 9, between: 1};
+// No letter is smaller than another, and what holds a flow's mark is as wide as that. On a slide, or where a page's net has no room,
+// links are shorter; where it is long, their ends keep their words above each other.
+const ON_SLIDE = {...ON_PAGE, round: 8, least: 150, mostName: 170, mark: 11, between: 3};
 const ON_LONG_SLIDE = {...ON_SLIDE, edge: 3, stub: {...ON_SLIDE.stub, node: 26}, row: 142, least: 84, router: 28, node: 30, end: 22,
   kinds: false, counts: 'apart', name: -56, dropped: 65};
-const SLIDE_LETTERS = 24, LETTERS = 12; // the least that a slide's letters are, in pixels and in units
-const NAME_SIZE = 15, MOST_NAME_SIZE = 21, LEAST_NAME = 10.5;      // of nodes: units, units, and pixels of the screen
+const SLIDE_LETTERS = 24, PAGE_LETTERS = 12, LETTERS = 12;       // the least that letters are on a slide and on a page, in pixels, and in units
+const NAME_SIZE = 15, MOST_NAME_SIZE = 21, LEAST_NAME = 12;        // of nodes: units, units, and pixels of the screen
 const LEAST_ROWS = 1.15;                // one flow alone is drawn as large as this many rows would be
-// A stub is an end of the net, at one router, with no room for its queues and names: its row's height as a part of a
-// track's where `sizes` has none. Where there are more rows than so many ends are stubs.
-const STUB = 0.36, MOST_ROWS = 5;
+// A stub is an end of the net, at one router, with no room for its queues and names.
+// Where there are more rows than so many ends are stubs.
+const MOST_ROWS = 5;
 
-// A slide's sizes for packets that carry these marks.
+// The sizes for packets that carry these marks.
 function sizesFor(sizes, marks) {
-  const wide = Math.max(11, Math.ceil(d3.max(marks, mark => textWidth(mark, `bold ${LETTERS}px sans-serif`)) || 0));
-  return {...sizes, box: {wide: wide + 3, tall: 14, step: wide + 4}, bar: {at: 15.2, tall: 4}, square: [wide + 5, 16],
+  const {mark: least, between} = sizes, wide = Math.max(least, Math.ceil(d3.max(marks, mark => textWidth(mark, `bold ${LETTERS}px sans-serif`)) || 0));
+  return {...sizes, box: {wide: wide + between, tall: 14, step: wide + between + 1}, bar: {at: 15.2, tall: 4}, square: [wide + 5, 16],
     disc: Math.max(8, wide / 2 + 2), ring: Math.max(8, wide / 2 + 2.5) + 3.5};
 }
 
@@ -117,7 +114,7 @@ function spaced(wishes, apart, low, high) {
 
 class Layout {
   // `leastLength` says what the words beside a track need of its length.
-  constructor(facts, panelWide, panelTall, leastLength, stubs = false, sizes = ON_PAGE) {
+  constructor(facts, panelWide, panelTall, leastLength, stubs, sizes) {
     this.facts = facts; this.stubs = stubs; this.sizes = sizes;
     this.leastLength = leastLength;
     this.column = columnsOf(facts);
@@ -132,7 +129,7 @@ class Layout {
     }
     this.count = Math.max(...this.column) + 1;
     this.nameTracks();
-    this.stubTall = sizes.stub.row ? sizes.stub.row / this.row : STUB;
+    this.stubTall = sizes.stub.row / this.row;
     for (const t of this.tracks) t.weight = t.stub ? this.stubTall : 1;
     this.makeItems();
     this.sort();
@@ -277,7 +274,7 @@ class Layout {
   fit(panelWide, panelTall, length) {
     const {facts, tracks, column, sizes} = this;
     this.nodeWide = facts.nodes.map((node, n) => {
-      const stub = sizes !== ON_PAGE && this.ofNode[n].stub, wide = stub ? sizes.stub.node : node.kind === 'router' ? sizes.router : sizes.node;
+      const {stub} = this.ofNode[n], wide = stub ? sizes.stub.node : node.kind === 'router' ? sizes.router : sizes.node;
       return Math.max(wide, 14 + textWidth(node.name, `bold ${this.nameSize}px sans-serif`),
         stub || !sizes.kinds ? 0 : 10 + textWidth(node.kind, `${sizes.kindSize}px sans-serif`));
     });
@@ -296,7 +293,7 @@ class Layout {
 
   // From where to where all reaches, with the counts at stubs, from the top of the rows.
   reach() {
-    const {row, sizes} = this, {reach} = sizes.stub, stubs = reach ? this.tracks.filter(t => t.stub) : [];
+    const {row, sizes} = this, {reach} = sizes.stub, stubs = this.tracks.filter(t => t.stub);
     const at = stubs.flatMap(t => [t.aY, t.bY]).map(y => y * row + sizes.down);
     return [Math.min(0, ...at.map(y => y - reach[0])), Math.max(this.rows * row, ...at.map(y => y + reach[1]))];
   }

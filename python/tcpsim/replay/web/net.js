@@ -3,17 +3,13 @@
 // drops that fall. What is drawn says its numbers in data- attributes.
 
 const NAMES_WIDE = [94, 130];           // units of a name's line on a slide with a long net, whichever makes it larger
-const NARROW = 600, NARROW_LETTERS = 12;        // pixels: a phone's panel has a long slide's sizes where its letters were smaller
 const DECK = 4, MOST_IN_A_DECK = 5;    // how far apart drops of one event lie
 // Of a queue: squares at least, and what it takes of its link besides these and its count, and besides its count alone.
 const LEAST_BOXES = 4, QUEUE_ROOM = 20, APART_ROOM = 8;
 const MOST_BOXES = 30, MOST_ON_A_LINK = 240, MOST_FALLING = 12;
-// Colours that differ in lightness too, for those who don't see red and green and in grey print, as in tcpsim-plot's
-// pictures; packets carry their flow's mark too.
-const COLOURS = ['#0B3C6F', '#9C4A1A', '#2FA08A', '#F2BE4A', '#5E8FC7', '#D98B5F', '#7CCFBE', '#6B4E00'];
-const LIGHT = [2, 3, 4, 5, 6];          // of these, those on which dark letters are read better
-function colourOf(flow) { return COLOURS[flow % COLOURS.length]; }
-function inkOf(flow) { return LIGHT.includes(flow % COLOURS.length) ? '#000' : '#fff'; }
+// Packets carry their flow's mark besides its colour.
+const colourOf = flow => `var(--flow-${flow % LOOKS.flows})`, inkOf = flow => `var(--on-flow-${flow % LOOKS.flows})`;
+const linkColourOf = link => `var(--link-${link % LOOKS.links})`;
 
 // What a packet carries: its flow's name, where all names are that short; else a letter a flow, or a number.
 const MOST_LETTERS = 2, ALPHABET = 'ABCDEFGHIJKLMNOPQRSTUVWXYZabcdefghijklmnopqrstuvwxyz';
@@ -31,11 +27,11 @@ function reasonOf(facts, drop, count) {
 function waitingWord(p) { return `${p.flow}:${p.sort === DATA ? 'd' : 'a'}:${p.number}@${p.entered}`; }
 
 function isSlide() { return document.documentElement.classList.contains('slide'); }
-// Whether a net on a slide has smaller letters than those of a slide.
-function isSmall(layout) { return LETTERS * layout.pixels < SLIDE_LETTERS - 1e-6; }
+// Whether a net has smaller letters than those of a slide, or of a page.
+function isSmall(layout) { return LETTERS * layout.pixels < (isSlide() ? SLIDE_LETTERS : PAGE_LETTERS) - 1e-6; }
 
 class Net {
-  // `fold` says whether ends are stubs; where it is not given they are in a net of many, and on a slide that has no room.
+  // `fold` says whether ends are stubs; where it is not given they are in a net of many, and where its letters were small.
   constructor(svg, record, show, fold) {
     this.record = record; this.facts = record.facts; this.show = show;
     svg.selectAll('*').remove();
@@ -43,11 +39,11 @@ class Net {
     this.countsWide = this.facts.links.map((_, l) => this.widestCount(l));
     const box = svg.node().getBoundingClientRect(), layoutOf = stubs => this.layoutIn(box.width || 1264, box.height || 340, stubs);
     let layout = layoutOf(false);
-    this.canFold = layout.rows > MOST_ROWS || isSlide() && isSmall(layout);
+    this.canFold = layout.rows > MOST_ROWS || isSmall(layout);
     if (fold === undefined ? this.canFold : fold) layout = layoutOf(true);
     this.folded = layout.stubs;
     Object.assign(this, {places: layout.places, tracks: layout.tracks, row: layout.row, nameSize: layout.nameSize, sizes: layout.sizes, pixels: layout.pixels});
-    this.svg = svg.attr('viewBox', `0 0 ${layout.wide} ${layout.tall}`).classed('large', layout.sizes !== ON_PAGE);
+    this.svg = svg.attr('viewBox', `0 0 ${layout.wide} ${layout.tall}`);
     this.world = this.svg.append('g').attr('class', 'world');
     this.svg.call(d3.behavior.zoom().scaleExtent([0.5, 40]).on('zoom', () =>
       this.world.attr('transform', `translate(${d3.event.translate}) scale(${d3.event.scale})`)))
@@ -66,10 +62,10 @@ class Net {
   layoutIn(panelWide, panelTall, stubs) {
     const {facts, reasonWide, countsWide} = this, made = sizes => new Layout(facts, panelWide, panelTall, track => Math.max(
       sizes.kinds ? reasonWide + 2 * sizes.reason : 0, ...track.links.map(l => countsWide[l] && countsWide[l] + this.besideCount(sizes))), stubs, sizes);
-    const marks = facts.flows.map((_, f) => markOf(facts, f)), wide = made(isSlide() ? sizesFor(ON_SLIDE, marks) : ON_PAGE);
-    if (LETTERS * wide.pixels >= (isSlide() ? SLIDE_LETTERS - 1e-6 : panelWide < NARROW ? NARROW_LETTERS : 0)) return wide;
-    const others = NAMES_WIDE.map(mostName => made(sizesFor({...ON_LONG_SLIDE, mostName}, marks)));
-    return [wide, ...others].reduce((best, one) => one.pixels > best.pixels ? one : best);
+    const marks = facts.flows.map((_, f) => markOf(facts, f)), first = made(sizesFor(isSlide() ? ON_SLIDE : ON_PAGE, marks));
+    if (!isSmall(first)) return first;
+    const others = [ON_SLIDE, ...NAMES_WIDE.map(mostName => ({...ON_LONG_SLIDE, mostName}))].map(sizes => made(sizesFor(sizes, marks)));
+    return [first, ...others].reduce((best, one) => one.pixels > best.pixels ? one : best);
   }
   // How large it would be drawn in such a panel.
   pixelsIn(panelWide, panelTall) { return this.layoutIn(panelWide, panelTall, this.folded).pixels; }
@@ -286,7 +282,7 @@ class Net {
   dropShape(drop, rank, count, sign) {
     const group = this.shape(drop);
     group.setAttribute('class', 'drop');
-    group.querySelector('text').style.fill = '#fff';
+    group.querySelector('text').style.fill = '#000';
     Object.assign(group.dataset, {link: drop.link, flow: drop.flow, number: drop.number, reason: drop.reason,
       event: drop.event, count});
     if (rank === count - 1)

@@ -13,7 +13,7 @@ function rowsOf(line, letters) {
 }
 
 function whereText(event, last, time) { return `event ${number(event)} of ${number(last)}   ${seconds(time)}`; }
-const PLAY = ['▶ play', '❚❚ pause'], LEAST_FONT = 8;
+const PLAY = ['▶ play', '❚❚ pause'], LEAST_FONT = 12;
 
 // Takes smaller letters, down to LEAST_FONT, until an element's words have room in it.
 function fit(element) {
@@ -30,36 +30,25 @@ class Page {
     this.ended = new AbortController();
     Object.assign(this, {told, causes, record, facts: record.facts, time: record.times[0], playing: false, picked: null, frames: 0});
     this.sayLeft();
-    this.makeTicks();
+    this.panels = new Panels(record, time => this.goTo(time));
     this.keepRoom();
     this.makeNet();
-    this.makeCharts(); this.makeLines(); this.makeControls();
+    this.panels.make(); this.makeLines(); this.makeControls();
     this.fromAddress();
     this.onWindow('hashchange', () => this.fromAddress());
     this.onWindow('keydown', event => this.key(event));
   }
   // The net, with its ends as stubs or whole; where `fold` is not given as its size wants it.
   makeNet(fold) {
+    this.folds = fold;
     this.net = new Net(d3.select('#net'), this.record, what => this.pick(what), fold);
     document.getElementById('fold').hidden = !this.net.canFold;
-  }
-  makeCharts() {
-    const chart = (id, ...titles) => {
-      const svg = d3.select(`#${id}`), before = svg.node().parentNode.querySelector('.present');
-      svg.selectAll('*').remove();
-      if (before) before.remove();
-      return new Chart(svg, this.record, titles, time => this.goTo(time));
-    };
-    this.windows = chart('windows', 'cwnd (thick), ssthresh (thin; along the top where it is higher), bytes',
-      'cwnd (thick), ssthresh (thin), bytes', 'cwnd, ssthresh, bytes');
-    this.lengths = chart('lengths', 'packets that wait');
-    this.drawFlows(); this.drawLinks();
   }
   // Lays all out anew, in the room that there is now.
   lay() {
     this.keepRoom();
-    this.makeNet(this.net.folded);
-    this.makeCharts();
+    this.makeNet(this.folds);
+    this.panels.make();
     this.measure();
     this.show();
   }
@@ -131,7 +120,7 @@ class Page {
   draw() {
     const record = this.record;
     this.net.draw(this.time, this.fallTime());
-    this.windows.mark(this.time); this.lengths.mark(this.time);
+    this.panels.mark(this.time);
     const where = document.getElementById('where');
     where.textContent = whereText(record.at, record.last, this.time);
     where.dataset.event = record.at;
@@ -146,13 +135,14 @@ class Page {
 
   makeLines() {
     this.list = document.getElementById('lines');
+    this.columns = widthsOf(this.record);
     this.measure = () => {
       this.fit = Math.min(41, Math.max(3, Math.floor((this.list.clientHeight - 4) / 16)));
       // Where the lines are not shown, as in a slide, their list has no width.
       this.letters = Math.max(1, Math.floor((this.list.clientWidth - 14) / textWidth('0', getComputedStyle(this.list).font)));
     };
     this.measure();
-    this.onWindow('resize', () => { this.measure(); this.windows.resize(); this.lengths.resize(); this.show(); });
+    this.onWindow('resize', () => { this.measure(); this.panels.resize(); this.show(); });
     this.rows = d3.range(41).map(() => {
       const row = document.createElement('li');
       row.tabIndex = -1;
@@ -163,14 +153,14 @@ class Page {
   // As many lines around the present one as there is room for, each whole.
   drawLines() {
     if (!this.list.clientWidth) return;
-    const record = this.record, rows = event => rowsOf(record.line(event), this.letters);
+    const record = this.record, readably = event => readable(this.facts, record.line(event), this.columns), rows = event => rowsOf(readably(event), this.letters);
     let begin = record.at, end = record.at - 1, room = this.fit;
     const add = event => {
       if (event <= record.first || event > record.last || rows(event) > room) return false;
       room -= rows(event);
       return true;
     };
-    if (record.at > record.first) { end = record.at; room -= rows(record.at); } else begin = record.at + 1;
+    if (record.at > record.first) { end = record.at; room -= rows(record.at); } else { begin = record.at + 1; end = record.at; }
     for (let more = true; more;) {
       more = false;
       if (add(begin - 1)) { begin -= 1; more = true; }
@@ -181,7 +171,7 @@ class Page {
       if (row.hidden === shown) row.hidden = !shown;
       if (!shown) { row.removeAttribute('data-event'); row.className = ''; return; }
       const line = record.line(event);
-      if (row.dataset.event !== String(event)) { row.textContent = line; row.dataset.event = event; }
+      if (row.dataset.event !== String(event)) { row.textContent = readably(event); row.title = line; row.dataset.event = event; }
       const look = (event === record.at ? 'present' : '') + (line.includes(' drop=') ? ' dropping' : '');
       if (row.className !== look) row.className = look;
       if (event === record.at) row.setAttribute('aria-current', 'true'); else row.removeAttribute('aria-current');
@@ -265,43 +255,6 @@ class Page {
     } else if (node.kind === 'receiver') rows.push(explainWord(this.facts, `next=${this.record.flow(f).next}`));
     this.facts.links.forEach((link, l) => { if (link.from === n) rows.push(...this.linkRows(l).slice(0, 2)); });
     return rows;
-  }
-
-  // ---- which flows and queues are ticked
-
-  makeTicks() {
-    const record = this.record, facts = this.facts, ticks = (id, names, ticked, changed, mark) => {
-      const boxes = names.map(([i, name]) => {
-        const label = document.createElement('label'), box = document.createElement('input');
-        box.type = 'checkbox'; box.checked = ticked(i); box.dataset.index = i;
-        box.addEventListener('change', changed);
-        const text = document.createElement('span');
-        text.textContent = name; mark(text, i);
-        label.append(box, text); document.getElementById(id).append(label);
-        return box;
-      });
-      return () => boxes.filter(box => box.checked).map(box => +box.dataset.index);
-    };
-    // Stalls of several flows have a lane each, in their colours.
-    const stalls = flows => {
-      const found = record.stalls.filter(stall => flows.includes(stall.flow)), lanes = flows.filter(f => found.some(s => s.flow === f));
-      return found.map(({flow, from, to}) => ({from, to, lane: lanes.indexOf(flow), lanes: lanes.length,
-        colour: lanes.length > 1 ? colourOf(flow) : '#000', name: `${facts.flows[flow].name}: no new acknowledgement for ${seconds(to - from)}`}));
-    };
-    const lineStyle = i => ['solid', 'dashed', 'dotted', 'double'][i % 4];
-    const curves = new Map(), of = (key, make) => { if (!curves.has(key)) curves.set(key, make()); return curves.get(key); };
-    const flows = ticks('flows', facts.flows.map((flow, f) => [f, markOf(facts, f) === flow.name ? flow.name : `${markOf(facts, f)} ${flow.name}`]), f => f < 4, () => this.drawFlows(),
-      (text, f) => { text.className = 'dash'; text.style.borderBottom = `3px ${lineStyle(f)} ${colourOf(f)}`; });
-    this.drawFlows = () => this.windows.show(flows().flatMap(f => [[CWND, 'cwnd'], [SSTHRESH, 'ssthresh']].map(([what, name]) => ({
-      curve: of(`f${f} ${what}`, () => record.curve(record.ofFlow(f, what))), colour: colourOf(f), thin: what === SSTHRESH,
-      dash: DASHES[f % 4], name: `${name} of ${facts.flows[f].name}`}))), stalls(flows()));
-    const queue = l => of(`q${l}`, () => record.queueCurve(l));
-    // The queues that grew longest come first.
-    const order = facts.links.map((_, l) => l).sort((a, b) => record.longest[b] - record.longest[a] || a - b);
-    const links = ticks('links', order.map(l => [l, facts.links[l].name]), l => order.indexOf(l) < 2, () => this.drawLinks(),
-      (text, l) => { text.className = 'dash'; text.style.borderBottom = `3px ${lineStyle(l)} ${colourOf(l)}`; });
-    this.drawLinks = () => this.lengths.show(links().map(l => ({
-      curve: queue(l), colour: colourOf(l), dash: DASHES[l % 4], name: `queue of ${facts.links[l].name}`})));
   }
 
   // ---- keys and buttons
@@ -388,7 +341,7 @@ class Page {
     if (record.at === record.last) { this.time = record.timeOf(record.last); this.play(false); return; }
     this.draw();
     if (this.frames % 6 === 0) this.drawLines();
-    if (this.frames % 20 === 0) { this.address(); }
+    if (this.frames % 20 === 0) { this.address(); this.drawWords(); }
     requestAnimationFrame(then => this.frame(then));
   }
 }

@@ -27,7 +27,6 @@ class QueueView {
       .attr('width', this.wide).attr('height', bar.tall).node();
     // Beside the squares, or above those of the link to the right and below those of the other.
     this.apart = sizes.counts === 'apart' && line.most > 0;
-    this.short = sizes !== ON_PAGE && !line.most;
     this.text = queue.append('text').attr('class', 'count')
       .attr('y', !this.apart ? box.tall - 1.8 : line.up ? -3 : bar.at + bar.tall + LINE_TALL)
       .attr('text-anchor', line.sign > 0 ? 'start' : 'end').text('-').node();
@@ -56,7 +55,7 @@ class QueueView {
     this.drawBar(now);
     const wait = 8e9 * (this.bytesBefore(now.tail) - this.bytesBefore(now.head)) / this.link.rate;
     Object.assign(this.group.dataset, {length: now.length, heads, wait: Math.round(wait)});
-    this.text.firstChild.data = this.short ? number(now.length) : countText(now.length, this.link.limit, wait);
+    this.text.firstChild.data = !this.line.most ? number(now.length) : countText(now.length, this.link.limit, wait);
     this.text.setAttribute('x', this.apart ? 0 : this.line.sign * (most ? this.wide + 5 : 2));
     this.text.setAttribute('class', now.length ? 'count' : this.used && most ? 'count idle' : 'count idle never');
     this.frame.setAttribute('class', this.used || now.length ? 'capacity' : 'capacity never');

@@ -116,7 +116,7 @@ class Record {
     });
     this.snapshots.push(row.slice());
     const begun = value => ({times: [base.time], values: [value]});
-    base.flows.forEach((flow, f) => [CWND, SSTHRESH].forEach(what => {
+    base.flows.forEach((flow, f) => [CWND, SSTHRESH, RECOVERY].forEach(what => {
       const slot = this.ofFlow(f, what);
       this.curves[slot] = begun(row[slot]);
     }));

@@ -1,0 +1,228 @@
+'use strict';
+// What the panels below the net show of a run: each is a row of PANELS, which makes the lanes of a chart of the flows or links that
+// are ticked. Titles and words of keys are those of tcpsim-plot, by looks.py.
+
+const LITTLE_OF_LONGEST = 0.1;          // a queue that is shorter than this part of the longest is not ticked at first
+const LEAST_WIDE = 308, LEAST_TALL = 130;     // pixels of a panel, with the space beside it
+const MOST_TICKED = {flows: 4, links: 2}, MOST_NAMES = 6;
+const lineStyle = k => ['solid', 'dashed', 'dotted', 'double'][k % 4];
+const dashOf = k => DASHES[k % 4];
+
+// ---- what a run has of its flows
+
+const flowName = (record, f) => record.facts.flows[f].name;
+// The packets of a flow that left a link's end up to the run's last event, in order, by what each is given.
+function arrivals(record, link, flow, sort) {
+  const track = record.tracks[link], end = record.times[record.count], found = {times: [], values: []};
+  track.sent.forEach((entry, k) => {
+    if (track.flow[entry] !== flow || track.sort[entry] !== sort || track.arrives[k] > end) return;
+    found.times.push(track.arrives[k]); found.values.push(track.number[entry]);
+  });
+  return found;
+}
+// What is acknowledged of a flow, by the acknowledgements that its sender has.
+function acknowledged(record, f) {
+  const {times, values} = arrivals(record, record.facts.ways[f][1].slice(-1)[0], f, ACK), found = {times: [record.times[0]], values: [0]};
+  values.forEach((value, k) => {
+    if (value <= found.values[found.values.length - 1]) return;
+    found.times.push(times[k]); found.values.push(value);
+  });
+  return found;
+}
+// The segments that a flow's sender gave to its link, and those of them that it sent again.
+function sent(record, f) {
+  const link = record.facts.ways[f][0][0], track = record.tracks[link], all = {times: [], values: []}, again = [];
+  track.flow.forEach((flow, entry) => {
+    if (flow !== f || track.sort[entry] !== DATA) return;
+    all.times.push(track.entered[entry]); all.values.push(track.number[entry]);
+    if (track.again[entry]) again.push({kind: 'again', time: track.entered[entry], value: track.number[entry], name: `segment ${number(track.number[entry])} is sent again`});
+  });
+  return {all, again};
+}
+function dropMarks(record, of, at = () => undefined) {
+  return record.drops.filter(of).map(drop => ({kind: SIGNS[drop.reason] ? drop.reason : 'full', time: drop.time, value: at(drop),
+    name: `${sortName(drop.sort)} ${number(drop.number)} of ${flowName(record, drop.flow)}, at link ${record.facts.links[drop.link].name}: ${LOOKS.drops[drop.reason] || drop.reason}`}));
+}
+function timeoutMarks(record, f) {
+  return record.timeouts.filter(event => +record.line(event).split(' ')[6] === f).map(event => ({kind: 'timeout', time: record.timeOf(event),
+    name: `${flowName(record, f)}: the retransmission timer ends`}));
+}
+// Spans in which a flow is in recovery, or stalls. Those of several flows have a part of the panel's height each.
+function spansOf(record, f, place = {}) {
+  const {times, values} = record.curve(record.ofFlow(f, RECOVERY)), end = record.times[record.count], name = flowName(record, f);
+  const recoveries = times.flatMap((from, k) => values[k] ? [{kind: 'recovery', from, to: k + 1 < times.length ? times[k + 1] : end, name: `${name}: recovery`, ...place}] : []);
+  return [...record.stalls.filter(({flow}) => flow === f).map(({from, to}) => ({kind: 'stall', from, to, name: `${name}: no new acknowledgement for ${seconds(to - from)}`, ...place})), ...recoveries];
+}
+// When each packet that entered a queue left it: for its link, or dropped at the head.
+function leavings(record, l) {
+  const track = record.tracks[l], left = new Float64Array(track.flow.length).fill(Infinity), heads = record.drops.filter(({link, reason}) => link === l && !['full', 'lost'].includes(reason));
+  track.sent.forEach((entry, k) => { left[entry] = track.begun[k]; });
+  for (let entry = 0, k = 0; k < heads.length && entry < left.length; entry++) if (left[entry] === Infinity) left[entry] = heads[k++].time;
+  return left;
+}
+// How many packets of each flow wait in a queue, stacked: of each column of the picture the moment at which most wait.
+function stacked(record, l, x) {
+  const track = record.tracks[l], left = leavings(record, l), now = record.facts.flows.map(() => 0), areas = now.map(() => []), end = record.times[record.count];
+  const [begin, last] = x.domain(), [from, to] = x.range(), across = (to - from) / (last - begin);
+  let waiting = 0, column = Math.floor(from), peak = -1, counts = null;
+  const keep = () => { if (waiting > peak) { peak = waiting; counts = now.slice(); } };
+  const close = next => {
+    keep();
+    for (const until = Math.min(next, to); column < until; column++) {
+      let low = 0;
+      counts.forEach((count, f) => { if (count) areas[f].push([column, low, low += count]); });
+      if (peak !== waiting) { peak = waiting; counts = now.slice(); }
+    }
+    peak = -1;
+  };
+  for (let entry = 0, out = 0; out < left.length;) {
+    const enters = entry < left.length && track.entered[entry] <= left[out], time = enters ? track.entered[entry] : left[out];
+    if (time > end) break;
+    const next = Math.floor(from + (time - begin) * across), f = track.flow[enters ? entry++ : out++];
+    if (next !== column) close(next);
+    if (!enters) keep();
+    now[f] += enters ? 1 : -1; waiting += enters ? 1 : -1;
+  }
+  close(to);
+  return areas;
+}
+
+// ---- the panels
+
+// The key's words of what lanes have.
+const KEYS = [['timeout', 'timeout'], ['recovery', 'recovery'], ['stall', 'stall'], ['again', 'sent again'], ...Object.entries(LOOKS.drops)];
+function keyOf(lanes, {facts}) {
+  const there = new Set(lanes.flatMap(({bands = [], marks = []}) => [...bands, ...marks].map(({kind}) => kind)));
+  const flows = new Set(lanes.flatMap(({series}) => series.filter(({flow}) => flow !== undefined).map(({flow}) => flow)));
+  return [...KEYS.filter(([kind]) => there.has(kind)), ...[...flows].sort((a, b) => b - a).map(f => ['flow', facts.flows[f].name, colourOf(f)])];
+}
+const windowOf = (record, f) => [[CWND, 'cwnd'], [SSTHRESH, 'ssthresh']].map(([what, name]) => ({curve: record.curve(record.ofFlow(f, what)),
+  colour: colourOf(f), thin: what === SSTHRESH, dash: dashOf(f), name: `${name} of ${flowName(record, f)}`}));
+const lossesOf = (record, f) => [...timeoutMarks(record, f), ...dropMarks(record, ({flow, sort}) => flow === f && sort === DATA)];
+const PANELS = {
+  windows: {says: 'windows', of: 'flows', titles: ['cwnd (thick), ssthresh (thin; along the top where it is higher), bytes', 'cwnd (thick), ssthresh (thin), bytes', 'cwnd, ssthresh, bytes'],
+    lanes: (record, flows) => flows.length > 2 ? flows.map(f => ({name: flowName(record, f), colour: colourOf(f), series: windowOf(record, f), bands: spansOf(record, f), marks: lossesOf(record, f)})) :
+      [{series: flows.flatMap(f => windowOf(record, f)), bands: flows.flatMap((f, lane) => spansOf(record, f, {lane, lanes: flows.length})), marks: flows.flatMap(f => lossesOf(record, f))}]},
+  lengths: {says: 'queues', of: 'links', titles: [LOOKS.panels.queue, 'packets that wait'],
+    lanes: (record, links, x) => links.map(l => ({name: record.facts.links[l].name, colour: linkColourOf(l), marks: dropMarks(record, ({link}) => link === l), series: [
+      ...stacked(record, l, x).map((area, f) => ({area, most: 0, flow: f, colour: colourOf(f), name: `packets of ${flowName(record, f)} in the queue of ${record.facts.links[l].name}`})).filter(({area}) => area.length),
+      {curve: record.queueCurve(l), colour: linkColourOf(l), outline: true, name: `queue of ${record.facts.links[l].name}`}]}))},
+  delays: {says: 'delay', of: 'links', whole: false, titles: [`${LOOKS.panels.delay}, ms`, 'delay of each packet, ms', 'delay, ms'], lanes: (record, links) => links.map(l => {
+    const track = record.tracks[l], of = record.facts.flows.map(() => ({times: [], values: []}));
+    track.sent.forEach((entry, k) => { const one = of[track.flow[entry]]; one.times.push(track.entered[entry]); one.values.push((track.begun[k] - track.entered[entry]) / 1e6); });
+    return {name: record.facts.links[l].name, colour: linkColourOf(l), series: of.map((dots, f) => ({dots, curve: dots, flow: f, colour: colourOf(f),
+      name: `delay of packets of ${flowName(record, f)} at ${record.facts.links[l].name}`})).filter(({dots}) => dots.times.length)};
+  })},
+  sequence: {says: 'sequence numbers', of: 'flows', titles: [`${LOOKS.panels.sequence}: sent (dots), acknowledged (line), bytes`, `${LOOKS.panels.sequence}, bytes`], lanes: (record, flows) => flows.map(f => {
+    const {all, again} = sent(record, f), name = flowName(record, f);
+    return {name, colour: colourOf(f), bands: spansOf(record, f), marks: [...again, ...dropMarks(record, ({flow, sort}) => flow === f && sort === DATA, drop => drop.number), ...timeoutMarks(record, f)],
+      series: [{dots: all, curve: all, colour: colourOf(f), name: `segments of ${name}`}, {curve: acknowledged(record, f), colour: 'var(--quiet)', thin: true, name: `acknowledged of ${name}`}]};
+  })},
+  progress: {says: 'progress', of: 'flows', titles: [LOOKS.panels.progress, 'bytes acknowledged'], lanes: (record, flows) => [{series: flows.map(f => ({
+    curve: acknowledged(record, f), colour: colourOf(f), dash: dashOf(f), name: `bytes of ${flowName(record, f)} that are acknowledged`}))}]},
+};
+
+// The panels of a page: which are shown, which flows and links are ticked, and their charts.
+class Panels {
+  // `go` is given a moment that is clicked.
+  constructor(record, go) {
+    Object.assign(this, {record, go, shown: ['windows', 'lengths'], charts: {}, first: {}});
+    this.bar = document.getElementById('panel-bar');
+    this.place = document.getElementById('charts');
+    this.boxes = {};
+    for (const [name, {says}] of Object.entries(PANELS)) {
+      const button = document.createElement('button'), box = this.boxes[name] = document.createElement('div'), svg = document.createElementNS('http://www.w3.org/2000/svg', 'svg');
+      Object.assign(button, {textContent: says, title: `shows or hides the panel: ${PANELS[name].titles[0]}`});
+      button.dataset.panel = box.dataset.panel = name;
+      button.addEventListener('click', event => { this.toggle(name); event.currentTarget.blur(); });
+      document.getElementById('panels').append(button);
+      svg.id = name;
+      svg.setAttribute('role', 'img');
+      svg.setAttribute('aria-label', PANELS[name].titles[0]);
+      box.append(svg);
+      this.place.append(box);
+    }
+    this.makeTicks();
+  }
+  // Boxes for flows, and for links, of which those whose queues grew longest come first.
+  makeTicks() {
+    const {record} = this, {facts, longest} = record, order = d3.range(facts.links.length).sort((a, b) => longest[b] - longest[a] || a - b), most = longest[order[0]];
+    const markName = (flow, f) => markOf(facts, f) === flow.name ? flow.name : `${markOf(facts, f)} ${flow.name}`;
+    this.ticked = {
+      flows: this.ticksOf('flows', facts.flows.map((flow, f) => [f, markName(flow, f), colourOf(f)]), (f, k) => k < MOST_TICKED.flows),
+      links: this.ticksOf('links', order.map(l => [l, facts.links[l].name, linkColourOf(l)]), (l, k) => k < MOST_TICKED.links && (!k || longest[l] >= LITTLE_OF_LONGEST * most))};
+  }
+  ticksOf(id, ones, ticked) {
+    const boxes = ones.map(([k, name, colour], place) => {
+      const label = document.createElement('label'), box = document.createElement('input'), text = document.createElement('span');
+      Object.assign(box, {type: 'checkbox', checked: ticked(k, place)});
+      box.dataset.index = k;
+      box.addEventListener('change', () => this.draw(id));
+      Object.assign(text, {textContent: name, className: 'dash', title: `${id === 'flows' ? 'flow' : 'link'} ${name}; pressed twice, it comes before the others`});
+      text.style.borderBottom = `3px ${lineStyle(k)} ${colour}`;
+      text.addEventListener('dblclick', () => { this.first[id] = k; this.draw(id); });
+      label.append(box, text);
+      label.hidden = place >= MOST_NAMES;
+      document.getElementById(id).append(label);
+      return box;
+    });
+    if (ones.length > MOST_NAMES) this.foldNames(document.getElementById(id), ones.length - MOST_NAMES);
+    return () => {
+      const all = boxes.filter(box => box.checked).map(box => +box.dataset.index), first = this.first[id];
+      return all.includes(first) ? [first, ...all.filter(one => one !== first)] : all;
+    };
+  }
+  // A button for the names that are not shown at first.
+  foldNames(place, count) {
+    const button = document.createElement('button');
+    button.textContent = `${count} more`;
+    button.addEventListener('click', () => { place.querySelectorAll('label').forEach(label => { label.hidden = false; }); button.remove(); });
+    place.append(button);
+  }
+  // Shows these panels, each a name, or a name with those of the flows or links that it is about, which are ticked then.
+  choose(panels) {
+    this.shown = panels.map(panel => {
+      const [name, ...ones] = [panel].flat(), {of} = PANELS[name];
+      if (ones.length)
+        document.querySelectorAll(`#${of} input`).forEach(box => { box.checked = ones.includes(this.record.facts[of][+box.dataset.index].name); });
+      return name;
+    });
+    this.make();
+  }
+  // One more panel, or one less.
+  toggle(name) {
+    const others = this.shown.filter(one => one !== name);
+    if (others.length === this.shown.length) this.choose([...this.shown, name]); else if (others.length) this.choose(others);
+  }
+  // Makes the charts that are shown, in the room that there is.
+  make() {
+    for (const button of document.querySelectorAll('#panels button')) button.setAttribute('aria-pressed', this.shown.includes(button.dataset.panel));
+    this.bar.dataset.of = [...new Set(this.shown.map(name => PANELS[name].of))].join(' ');
+    // As many as have room.
+    const {clientWidth, clientHeight} = this.place, columns = Math.max(1, Math.floor((clientWidth + 8) / LEAST_WIDE));
+    const seen = this.shown.slice(0, clientHeight ? columns * Math.max(1, Math.floor(clientHeight / LEAST_TALL)) : this.shown.length);
+    for (const [name, box] of Object.entries(this.boxes)) {
+      box.hidden = !seen.includes(name);
+      const before = box.querySelector('.present');
+      if (before) before.remove();
+      d3.select(box.firstChild).selectAll('*').remove();
+    }
+    this.charts = Object.fromEntries(seen.map(name => [name, new Chart(d3.select(this.boxes[name].firstChild), this.record, PANELS[name].titles, this.go, PANELS[name].whole)]));
+    this.draw('flows');
+    this.draw('links');
+  }
+  // Draws the panels of flows, or those of links, anew.
+  draw(of) {
+    for (const [name, chart] of Object.entries(this.charts)) {
+      if (PANELS[name].of !== of) continue;
+      const lanes = PANELS[name].lanes(this.record, this.ticked[of](), chart.x);
+      chart.show(lanes, keyOf(lanes, this.record));
+      if (this.time !== undefined) chart.mark(this.time);
+    }
+  }
+  resize() { for (const chart of Object.values(this.charts)) chart.resize(); }
+  mark(time) {
+    this.time = time;
+    for (const chart of Object.values(this.charts)) chart.mark(time);
+  }
+}
