@@ -28,9 +28,9 @@ from tcpsim.replay import page as replay
 from tcpsim.scenario import units
 
 WEB = os.path.join(TOP, 'page', 'web')
-SCRIPTS = ('engine.js', 'scenario.js', 'editor.js', 'fairness.js', 'figures.js', 'stall_list.js', 'trace_list.js', 'completion.js', 'prompt.js', 'lessons.js', 'units.js',
-           'net_text.js', 'shapes.js', 'template_form.js', 'compare.js', 'share.js', 'picture.js', 'save.js', 'lecture.js',
-           'simulator.js')
+SCRIPTS = ('engine.js', 'scenario.js', 'units.js', 'shapes.js', 'hints.js', 'editor.js', 'fairness.js', 'figures.js', 'stall_list.js', 'trace_list.js', 'completion.js', 'prompt.js', 'lessons.js',
+           'net_text.js', 'template_form.js', 'compare.js', 'share.js', 'picture.js', 'save.js', 'lecture.js',
+           'panes.js', 'simulator.js')
 EXAMPLES = os.path.join(TOP, 'examples')
 GRAMMAR = os.path.join(TOP, 'editors', 'vscode', 'syntaxes', 'tcpsim.tmLanguage.json')
 CODEMIRROR = '/usr/share/javascript/codemirror/lib'
@@ -98,7 +98,7 @@ def data_of(program, record, lessons):
 def page(program, record):
     """The whole page's text, of the program's bytes and the record of its proof."""
     lessons = page_lessons.lessons()
-    styles = [f'\n{text}\n' for text in (read(replay.PARTS, 'page.css'), library('codemirror.css') + read(WEB, 'simulator.css'))]
+    styles = [f'\n{text}\n' for text in (replay.style(), library('codemirror.css') + read(WEB, 'simulator.css'))]
     # What shows a run stands by itself, since a frame with one of two runs has it too.
     scripts = {name: f'\n{text}\n'.replace('</script', '<\\/script') for name, text in (
         ('d3-script', read(replay.LIBRARY)), ('editor-script', library('codemirror.js')), ('replay-script', replay.scripts()),

@@ -12,6 +12,8 @@ TUTORIAL = os.path.join(TOP, 'docs', 'TUTORIAL.md')
 # `line 12`, `lines 244 and 1657`, `lines 98, 104, 108`, `Lines 4140 to 4190`.
 # What the tutorial says of each lesson for who reads it outside the page.
 IN_THE_PAGE = re.compile(r'^In \[the page\]\(PAGE\.md\): .*\n', re.M)
+# Which panels carry a lesson, the first before all, each with the flows or links that it is about: `<!-- panels: delays a, sequence g -->`.
+PANELS = re.compile(r'^<!-- panels: (.*) -->\n', re.M)
 LINES = re.compile(r'\b([Ll]ines?) (\d+(?:(?:, and |, | and | to )\d+)*)(?![\d.])')
 
 
@@ -24,7 +26,9 @@ class Lesson:
         named = re.findall(r'examples/(\w+)\.txt', text) + re.findall(r'pictures/(\w+)\.svg', text)
         self.examples = [name for name in dict.fromkeys(named) if os.path.exists(os.path.join(TOP, 'examples', f'{name}.txt'))]
         self.pictures = []
-        self.text = self._html(text)
+        panels = PANELS.search(text)
+        self.panels = [one.split() for one in panels[1].split(',')] if panels else []
+        self.text = self._html(PANELS.sub('', text))
 
     def _html(self, text):
         try:
@@ -52,7 +56,7 @@ class Lesson:
 
     def facts(self):
         """What the page's script has to know of it."""
-        return {'number': self.number, 'title': self.title, 'examples': self.examples}
+        return {'number': self.number, 'title': self.title, 'examples': self.examples, 'panels': self.panels}
 
     def template(self):
         """Its text, for the page to copy."""

@@ -36,10 +36,11 @@ def look(browser, name):
 
 
 def run(browser, button='run'):
-    """Presses a button, and waits until the run is done; answers what the page says of it."""
+    """Presses a button, and waits until the run is done, which then moves no more; answers what the page says of it."""
     before = browser.value('document.documentElement.dataset.run || 0')
     browser.click(element(f'#{button}'))
     browser.wait(f'(document.documentElement.dataset.run || 0) != {before}')
+    browser.value('window.page && (page.play(false), page.goEvent(page.record.first))')
     return text_of(browser, '#said')
 
 

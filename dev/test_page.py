@@ -230,7 +230,8 @@ def test_lesson_3_as_a_new_user(browser):
     assert browser.value('page.record.count') == len(lines) - 1
     browser.click('[...document.querySelectorAll("#lesson button.event")].find(e => e.textContent === "62")')
     assert browser.value('page.record.at') == 62
-    assert text_of(browser, '#lines li.present') == lines[61]
+    assert browser.value('document.querySelector("#lines li.present").title') == lines[61]
+    assert text_of(browser, '#lines li.present').split()[:4] == ['62', f'{int(lines[61].split()[1]) / 1e9:.6f}', 's', 's']
     look(browser, 'lesson_3')
     browser.click(element('.packet'))
     assert 'of f' in text_of(browser, '#words')

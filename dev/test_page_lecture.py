@@ -64,7 +64,8 @@ def test_a_lecture_by_keys(calm):
     assert browser.json('["windows", "lengths"].map(id => document.getElementById(id).checkVisibility({visibilityProperty: true}))') == [False, True]
     assert browser.value('document.getElementById("lengths").getBoundingClientRect().width') > 1000
     look(browser, 'lecture_queue')
-    press(browser, 'p', '?')
+    # Round all panels.
+    press(browser, *'p' * (browser.value('Object.keys(PANELS).length') - 1), '?')
     assert browser.json('["windows", "lengths"].map(id => document.getElementById(id).checkVisibility({visibilityProperty: true}))') == [True, False]
     assert 'lecture' in text_of(browser, '#keys') and browser.value('!document.getElementById("keys").hidden')
     look(browser, 'lecture_keys')
@@ -136,7 +137,9 @@ def test_by_the_keyboard_alone(calm):
     tab_to(browser, '#run')
     enter(browser)
     browser.wait(f'(document.documentElement.dataset.run || 0) != {before}')
-    tab_to(browser, '[data-tab=net]')
+    # It moves from the begin on.
+    tab_to(browser, '#play')
+    press(browser, 'Home')
     tab_to(browser, '#on')
     enter(browser)
     browser.wait('page.record.at === 1')

@@ -204,7 +204,7 @@ class Compare {
     });
   }
   // The names of both runs' flows or links, and which have a box ticked.
-  ticked(id, names, count) {
+  ticked(id, names, count, colour) {
     const place = this.at(id), kept = [...place.querySelectorAll('input')].map(box => [box.value, box.checked]), was = new Map(kept);
     place.textContent = '';
     return names.filter((name, k) => {
@@ -212,7 +212,7 @@ class Compare {
       Object.assign(box, {type: 'checkbox', value: name, checked: was.has(name) ? was.get(name) : k < count});
       box.addEventListener('change', () => this.drawCharts());
       text.textContent = name;
-      text.style.borderBottom = `3px solid ${colourOf(k)}`;
+      text.style.borderBottom = `3px solid ${colour(k)}`;
       label.append(box, text);
       place.append(label);
       return box.checked;
@@ -224,21 +224,21 @@ class Compare {
     const names = (what, order) => [...new Set(records.flatMap(record => order(record).map(k => record.facts[what][k].name)))];
     const flows = names('flows', record => d3.range(record.facts.flows.length));
     const links = names('links', record => d3.range(record.facts.links.length).sort((a, b) => record.longest[b] - record.longest[a] || a - b));
-    const draw = (svg, title, what, all, chosen, curve) => {
+    const draw = (svg, title, what, all, chosen, colour, curve) => {
       const node = this.at(svg), before = node.parentNode.querySelector('.present');
       d3.select(node).selectAll('*').remove();
       if (before) before.remove();
       const chart = new Chart(d3.select(node), span, [title, title.split(':')[0]], at => this.clock.jump(at));
-      chart.show(chosen.flatMap(name => records.flatMap((record, k) => {
+      chart.show([{series: chosen.flatMap(name => records.flatMap((record, k) => {
         const i = record.facts[what].findIndex(one => one.name === name);
-        return i < 0 ? [] : [{curve: curve(record, i), colour: colourOf(all.indexOf(name)), dash: [SOLID, DASHED][k], name: `${name}, ${record.facts.title}`}];
-      })));
+        return i < 0 ? [] : [{curve: curve(record, i), colour: colour(all.indexOf(name)), dash: [SOLID, DASHED][k], name: `${name}, ${record.facts.title}`}];
+      }))}]);
       chart.mark(time);
       return chart;
     };
     const said = 'solid the first run, dashed the second';
-    this.charts = [draw('windows', `cwnd in bytes: ${said}`, 'flows', flows, this.ticked('flows', flows, 2), (record, f) => record.curve(record.ofFlow(f, CWND))),
-      draw('lengths', `packets that wait: ${said}`, 'links', links, this.ticked('links', links, 1), (record, l) => record.queueCurve(l))];
+    this.charts = [draw('windows', `cwnd in bytes: ${said}`, 'flows', flows, this.ticked('flows', flows, 2, colourOf), colourOf, (record, f) => record.curve(record.ofFlow(f, CWND))),
+      draw('lengths', `packets that wait: ${said}`, 'links', links, this.ticked('links', links, 1, linkColourOf), linkColourOf, (record, l) => record.queueCurve(l))];
   }
   drawFigures(runs) {
     const {ones, all} = differing(runs.map(run => run.csv), runs.map(run => run.record.facts)), table = document.createElement('table');

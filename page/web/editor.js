@@ -5,9 +5,9 @@ const JUDGE_AFTER = 250, SAY_AFTER = 150;       // ms after the last key; after 
 // What the editor takes: letters, lines, and letters of a line. Of a longer text it shows a part, which cannot be edited.
 const MOST_LETTERS_SHOWN = 2 ** 19, MOST_LINES_SHOWN = 2 ** 14, MOST_OF_A_LINE = 2 ** 12;
 // The scopes of the grammar, and the colours of the editor.
-const LOOKS = [['comment', 'comment'], ['invalid', 'error'], ['keyword', 'keyword'], ['entity', 'def'], ['storage', 'type'],
+const SCOPES = [['comment', 'comment'], ['invalid', 'error'], ['keyword', 'keyword'], ['entity', 'def'], ['storage', 'type'],
   ['constant', 'number']];
-const lookOf = scope => (LOOKS.find(([begin]) => scope.startsWith(begin)) || [])[1] || null;
+const lookOf = scope => (SCOPES.find(([begin]) => scope.startsWith(begin)) || [])[1] || null;
 
 // A line in parts of one look each: [end, look]. The earliest match counts, of those the first of the grammar.
 function partsOf(line, patterns) {
@@ -92,6 +92,7 @@ class Editor {
     this.box = CodeMirror(place, {lineNumbers: true, mode: 'tcpsim', gutters: ['CodeMirror-linenumbers', 'faults'],
       lineWrapping: true, inputStyle: 'textarea', dragDrop: false, extraKeys: {Tab: false, 'Shift-Tab': false}});
     this.box.getInputField().setAttribute('aria-label', 'the scenario');
+    this.hints = new Hints(this.box);
     this.box.on('beforeChange', (box, change) => {
       const text = change.text.join('\n');
       if (change.origin === 'setValue' || partOf(text) === text) return;

@@ -23,22 +23,28 @@ function addCell(row, tag, text) {
   row.append(cell);
   return cell;
 }
-// A table with these heads; each row has [text, tooltip, part] or a text for each cell. A part from 0 to 1 is a bar too.
+// A bar that is filled to a part of it, from 0 to 1.
+function barOf(part) {
+  const bar = document.createElement('span');
+  bar.className = 'bar';
+  bar.style.setProperty('--part', `${100 * Math.min(1, part || 0)}%`);
+  return bar;
+}
+// A table with these heads; each row has [text, tooltip, size] or a text for each cell. A size is a bar too, beside the greatest of its
+// column, or beside 1 where all are parts.
 function tableOf(heads, rows) {
   const around = document.createElement('div'), table = document.createElement('table'), head = table.createTHead().insertRow(), body = table.createTBody();
   around.className = 'table';
   around.append(table);
   for (const text of heads) addCell(head, 'th', text).scope = 'col';
+  const most = heads.map((_, k) => Math.max(1, ...rows.map(cells => [cells[k]].flat()[2] || 0)));
   for (const cells of rows) {
     const row = body.insertRow();
-    cells.map(cell => [cell].flat()).forEach(([text, title, part], k) => {
+    cells.map(cell => [cell].flat()).forEach(([text, title, size], k) => {
       const cell = addCell(row, k ? 'td' : 'th', text);
       if (!k) cell.scope = 'row';
       if (title) cell.title = title;
-      if (part === undefined) return;
-      const bar = document.createElement('meter');
-      Object.assign(bar, {value: part || 0, ariaHidden: 'true'});
-      cell.append(bar);
+      if (size !== undefined) cell.append(barOf(size / most[k]));
     });
   }
   return around;
@@ -80,26 +86,27 @@ class Overview {
   lost(f) { return this.record && this.record.drops.filter(({flow, sort}) => flow === f && sort === DATA).length; }
   words() {
     const {facts, used, begin, end} = this, index = jain(this.compared[0].map(f => this.goodputs[f])), most = used.indexOf(Math.max(...used));
-    return [`Bottleneck: ${facts.links[most].name}, ${percent(used[most])} utilized in ${seconds(end - begin, 3)}.`,
-      `Jain's index of goodput: ${index === null ? '-' : index.toFixed(4)}, ${ofFlows(this.compared)}.`,
+    return [[`Bottleneck: ${facts.links[most].name}, ${percent(used[most])} utilized in ${seconds(end - begin, 3)}.`, used[most]],
+      [`Jain's index of goodput: ${index === null ? '-' : index.toFixed(4)}, ${ofFlows(this.compared)}.`, index],
       ...tooShort(facts, begin, end, this.compared[0], portionsOf(this.record, begin, end))];
   }
   flowRows() {
     return this.facts.flows.map(({name}, f) => {
       const goodput = this.goodputs[f], share = this.share(f), lost = this.lost(f), sent = this.of('flow', f, 'sent'), done = this.completed[f];
       const least = this.of('flow', f, 'least round trip'), median = this.of('flow', f, 'median round trip');
-      return [name, goodput === null ? '-' : [rateText(+goodput.toPrecision(4)), `${number(Math.round(goodput))} bit/s`, goodput / (Math.max(...this.goodputs) || 1)],
+      return [name, goodput === null ? '-' : [rateText(+goodput.toPrecision(4)), `${number(Math.round(goodput))} bit/s`, goodput],
         share === null ? '-' : [percent(share), `of the bytes that ${this.facts.links[this.bottleneck(f)].name} sent`, share], this.facts.links[this.bottleneck(f)].name,
-        lost === null ? '-' : [percent(lost / (sent || 1)), `${number(lost)} of ${number(sent)} segments`], number(this.of('flow', f, 'timeouts')),
-        ...[least, median].map(trip => trip === null ? '-' : [waitText(trip), `${number(trip)} ns`]), done === null ? '-' : [seconds(done, 3), `${number(done)} ns`]];
+        lost === null ? '-' : [percent(lost / (sent || 1)), `${number(lost)} of ${number(sent)} segments`, lost / (sent || 1)], [number(this.of('flow', f, 'timeouts')), '', this.of('flow', f, 'timeouts')],
+        ...[least, median].map(trip => trip === null ? '-' : [waitText(trip), `${number(trip)} ns`, trip]), done === null ? '-' : [seconds(done, 3), `${number(done)} ns`, done]];
     });
   }
   linkRows(links) {
     return links.map(l => {
-      const wait = part => { const value = this.of('link', l, `${part} delay in the queue`); return value === null ? '-' : [value ? waitText(value) : '0', `${number(value)} ns`]; };
+      const wait = part => { const value = this.of('link', l, `${part} delay in the queue`); return value === null ? '-' : [value ? waitText(value) : '0', `${number(value)} ns`, value]; };
       const dropped = this.dropped(l), offered = this.of('link', l, 'offered');
       return [this.facts.links[l].name, [percent(this.used[l]), `${number(this.of('link', l, 'busy'))} ns busy`, Math.min(1, this.used[l])], wait('median'),
-        wait('99th percentile of'), number(this.of('link', l, 'greatest queue')), number(dropped), [percent(dropped / (offered || 1)), `of ${number(offered)} packets`]];
+        wait('99th percentile of'), ...[this.of('link', l, 'greatest queue'), dropped].map(packets => [number(packets), '', packets]),
+        [percent(dropped / (offered || 1)), `of ${number(offered)} packets`, dropped / (offered || 1)]];
     });
   }
 }
@@ -122,7 +129,10 @@ function drawFigures(place, csv, facts, record) {
   const seen = new Overview(csv, facts, record), idle = seen.carriedLittle(), busy = d3.range(facts.links.length).filter(l => !idle.includes(l));
   const said = document.createElement('ul');
   said.className = 'says';
-  for (const words of seen.words()) said.append(Object.assign(document.createElement('li'), {textContent: words}));
+  for (const [words, part] of seen.words().map(words => [words].flat())) {
+    const row = said.appendChild(Object.assign(document.createElement('li'), {textContent: words}));
+    if (part) row.append(barOf(part));
+  }
   place.replaceChildren(said, headOf('Flows'), tableOf(FLOW_HEADS, seen.flowRows()), headOf('Links'), tableOf(LINK_HEADS, seen.linkRows(busy)),
     ...(idle.length ? [folded(`${many(idle.length, 'link')} carried less than a tenth of the busiest, and dropped nothing`, tableOf(LINK_HEADS, seen.linkRows(idle)))] : []),
     folded('all figures, as the program counts them', ...wholeTables(csv, facts)));

@@ -2,15 +2,15 @@
 // A lecture's mode: the whole screen for the net, or two under one clock, one panel and the clock, in large letters, and keys for
 // all else.
 
-const LECTURE_KEYS = [['l', 'a lecture\u2019s mode, and back (Esc too)'], ['p', 'in a lecture: the other panel'],
+const LECTURE_KEYS = [['l', 'a lecture\u2019s mode, and back (Esc too)'], ['p', 'in a lecture: the next panel'],
   ['c', 'in a lecture: two runs, and back to one'],
   ['n N', 'the lesson\u2019s next line, the one before'], ['PgDn PgUp', 'in a lecture: the next lesson, the one before']];
-const SHOWN = ['windows', 'lengths'], OF_BOTH = [...SHOWN, 'figures'];
+const OF_ONE = Object.keys(PANELS), OF_BOTH = ['windows', 'lengths', 'figures'];
 const ROWS = 120;                       // pixels by which a table of figures is moved
 
 class Lecture {
   constructor(simulator) {
-    Object.assign(this, {simulator, root: document.documentElement, panel: SHOWN[0], step: -1});
+    Object.assign(this, {simulator, root: document.documentElement, panel: OF_ONE[0], step: -1});
     window.addEventListener('keydown', event => this.key(event), true);
     document.addEventListener('fullscreenchange', () => { if (!document.fullscreenElement && this.whole) this.leave(); });
     byId('lecture-open').addEventListener('click', event => { event.currentTarget.blur(); this.begin(); });
@@ -28,11 +28,11 @@ class Lecture {
   }
   leave() {
     if (!this.on) return;
-    const {page, compare} = this.simulator;
+    const {simulator} = this, {page, compare} = simulator;
     this.root.classList.remove('lecture', 'slide');
     this.whole = false;
     if (document.fullscreenElement) document.exitFullscreen();
-    if (page) { page.makeNet(); page.lay(); this.arrange(); }
+    if (page) { page.makeNet(); simulator.showPanels(); page.lay(); this.arrange(); }
     if (compare) compare.layNow();
   }
   // Here and on a phone the ends of a net with routers are stubs, so that what is between them has large letters; the key f draws
@@ -47,8 +47,7 @@ class Lecture {
   show() {
     const {simulator} = this, {run, page} = simulator;
     simulator.showTab('net');
-    this.setPanel(SHOWN.includes(this.panel) ? this.panel : SHOWN[0]);
-    if (page && run && run.text === simulator.editor.text) this.arrange();
+    if (page && run && run.text === simulator.editor.text) { simulator.showPanels(); this.arrange(); }
     else if (simulator.engine) simulator.start();
   }
   // Two runs, or one again. Which two: those that were compared, where one is of the scenario as it is; else the lesson's two
@@ -73,7 +72,14 @@ class Lecture {
     this.setPanel(this.panel);
     this.simulator.compare.layNow();
   }
-  setPanel(name) { this.root.dataset.panel = this.panel = name; }
+  // Of two runs there is one panel of flows and one of links.
+  setPanel(name) {
+    const {page} = this.simulator;
+    this.panel = name;
+    this.root.dataset.panel = !this.both || OF_BOTH.includes(name) ? name : PANELS[name].of === 'flows' ? 'windows' : 'lengths';
+    if (!this.both && page) page.panels.choose([name]);
+  }
+  choose(name) { if (this.on) this.setPanel(name); }
   lesson(by) {
     const {simulator} = this, {lessons, now} = simulator.lessons, at = now ? lessons.indexOf(now) + by : by > 0 ? 0 : lessons.length - 1;
     if (!lessons[at]) return;
@@ -104,9 +110,9 @@ class Lecture {
     event.stopPropagation();
   }
   next() {
-    const ones = this.both ? OF_BOTH : SHOWN, {page, compare} = this.simulator;
-    this.setPanel(ones[(ones.indexOf(this.panel) + 1) % ones.length]);
-    if (this.both) compare.layNow(); else if (page) page.lay();
+    const ones = this.both ? OF_BOTH : OF_ONE, {compare} = this.simulator;
+    this.setPanel(ones[(ones.indexOf(this.root.dataset.panel) + 1) % ones.length]);
+    if (this.both) compare.layNow();
   }
   scroll(by) { byId('both-figures').scrollBy(0, by); }
   // The lecture's keys, with those of the net.

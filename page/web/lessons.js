@@ -26,6 +26,12 @@ class Lessons {
     }
     const text = document.getElementById(`lesson-${lesson.number}`).content.cloneNode(true);
     text.querySelectorAll('img').forEach(image => this.picture(image));
+    text.querySelectorAll('table').forEach(table => {
+      const around = document.createElement('div');
+      around.className = 'table';
+      table.replaceWith(around);
+      around.append(table);
+    });
     text.querySelectorAll('[data-line]').forEach(span =>
       span.replaceWith(this.button(span.textContent, 'event', span.dataset.line)));
     this.place.append(text);
@@ -51,9 +57,17 @@ class Lessons {
     made.title = kind === 'event' ? `to event ${value} of the run` : `opens ${value}.txt`;
     return made;
   }
+  // A picture, which a press shows as large as the window.
   async picture(image) {
+    const button = document.createElement('button'), dialog = byId('picture-dialog');
+    Object.assign(button, {className: 'shown-larger', title: 'shows the picture as large as the window'});
+    image.replaceWith(button);
+    button.append(image);
+    button.addEventListener('click', () => {
+      Object.assign(dialog.querySelector('img'), {src: image.src, alt: image.alt});
+      dialog.showModal();
+    });
     const packed = document.getElementById(`picture-${image.dataset.picture}`).textContent;
     image.src = URL.createObjectURL(new Blob([await bytesOf(packed)], {type: 'image/svg+xml'}));
-    image.addEventListener('load', () => URL.revokeObjectURL(image.src), {once: true});
   }
 }

@@ -25,27 +25,28 @@ function addLegend(copy, labels, wide, tall) {
     const name = label.textContent.trim(), {borderBottomColor, borderBottomStyle} = getComputedStyle(label.querySelector('span'));
     const dash = {dashed: '6 3', dotted: '2 3', double: '8 2 2 2'}[borderBottomStyle] || 'none';
     copy.append(svgElement('line', {x1: x, x2: x + 22, y1: tall + 10, y2: tall + 10, stroke: borderBottomColor, 'stroke-width': 3, 'stroke-dasharray': dash}),
-      svgElement('text', {x: x + 27, y: tall + 14, style: 'font: 12px sans-serif; fill: #111'}, name));
+      svgElement('text', {x: x + 27, y: tall + 14, style: `font: 12px sans-serif; fill: ${getComputedStyle(label).color}`}, name));
     x += 42 + textWidth(name, '12px sans-serif');
     if (x > wide - 60) break;
   }
 }
 // The text of a panel's picture, of its size on the screen.
 function pictureOf(svg, title) {
-  const {width, height} = svg.getBoundingClientRect(), beside = svg.parentNode, chart = beside.querySelector(':scope > .ticks');
+  const {width, height} = svg.getBoundingClientRect(), beside = svg.parentNode;
+  const chart = beside.querySelector(':scope > .ticks') || PANELS[svg.id] && byId(PANELS[svg.id].of), paper = getComputedStyle(document.body).getPropertyValue('--paper');
   const copy = svg.cloneNode(true), room = chart ? LEGEND : 0;
   keepLooks(svg, copy);
   copy.querySelectorAll('.catch').forEach(element => element.remove());
   copy.removeAttribute('style');
   const outer = svgElement('svg', {xmlns: 'http://www.w3.org/2000/svg', width: Math.round(width), height: Math.round(height + room),
     viewBox: `0 0 ${width} ${height + room}`});
-  outer.append(svgElement('title', {}, title), svgElement('rect', {width, height: height + room, fill: '#fff'}));
+  outer.append(svgElement('title', {}, title), svgElement('rect', {width, height: height + room, fill: paper}));
   for (const [name, value] of Object.entries({x: 0, y: 0, width, height})) copy.setAttribute(name, value);
   outer.append(copy);
   const present = beside.querySelector(':scope > .present');
   if (present) {
     const at = present.getBoundingClientRect(), box = svg.getBoundingClientRect();
-    outer.append(svgElement('rect', {x: at.x - box.x, y: at.y - box.y, width: at.width, height: at.height, fill: '#D00000'}));
+    outer.append(svgElement('rect', {x: at.x - box.x, y: at.y - box.y, width: at.width, height: at.height, fill: getComputedStyle(present).backgroundColor}));
   }
   if (chart) addLegend(outer, [...chart.querySelectorAll('label')].filter(label => label.querySelector('input').checked), width, height);
   return new XMLSerializer().serializeToString(outer);

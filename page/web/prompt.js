@@ -7,10 +7,20 @@ const SCENARIO_FILE = 'scenario.txt', PROMPT = '(tcpsim) ';
 const QUIT = /^ *q(u(i(t)?)?)? *$/, PLACE = /^at (\d+) of the run/gm;
 const AGAIN_WITHIN = 100;               // ms that a session may take to be run anew
 
+// What a line of an answer means, with names for its numbers: of a node, a link or an event that the session shows.
+function meaningOf(facts, line) {
+  const [kind, first, second, , , what, name, packet] = line.split(' ');
+  if (kind === 'node' && facts.nodes[first]) return `${second} ${facts.nodes[first].name}`;
+  if (kind === 'link' && facts.links[first]) return `link ${facts.links[first].name}`;
+  if (kind !== 'event' || !facts.nodes[second]) return '';
+  const of = what === 'free' ? `link ${facts.links[name].name}` : `${packet === undefined ? '' : `${number(packet)} `}of ${facts.flows[name].name}`;
+  return `${seconds(+first)}, ${facts.nodes[second].name}: ${what} ${of}`;
+}
+
 class Prompt {
   // `facts` are the scenario's, `go` is given the number of events run, `history` has the lines typed before.
   constructor(place, engine, text, {facts, go, history}) {
-    Object.assign(this, {engine, go, history, againWithin: AGAIN_WITHIN, commands: [], known: 0, noted: 0, file: toBytes(text), back: 0, draft: '', kept: null});
+    Object.assign(this, {engine, go, history, facts, againWithin: AGAIN_WITHIN, commands: [], known: 0, noted: 0, file: toBytes(text), back: 0, draft: '', kept: null});
     place.textContent = '';
     this.said = document.createElement('pre');
     this.said.setAttribute('aria-live', 'polite');
@@ -68,11 +78,20 @@ class Prompt {
     const {answer, noted} = await (this.kept ? this.giveKept(command) : this.runAnew(command));
     this.running = false;
     if (this.over) return;
-    this.said.append(`> ${command}\n${answer}${noted}`);
+    this.said.append(`> ${command}\n`, ...this.lines(answer), noted);
     if (QUIT.test(command)) this.forget();
     this.said.scrollTop = this.said.scrollHeight;
     const places = [...answer.matchAll(PLACE)];
     if (places.length) this.go(+places[places.length - 1][1]);
+  }
+  // The lines of an answer, each with what its numbers mean behind it.
+  lines(answer) {
+    return answer.split(/(?<=\n)/).map(line => {
+      const row = document.createElement('span'), end = line.endsWith('\n') ? '\n' : '', hint = meaningOf(this.facts, line.trimEnd());
+      row.textContent = end ? line.slice(0, -1) : line;
+      if (hint) row.dataset.hint = hint;
+      return [row, end];
+    }).flat();
   }
   // The whole session again, with the command behind it.
   async runAnew(command) {

@@ -1,7 +1,7 @@
 'use strict';
 // The dialog of what can be saved: text, image, trace, figures, and a picture of each panel that is shown.
 
-const PANELS = [['net', 'the net'], ['windows', 'windows'], ['lengths', 'queues'], ['both-windows', 'windows of both runs'], ['both-lengths', 'queues of both runs']];
+const PICTURES = [['net', 'the net'], ...Object.entries(PANELS).map(([name, {says}]) => [name, says]), ['both-windows', 'windows of both runs'], ['both-lengths', 'queues of both runs']];
 
 class Save {
   constructor(dialog, simulator) {
@@ -30,14 +30,14 @@ class Save {
     this.say('');
     const select = byId('save-panel'), kept = select.value;
     select.textContent = '';
-    for (const [id, title] of PANELS) if (byId(id) && byId(id).getBoundingClientRect().width) select.append(new Option(title, id));
+    for (const [id, title] of PICTURES) if (byId(id) && byId(id).getBoundingClientRect().width) select.append(new Option(title, id));
     if (byId(kept)) select.value = kept;
     byId('save-svg').disabled = byId('save-png').disabled = !select.options.length;
     byId('save-pictures').hidden = !select.options.length;
     this.dialog.showModal();
   }
   async picture(kind) {
-    const id = byId('save-panel').value, [, title] = PANELS.find(([one]) => one === id), name = `${nameOfFile(this.simulator.title)}_${title.replace(/\W+/g, '_')}`;
+    const id = byId('save-panel').value, [, title] = PICTURES.find(([one]) => one === id), name = `${nameOfFile(this.simulator.title)}_${title.replace(/\W+/g, '_')}`;
     const text = pictureOf(byId(id), `${this.simulator.title}: ${title}`);
     if (kind === 'svg') this.give(`${name}.svg`, [text], 'image/svg+xml'); else this.give(`${name}.png`, [await pngOf(text)], 'image/png');
   }

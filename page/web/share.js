@@ -2,7 +2,6 @@
 // What is shared: a fragment behind the page's address, which has the scenario packed, the view and the position.
 
 const MOST_SHARED = 16777216;           // bytes of a text, as the program takes at most
-const VIEWS = ['net', 'figures', 'stalls', 'trace', 'debug', 'compare'];
 const MOST_IN_ADDRESS = 8192;           // letters of the page's own address
 const ON_A_DISK = 'This page lies on a disk, so its address means nothing elsewhere. Send this fragment alone: who has the page opens it, puts the ' +
   'fragment behind the page\u2019s address, as tcpsim.html#.., and presses Enter.';
@@ -50,7 +49,7 @@ async function readFragment(fragment, examples = {}, kept = null) {
   const text = kept === null ? await textOf('scenario', 'name') : kept, lesson = whole('lesson');
   if (text === null && !lesson) return null;
   const beside = given.has('beside') ? await textOf('second', 'beside') : null;
-  return {text, name: named('name'), lesson, view: VIEWS.includes(given.get('view')) ? given.get('view') : 'net', event: whole('event'), time: whole('time'),
+  return {text, name: named('name'), lesson, view: TABS.some(([name]) => name === given.get('view')) ? given.get('view') : 'net', event: whole('event'), time: whole('time'),
     second: beside === null ? null : {name: named('beside'), text: beside}, runs: given.has('view') || given.has('event')};
 }
 

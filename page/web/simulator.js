@@ -4,6 +4,17 @@
 const byId = id => document.getElementById(id);
 const dataOf = id => JSON.parse(byId(id).textContent);
 const LAY_AFTER = 60, NOTE_AFTER = 300;         // ms after the last change of size; of what the address says
+// The tabs: a name, as the address has it, what it says, the elements in its panel where simulator.html has none, and what is done
+// once it is shown.
+const TABS = [
+  ['net', 'curves', [], it => it.page && it.page.panels.make()],
+  ['figures', 'figures', ['figures-table']],
+  ['stalls', 'stalls', ['stall-list'], it => it.stalls && it.stalls.show()],
+  ['trace', 'trace', ['all-lines'], it => it.list && it.list.show(it.page.record.at)],
+  ['debug', 'debugger', ['debugger'], it => it.page && it.page.panels.make()],
+  ['compare', 'compare', [], it => it.compare && it.compare.offer()],
+];
+const isCalm = () => matchMedia('(prefers-reduced-motion: reduce)').matches;
 // Whether all stands below each other, as simulator.css has it.
 const isNarrow = () => matchMedia('(max-width: 900px)').matches;
 const BYTE_ORDER_MARK = [0xef, 0xbb, 0xbf];         // of UTF-8
@@ -24,8 +35,10 @@ class Simulator {
     this.share = new Share(byId('share-dialog'), () => this.shared());
     this.lecture = new Lecture(this);
     this.makeChoice();
+    this.makeTabs();
     this.makeButtons();
     this.showTab('net');
+    this.panes = new Panes(() => this.laySoon());
   }
 
   // ---- opening
@@ -157,7 +170,7 @@ class Simulator {
     if (location.hash !== fragment) history.replaceState(null, '', fragment);
     this.keepText();
   }
-  keepText() { if (this.examples[this.title] !== this.editor.text) keepDraft(location.hash, this.editor.text); }
+  keepText() { if (!this.isPlain) keepDraft(location.hash, this.editor.text); }
 
   // ---- the program
 
@@ -177,8 +190,10 @@ class Simulator {
     this.editor.run = (words, input) => this.engine.run(words, input);
     this.compare = new Compare(byId('both'), this.engine, () => this.texts(), dataOf('templates').ranges, this.mostKept, this.lecture);
     this.enable(false);
-    root.dataset.ready = Math.round(performance.now());
+    const ready = Math.round(performance.now());
     this.editor.judge();
+    if (!this.wanted && this.isPlain) await this.start({plays: true});
+    root.dataset.ready = ready;
     if (this.wanted) await this.showShared(this.wanted);
   }
   // Without the program only runs that the page carries are shown.
@@ -203,8 +218,10 @@ class Simulator {
     if (this.run === mine) this.showRun(record, title);
   }
 
-  // Runs the scenario: its trace, and its figures beside it.
-  async start({trace = true, most = this.mostKept} = {}) {
+  // Whether the text is a lesson's or an example's, as it was.
+  get isPlain() { return this.examples[this.title] === this.editor.text; }
+  // Runs the scenario: its trace, and its figures beside it. Where it `plays`, the net moves from its first event on.
+  async start({trace = true, most = this.mostKept, plays = false} = {}) {
     const text = this.editor.text, input = toBytes(text), title = this.title;
     this.stop();
     this.clear();
@@ -216,6 +233,7 @@ class Simulator {
     const said = trace ? await this.keepTrace(input, mine, most, wanted) : '';
     if (!wanted()) return;
     if (said === null) { this.ask(mine); return; }
+    if (plays && this.page && !isCalm()) this.page.play(true);
     const counted = await figures;
     if (!wanted()) return;
     this.enable(false);
@@ -325,7 +343,7 @@ class Simulator {
     if (this.prompt) this.prompt.end();
     if (this.stalls) this.stalls.end();
     this.page = this.list = this.prompt = this.stalls = window.page = null;
-    for (const id of ['tab-net', 'all-lines', 'figures-table', 'stall-list', 'debugger']) byId(id).textContent = '';
+    for (const id of ['tab-net', ...TABS.flatMap(([, , ids]) => ids)]) byId(id).textContent = '';
     byId('save-trace').disabled = byId('save-figures').disabled = true;
     byId('progress').value = 0;
   }
@@ -339,11 +357,12 @@ class Simulator {
     this.lecture.addKeys(place.querySelector('#keys'));
     this.lessons.putHead(place.querySelector('h1'), title);
     this.page = window.page = new Page(record, {told: () => this.note(), causes: 'the tab stalls says why'});
+    this.showPanels();
     this.lecture.arrange();
     this.list = new TraceList(byId('all-lines'), record, event => this.goTo(event));
     byId('save-trace').disabled = false;
     // Where all stands below each other, the run is brought into view.
-    if (this.engine && isNarrow()) byId('run-side').scrollIntoView();
+    if (document.documentElement.dataset.ready && isNarrow()) byId('run-side').scrollIntoView();
     if (!this.engine) return;
     this.stalls = new StallList(byId('stall-list'), this.engine, this.run.text, record, stall => this.goToStall(stall));
     this.prompt = new Prompt(byId('debugger'), this.engine, this.run.text, {facts: record.facts, go: event => this.goTo(event), history: this.typed});
@@ -387,20 +406,30 @@ ${dataOf('licenses').join('\n\n')}`;
       tab.tabIndex = chosen ? 0 : -1;
       byId(`tab-${tab.dataset.tab}`).hidden = !chosen;
     }
-    // The debugger has the net above it, which goes to its position.
+    // All but two runs have the net above them.
+    byId('tab-net').hidden = name === 'compare';
     byId('run-side').dataset.view = name;
     this.note();
-    if (name === 'debug') byId('tab-net').hidden = false;
-    if (name === 'stalls' && this.stalls) this.stalls.show();
-    if (name === 'compare' && this.compare) this.compare.offer();
-    if (name === 'trace' && this.list) this.list.show(this.page.record.at);
+    const [, , , shown] = TABS.find(([one]) => one === name);
+    if (shown) shown(this);
+  }
+  // The panels that carry the lesson; in a lecture the first of them alone.
+  showPanels() {
+    const {now} = this.lessons, {panels} = this.page, named = now && now.examples.includes(this.run.title) ? now.panels : [];
+    if (named.length) panels.choose(named);
+    this.lecture.choose(panels.shown[0]);
+  }
+  // What is shown of a run is laid out anew where its room has changed.
+  laySoon() {
+    clearTimeout(this.laying);
+    this.laying = setTimeout(() => { if (this.page && byId('net').clientWidth) this.page.lay(); }, LAY_AFTER);
   }
 
   // ---- buttons and keys
 
   makeButtons() {
     const on = (id, does) => byId(id).addEventListener('click', does), file = byId('file');
-    on('run', () => this.start());
+    on('run', () => this.start({plays: true}));
     on('figures', () => this.start({trace: false}));
     on('stop', () => this.stop());
     on('template-open', () => byId('template-dialog').showModal());
@@ -413,11 +442,20 @@ ${dataOf('licenses').join('\n\n')}`;
     for (const choice of ['figures', 'keep', 'leave']) on(`ask-${choice}`, () => byId('ask').close(choice));
     const keys = this.editor.box.getOption('extraKeys'), runs = () => byId('run').click();
     this.editor.box.setOption('extraKeys', {...keys, 'Ctrl-Enter': runs, 'Cmd-Enter': runs});
-    this.makeTabs();
     this.listen();
   }
   makeTabs() {
-    const tabs = [...document.querySelectorAll('[role=tab]')];
+    const tabs = TABS.map(([name, says, ids]) => {
+      const tab = document.createElement('button'), panel = byId(`tab-${name}`) || byId('run-side').appendChild(document.createElement('div'));
+      Object.assign(tab, {textContent: says, id: `of-${name}`, role: 'tab'});
+      tab.dataset.tab = name;
+      tab.setAttribute('aria-controls', panel.id = `tab-${name}`);
+      panel.setAttribute('role', 'tabpanel');
+      panel.setAttribute('aria-labelledby', tab.id);
+      panel.append(...ids.map(id => Object.assign(document.createElement('div'), {id})));
+      byId('tabs').append(tab);
+      return tab;
+    });
     tabs.forEach((tab, k) => {
       tab.addEventListener('click', () => this.showTab(tab.dataset.tab));
       tab.addEventListener('keydown', event => {
@@ -437,14 +475,10 @@ ${dataOf('licenses').join('\n\n')}`;
       event.preventDefault();
       if (event.dataTransfer.files[0]) this.openFile(event.dataTransfer.files[0]);
     });
-    // What is shown of a run is laid out anew where its room has changed.
-    let wide = 0, tall = 0, timer = 0;
+    let size = '';
     new ResizeObserver(([{contentRect: {width, height}}]) => {
-      if (!width || width === wide && height === tall) return;
-      [wide, tall] = [width, height];
-      clearTimeout(timer);
-      timer = setTimeout(() => { if (this.page && byId('tab-net').clientWidth) this.page.lay(); }, LAY_AFTER);
-    }).observe(byId('tab-net'));
+      if (size !== (size = `${width} ${height}`)) this.laySoon();
+    }).observe(byId('run-side'));
     window.addEventListener('pagehide', () => this.keepText());
     window.addEventListener('hashchange', async ({newURL}) => {
       if (!await this.openFragment(new URL(newURL).hash) && this.list && this.page) this.list.show(this.page.record.at);

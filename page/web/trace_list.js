@@ -3,26 +3,6 @@
 
 const LINE = 18, MOST_TALL = 8e6;       // pixels: a line's height, and what a browser lets an element be high
 
-// A line with names and units beside its numbers, in columns: number, moment, node, what happens to which flow or link, the state.
-function readable(facts, line, wide) {
-  const [n, time, node, , , kind, name, ...rest] = line.split(' '), packet = kind === 'data' || kind === 'ack';
-  const whose = kind === 'free' ? facts.links[name].name : `${facts.flows[name].name}${packet ? ` ${number(rest.shift())}` : ''}`;
-  const state = rest.map(word => {
-    const [key, value] = word.split('='), [first, flow, seq] = value.split(':');
-    if (key === 'tx') return `${facts.links[first].name} sends ${facts.flows[flow].name} ${number(seq)}`;
-    if (key === 'drop') return `drops ${facts.flows[flow].name} ${number(seq)} (${first})`;
-    return key === 'phase' ? word : `${key}=${number(value)} B`;
-  });
-  return `${number(n).padStart(wide.number)}  ${seconds(+time, 6).padStart(wide.time)}  ${facts.nodes[node].name.padEnd(wide.node)}  ` +
-    `${`${kind} ${whose}`.padEnd(wide.what)}  ${state.join('  ')}`;
-}
-// How wide the columns are of a record's lines.
-function widthsOf({facts, last, times, count}) {
-  const name = ones => Math.max(...ones.map(({name: one}) => one.length));
-  return {number: number(last).length, time: seconds(times[count], 6).length, node: name(facts.nodes),
-    what: Math.max(name(facts.flows) + 16, name(facts.links) + 5)};
-}
-
 class TraceList {
   constructor(place, record, go) {
     Object.assign(this, {place, record, go, at: 0, rows: [], wide: widthsOf(record)});
