@@ -90,7 +90,7 @@ def show(browser, tab):
     """Shows a tab, with all that is in it."""
     browser.click(element(f'[data-tab={tab}]'))
     if tab == 'stalls':
-        browser.wait('document.querySelector("#stall-list table") || document.getElementById("stall-list").textContent.startsWith("No stall")')
+        browser.wait('!!document.querySelector("#stall-list table") || document.getElementById("stall-list").textContent.startsWith("No stall")')
     if tab == 'debug' and not browser.value('document.querySelector("#debugger pre").textContent'):
         at_prompt(browser, 'step 20')
         at_prompt(browser, 'state')
@@ -119,7 +119,7 @@ def test_letters_contrast_targets_and_edges(opened, width, colours):
             look(browser, f'look_{width}_{colours}_{tab}')
         for button, close in (('template-open', '#template-dialog .leave'), ('save-open', '#save-close'), ('share-open', '#share-close'), ('about-open', '#about-close')):
             browser.click(element(f'#{button}'))
-            browser.wait('document.querySelector("dialog[open]")')
+            browser.wait('!!document.querySelector("dialog[open]")')
             check_look(browser, (width, colours, button))
             browser.click(element(close))
         browser.value('simulator.showTab("net")')
@@ -317,9 +317,9 @@ def test_small_multiples_from_three_flows_on(sized):
     assert browser.value('page.panels.charts.windows.axes.node().childElementCount') == 3
     tops = browser.json('page.panels.charts.windows.lanes.map(({from, to}) => [from, to])')
     assert all(one[1] < two[0] for one, two in zip(tops, tops[1:]))
-    kinds = browser.json('["timeout", "recovery", "stall", "full"].map(kind => document.querySelectorAll(`#windows .${kind}`).length)')
+    kinds = browser.json('["timeout", "recovery", "stall", "full"].map(kind => document.querySelectorAll(`#windows .bands .${kind}, #windows .marks .${kind}`).length)')
     assert all(kinds), kinds
-    assert browser.value('document.querySelectorAll("#windows .timeout").length') >= len(browser.json('page.record.timeouts'))
+    assert browser.value('document.querySelectorAll("#windows .marks .timeout").length') >= len(browser.json('page.record.timeouts'))
     look(browser, 'small_multiples')
     browser.value('(() => { const chart = page.panels.charts.windows; chart.show(Array.from({length: 12}, (_, f) => PANELS.windows.lanes(page.record, [0, 1, 2])[f % 3])); })()')
     assert browser.value('page.panels.charts.windows.lanes.length') == 1

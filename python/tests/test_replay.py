@@ -76,8 +76,7 @@ SEEN = '''(() => {
     charts: ['#windows', '#lengths'].map(panel => of(panel, 'text')),
     ticks: ['#flows', '#links'].map(panel => of(panel, 'label')),
     head: of('header', '> *'),
-    cut: [...document.querySelectorAll('#under, #key, #notice, h1, header, #lines, #lines li' +
-      (document.querySelector('#lines li.present')?.textContent.includes(' drop=') ? '' : ', #words'))].filter(seen).map(words)};
+    cut: [...document.querySelectorAll('#under, #key, #notice, h1, header, #lines, #lines li')].filter(seen).map(words)};
 })()'''
 STALLS = 'page.record.stalls.map(s => [page.facts.flows[s.flow].name, s.from, s.to])'
 # The events after which to look: see `test_no_label_lies_over_another`.
@@ -769,8 +768,8 @@ class OneFont:
 
     def test_no_label_lies_over_another(self):
         """Every example's page at 1,280 by 720: where most was dropped at once, where most packets wait, at
-        the last timeout or at the end, and with the words of the first stall. (The words of a line with drops
-        may want scrolling.)"""
+        the last timeout or at the end, and with the words of the first stall. (A line's own words may want
+        scrolling.)"""
         for name in NAMES:
             self.browser.open(self.made(name))
             assert [self.browser.families(css) for css in ('h1', '#windows .title', '#where')] == \

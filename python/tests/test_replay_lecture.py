@@ -94,7 +94,7 @@ def test_letters_where_names_are_long(browser, made, tmp_path):
 def test_stalls_are_bands_of_the_chart(browser, made):
     """The example stands still from line 18 (6.24 ms) to line 31, of its 3.015 s."""
     browser.open(made(*paths('two_timeouts_in_a_row'))[0])
-    bands = browser.json('[...document.querySelectorAll("#windows rect.stall")].map(e => '
+    bands = browser.json('[...document.querySelectorAll("#windows .bands .stall")].map(e => '
                            '[page.panels.charts.windows.x.invert(+e.getAttribute("x")), page.panels.charts.windows.x.invert(+e.getAttribute("x") + '
                            '+e.getAttribute("width"))])')
     spans = browser.json('page.record.stalls.map(s => [s.from, s.to])')

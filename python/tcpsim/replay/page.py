@@ -84,7 +84,7 @@ def page_of_two(pages: list[tuple[str, str]], slide: bool = False) -> str:
     """The text of a page on which two runs move under one clock; `pages` are their titles and their own pages' texts."""
     (first, first_page), (second, second_page) = pages
     holes = {
-        'TITLE': html.escape(f'{first}, {second}'), 'LETTERS': str(24 if slide else 13),
+        'TITLE': html.escape(f'{first}, {second}'), 'COLOURS': looks.css(), 'LETTERS': str(24 if slide else 13),
         'FIRST': html.escape(first), 'SECOND': html.escape(second),
         'FIRSTPAGE': html.escape(first_page), 'SECONDPAGE': html.escape(second_page),
         'SCRIPT': '\n'.join(read_part(os.path.join(PARTS, name)) for name in OF_TWO)}

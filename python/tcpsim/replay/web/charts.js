@@ -58,9 +58,9 @@ class Chart {
     this.letters = parseFloat(getComputedStyle(this.title.node()).fontSize);
     this.bottom = Math.max(20, UNDER_AXIS * this.letters);
     this.under.attr('transform', `translate(0,${this.tall - this.bottom})`);
-    this.bands = this.svg.append('g');
+    this.bands = this.svg.append('g').attr('class', 'bands');
     this.curves = this.svg.append('g');
-    this.marks = this.svg.append('g');
+    this.marks = this.svg.append('g').attr('class', 'marks');
     this.names = this.svg.append('g');
     this.key = this.svg.append('g');
     this.layTitle(titles);
