@@ -2,9 +2,9 @@
 """Writes the page with the simulator: one file that works from a disk, with the proved program, the tutorial's lessons and
 the runs of the examples in it (`make page`).
 
-Usage: dev/page.py [-o FILE] [--picture FILE]
+Usage: dev/page.py [-o FILE] [--pictures FOLDER]
 
---picture writes the picture of README.md, of lesson 17, by headless Chromium. The file is out/page/tcpsim.html where none is named. The program in it is made of the module that dev/build.py keeps of the
+--pictures writes the pictures of docs/PAGE.md, by headless Chromium. The file is out/page/tcpsim.html where none is named. The program in it is made of the module that dev/build.py keeps of the
 native program's proof; another one is refused. It wants libjs-codemirror and python3-markdown of Debian.
 """
 import base64
@@ -113,20 +113,28 @@ def page(program, record):
     return re.sub(r'@@([A-Z]+)@@', lambda found: holes[found.group(1)], read(WEB, 'simulator.html'))
 
 
-def draw(path, picture):
-    """Writes a picture of the page with a run of lesson 17, where two queues are full."""
+# The pictures of docs/PAGE.md: the reader's scheme, width and height, the lesson, its event, and what is done then.
+PICTURES = {'page': ('light', 1400, 900, 17, 1657, ''), 'page_dark': ('dark', 1400, 900, 10, 5000, ''),
+            'page_lecture': ('light', 1024, 768, 17, 1657, 'simulator.lecture.begin()')}
+
+
+def draw(path, folder):
+    """Writes the pictures of the page into a folder."""
     import browsers     # only this wants python3-websockets
-    with tempfile.TemporaryDirectory() as folder:
-        browser = browsers.Chromium(folder)
+    with tempfile.TemporaryDirectory() as profile:
+        browser = browsers.Chromium(profile)
         try:
-            browser.open(f'file://{os.path.abspath(path)}')
-            browser.wait('document.documentElement.dataset.ready')
-            browser.value('simulator.openLesson(17)')
-            browser.value('simulator.start()')
-            browser.value('simulator.goTo(1657)')
-            browser.value('document.getElementById("lesson").scrollTop = 330')
-            browser.wait('[...document.images].every(it => it.complete)')
-            browser.picture(picture)
+            for name, (scheme, width, height, lesson, event, does) in PICTURES.items():
+                browser.size(width, height)
+                browser.call('Emulation.setEmulatedMedia', features=[{'name': 'prefers-color-scheme', 'value': scheme}])
+                browser.open(f'file://{os.path.abspath(path)}')
+                browser.wait('document.documentElement.dataset.ready')
+                browser.value(f'simulator.openLesson({lesson})')
+                browser.value('simulator.start()')
+                browser.value(f'simulator.goTo({event}); {does}')
+                browser.wait('[...document.images].every(it => it.complete)')
+                browser.value('new Promise(done => setTimeout(done, 500))')
+                browser.picture(os.path.join(folder, f'{name}.png'))
         finally:
             browser.close()
 
@@ -134,7 +142,7 @@ def draw(path, picture):
 def main():
     words = Words(description='The page with the simulator, of the proved program.')
     words.add_argument('-o', dest='out', metavar='FILE', help='else out/page/tcpsim.html')
-    words.add_argument('--picture', metavar='FILE', help='a picture of it besides, as PNG')
+    words.add_argument('--pictures', metavar='FOLDER', help='pictures of it besides, as PNG')
     given = words.parse_args()
     program, record = page_module.program()
     text = page(program, record)
@@ -143,8 +151,8 @@ def main():
         os.makedirs(page_module.OUT, exist_ok=True)
     with written(out) as file:
         file.write(text)
-    if given.picture:
-        draw(out, given.picture)
+    if given.pictures:
+        draw(out, given.pictures)
     said = f'{os.path.relpath(out)}: {len(text.encode()):,} bytes, the program {len(program):,} of them before packing\n'
     with opened() as file:
         file.write(said)
