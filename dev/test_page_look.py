@@ -225,6 +225,7 @@ def test_borders_move(sized, made):
         for kind, at in (('mousePressed', x), ('mouseMoved', x + 150), ('mouseReleased', x + 150)):
             browser.call('Input.dispatchMouseEvent', type=kind, x=at, y=y, button='left', buttons=1, clickCount=1)
         assert widths(browser)[0] == pytest.approx(usual[0] + 150, abs=6)
+    browser.value('document.querySelectorAll(".border").forEach(border => border.dispatchEvent(new MouseEvent("dblclick")))')
     browser.value('localStorage.clear()')
 
 
@@ -260,8 +261,8 @@ def test_numbers_have_hints_and_take_units(sized):
     assert ['sim', '30 s'] in hints or any(kind == 'sim' and re.fullmatch(r'[\d.]+ s', hint) for kind, hint in hints), hints
     assert any(kind == 'link' and re.fullmatch(r'\d+ [kM]bit/s, \d+ ms, \d+ packets = [\d.]+ m?s', hint) for kind, hint in hints), hints
     browser.value('simulator.editor.text = "sim 1000000000\\nnode s sender\\nnode r receiver\\nlink a s r 8000000 1000000 droptail 10\\nlink b r s 8000000 1000000 droptail 10\\nflow f s r 1000 1 0 64000 0\\n"')
-    for line, typed, read in (('link a s r 8000000 18ms droptail 10', '18ms', '18000000'), ('link a s r 1Mbit/s 18ms droptail 10', '1Mbit/s', '1000000'),
-                              ('flow f s r 1.5k 1 2s 64k 0', '64k', '64000'), ('sim 0.5s', '0.5s', '500000000'), ('link a s r 10 18000000 codel 1000 5ms 100ms 1540', '5ms', '5000000')):
+    for line, typed, read in (('link a s r 8000000 18ms droptail 10', '18ms', '18000000'), ('link a s r 1Mbit/s 18000000 droptail 10', '1Mbit/s', '1000000'),
+                              ('flow f s r 1000 1 0 64k 0', '64k', '64000'), ('flow f s r 1.5k 1 0 64000 0', '1.5k', '1500'), ('sim 0.5s', '0.5s', '500000000'), ('link a s r 10 18000000 codel 1000 5ms 100000000 1540', '5ms', '5000000')):
         at = browser.value(f'simulator.editor.text.split("\\n").findIndex(it => it.split(" ")[0] === {json.dumps(line.split()[0])})')
         first = line.index(typed)
         browser.value(f'(() => {{ const {{box}} = simulator.editor, at = ch => ({{line: {at}, ch}}); box.focus(); box.setSelection(at(0), at(999)); '

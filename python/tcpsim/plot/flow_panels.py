@@ -10,6 +10,8 @@ from matplotlib.lines import TICKDOWN, Line2D
 from matplotlib.patches import Patch
 from matplotlib.ticker import MaxNLocator
 
+from tcpsim.looks import PANELS
+
 from .broken import ROOM, Axis, axis_of, binds, heights_of, set_heights
 from .clock import length_text
 from .losses import color_of, loss_key, loss_rows, lost, mark_lost, mark_row, name_lost
@@ -269,8 +271,8 @@ def progress_panel(picture: Picture, axes: Axes, views: Sequence[FlowView], widt
     span = max(1, greatest - least)
     axes.set_ylim((least - .03 * span) / scale, (greatest + .06 * span) / scale)
     names = {view.run.flow.name for view in views}
-    of_whom = f'flow {names.pop()}' if len(names) == 1 else 'each flow'
-    key_above(axes, title or f'bytes acknowledged of {of_whom}', key, width)
+    of_whom = PANELS['progress'] if len(names) > 1 else f'bytes acknowledged of flow {names.pop()}'
+    key_above(axes, title or of_whom, key, width)
 
 
 def progress_labels(picture: Picture, views: Sequence[FlowView], seen: Sequence[np.ndarray]) -> list[str]:

@@ -9,6 +9,7 @@ from matplotlib.artist import Artist
 from matplotlib.axes import Axes
 from matplotlib.figure import Figure, FigureBase
 
+from tcpsim.looks import PANELS as WORDS
 from tcpsim.scenario.text import Unreadable
 
 from .flow_panels import progress_panel, sequence_key, sequence_panel, window_key, window_panel
@@ -28,7 +29,7 @@ OF_MANY = ('window', 'queue', 'delay', 'utilization', 'progress')       # of mor
 DRAWING = {'queue': queue_panel, 'delay': delay_panel, 'delay-cdf': delay_cdf_panel, 'utilization': utilization_panel}
 KEYS = {'window': window_key, 'sequence': sequence_key, 'timer': timer_key}
 # Of each panel of a flow what draws it, what its title says, and how many inches it is high at least, in full and of many flows.
-OF_FLOWS = {'window': (window_panel, 'congestion window', (1.5, 1.25)), 'sequence': (sequence_panel, 'sequence numbers', (1.5, 1.25)),
+OF_FLOWS = {'window': (window_panel, WORDS['window'], (1.5, 1.25)), 'sequence': (sequence_panel, WORDS['sequence'], (1.5, 1.25)),
             'timer': (timer_panel, 'retransmission timer', (.9, .9))}
 # In inches: how high a panel of all flows is at least, and a link's; what each row of signs adds; how wide a picture is, how high
 # at least, and while it is measured; what is free around the head, and what the layout leaves between two rows.

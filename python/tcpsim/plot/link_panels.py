@@ -11,13 +11,14 @@ from matplotlib.patches import Patch
 from matplotlib.ticker import FixedLocator, FuncFormatter, Locator, MaxNLocator, NullLocator
 
 from tcpsim.curves import LinkRun
+from tcpsim.looks import LINKS, PANELS
 from tcpsim.trace import ACK
 
 from .broken import draw_break
 from .losses import mark_row, rows_apart
 from .picture import MOST_FLOWS, FlowView, LinkView, Picture
 from .points import BANDS, bins, busy_parts, dots, envelope, is_dense
-from .style import (LINKS, NOTE, OF_ACKS, SIGNS, STEPS, TITLE_SIZE, delay_unit, key_above, pale, series, sign_look,
+from .style import (NOTE, OF_ACKS, SIGNS, STEPS, TITLE_SIZE, delay_unit, key_above, pale, series, sign_look,
                     sign_of)
 
 BREAK = .35, .65        # of a logarithmic axis that has 0 too, where it is broken
@@ -33,7 +34,7 @@ def link_lines(picture: Picture, links: Sequence[LinkView]) -> list[Line2D]:
 def queue_panel(picture: Picture, axes: Axes, links: Sequence[LinkView], width: float, named: bool | list) -> int:
     """How many packets wait, and at a single link also whose. `named` says whether the key names the links, or is the panel's own
     heading: its title and what is said of the one link. Answers how many rows of signs there are."""
-    heading = named if isinstance(named, list) else ['packets that wait in the queue']
+    heading = named if isinstance(named, list) else [PANELS['queue']]
     greatest = max([picture.tops.get('queue', 1), *(length for view in picture.links
                                                     for length in picture.seen(view.run.queue_times, view.run.queue))])
     key = link_lines(picture, links) if named and named is not heading else []
@@ -203,7 +204,7 @@ def delay_panel(picture: Picture, axes: Axes, links: Sequence[LinkView], width: 
         axes.set_ylim(-.04 * greatest / scale, 1.12 * greatest / scale)
     axes.set_ylabel(f'{unit}, logarithmic' if picture.log else unit)
     dotted = [Line2D([], [], label=view.name, marker='.', ms=9, **{**picture.look_of(view), 'ls': 'none'}) for view in links]
-    key_above(axes, 'delay in the queue of each packet sent', dotted if named else [], width,
+    key_above(axes, PANELS['delay'], dotted if named else [], width,
               ['at the moment when it entered'])
 
 

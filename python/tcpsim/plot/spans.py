@@ -8,11 +8,12 @@ from matplotlib.artist import Artist
 from matplotlib.axes import Axes
 
 from tcpsim.curves import FlowRun
+from tcpsim.looks import MARKS, TIMEOUT
 
 from .clock import length_text
 from .picture import FlowView, Picture, recoveries
 from .points import stalls
-from .style import DARK_RED, NOTE, ON_WHITE, SHADES, TIMEOUT, TIMEOUT_WIDTH, band_mark, timeout_mark
+from .style import DARK_RED, NOTE, ON_WHITE, SHADES, TIMEOUT_WIDTH, band_mark, timeout_mark
 
 MOST_TIMERS = 4         # of so many timeouts it is said what preceded them
 MOST_IN_FULL = 2        # of so many flows all is said
@@ -91,7 +92,7 @@ def span_key(picture: Picture) -> list[Artist]:
     """The key's entries of what is shaded or drawn in any of the flows' panels."""
     drawn = {kind for view in picture.flows for kind, *_ in bands(picture, view)}
     longer = length_text(picture.longer)
-    labels = {'recovery': 'recovery', 'stall': f'no new ack for over {longer}', 'both': 'recovery, no new ack'}
+    labels = {'recovery': MARKS['recovery'], 'stall': f'no new ack for over {longer}', 'both': 'recovery, no new ack'}
     key = [band_mark(kind, label) for kind, label in labels.items() if kind in drawn]
     if any(picture.sees(time) for view in picture.flows for time in view.run.timeouts):
         several = len(picture.flows) > MOST_IN_FULL

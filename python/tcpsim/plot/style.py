@@ -15,7 +15,7 @@ from matplotlib.patches import Patch
 from matplotlib.patheffects import withStroke
 from matplotlib.textpath import text_to_path
 
-from tcpsim.looks import DROPS, FLOWS, LINKS, ORANGE, PURPLE, RED, SKY, TIMEOUT  # noqa: F401  (the panels' names for them)
+from tcpsim.looks import DROPS, FLOWS, LINKS, MARKS, ORANGE, PURPLE, SKY, TIMEOUT  # noqa: F401  (bars.py and the tests take some from here)
 from tcpsim.scenario.text import Link
 
 SERIES = BLUE, RUST, GREEN, AMBER = FLOWS[:4]
@@ -33,7 +33,7 @@ SIGNS = dict(DROPS)
 OF_ACK = {'x': ('2', 'full'), '+': ('1', 'full'), 'v': ('v', 'none')}
 HALO = [withStroke(linewidth=3.2, foreground='#FFFFFF')]    # behind a sign, so that it is seen on dots and lines
 # A ring that is wider than the sign of a loss, which may lie in it.
-AGAIN = {'marker': 'o', 'ms': 10, 'mew': 1.4, 'mfc': 'none', 'color': ORANGE, 'label': 'sent again'}
+AGAIN = {'marker': 'o', 'ms': 10, 'mew': 1.4, 'mfc': 'none', 'color': ORANGE, 'label': MARKS['again']}
 # Of signs of acknowledgements.
 OF_ACKS = '#555555'
 # Sizes of letters in points of a picture ten inches wide: 8.7 pixels and more where it is shown 600 wide.
@@ -96,7 +96,7 @@ def band_mark(kind: str, label: str) -> Patch:
 
 def timeout_mark(more: str = '') -> Line2D:
     """The key's mark of a timeout, with what else is said: no dashes, which ssthresh has."""
-    return Line2D([], [], color=TIMEOUT, lw=TIMEOUT_WIDTH, label='timeout' + more)
+    return Line2D([], [], color=TIMEOUT, lw=TIMEOUT_WIDTH, label=MARKS['timeout'] + more)
 
 
 def text_width(text: str, size: float = NOTE, weight: str = 'normal') -> float:

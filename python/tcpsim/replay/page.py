@@ -53,7 +53,7 @@ def read_part(name: str) -> str:
 
 def scripts() -> str:
     """The scripts that show a run, in their order, with the words of pictures."""
-    told = {'flows': len(looks.FLOWS), 'links': len(looks.LINKS), 'drops': {reason: words for reason, (*_, words) in looks.DROPS.items()}, 'panels': looks.PANELS}
+    told = {'flows': len(looks.FLOWS), 'links': len(looks.LINKS), 'drops': {reason: words for reason, (*_, words) in looks.DROPS.items()}, 'marks': looks.MARKS, 'panels': looks.PANELS}
     return '\n'.join(("'use strict';", f'const LOOKS = {for_script(told)};', *(read_part(os.path.join(PARTS, name)) for name in SCRIPTS)))
 
 

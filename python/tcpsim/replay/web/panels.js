@@ -90,7 +90,7 @@ function stacked(record, l, x) {
 // ---- the panels
 
 // The key's words of what lanes have.
-const KEYS = [['timeout', 'timeout'], ['recovery', 'recovery'], ['stall', 'stall'], ['again', 'sent again'], ...Object.entries(LOOKS.drops)];
+const KEYS = [...Object.entries(LOOKS.marks), ...Object.entries(LOOKS.drops)];
 function keyOf(lanes, {facts}) {
   const there = new Set(lanes.flatMap(({bands = [], marks = []}) => [...bands, ...marks].map(({kind}) => kind)));
   const flows = new Set(lanes.flatMap(({series}) => series.filter(({flow}) => flow !== undefined).map(({flow}) => flow)));
@@ -100,7 +100,7 @@ const windowOf = (record, f) => [[CWND, 'cwnd'], [SSTHRESH, 'ssthresh']].map(([w
   colour: colourOf(f), thin: what === SSTHRESH, dash: dashOf(f), name: `${name} of ${flowName(record, f)}`}));
 const lossesOf = (record, f) => [...timeoutMarks(record, f), ...dropMarks(record, ({flow, sort}) => flow === f && sort === DATA)];
 const PANELS = {
-  windows: {says: 'windows', of: 'flows', titles: ['cwnd (thick), ssthresh (thin; along the top where it is higher), bytes', 'cwnd (thick), ssthresh (thin), bytes', 'cwnd, ssthresh, bytes'],
+  windows: {says: 'windows', of: 'flows', titles: [`${LOOKS.panels.window}: cwnd (thick), ssthresh (thin), bytes`, 'cwnd (thick), ssthresh (thin), bytes', 'cwnd, ssthresh, bytes'],
     lanes: (record, flows) => flows.length > 2 ? flows.map(f => ({name: flowName(record, f), colour: colourOf(f), series: windowOf(record, f), bands: spansOf(record, f), marks: lossesOf(record, f)})) :
       [{series: flows.flatMap(f => windowOf(record, f)), bands: flows.flatMap((f, lane) => spansOf(record, f, {lane, lanes: flows.length})), marks: flows.flatMap(f => lossesOf(record, f))}]},
   lengths: {says: 'queues', of: 'links', titles: [LOOKS.panels.queue, 'packets that wait'],
