@@ -55,4 +55,4 @@ _tcpsim_tool() {
 
 complete -o default -F _tcpsim tcpsim
 complete -o default -F _tcpsim_tool tcpsim-run tcpsim-debug tcpsim-model tcpsim-flows tcpsim-plot tcpsim-net tcpsim-sweep tcpsim-follow \
-  tcpsim-stalls tcpsim-time tcpsim-replay
+  tcpsim-stalls tcpsim-time tcpsim-diff tcpsim-replay

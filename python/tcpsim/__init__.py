@@ -10,6 +10,7 @@ import importlib
 from typing import TYPE_CHECKING
 
 if TYPE_CHECKING:
+    from tcpsim.api.difference import Difference
     from tcpsim.api.errors import Error, NoProgram, NotInstalled, Refused, Wrong, WrongQueue
     from tcpsim.api.events import Drop, Event, Sent, Trace
     from tcpsim.api.results import FlowResult, LinkResult, Results
@@ -33,12 +34,12 @@ _MODULES = {
     'Sent': 'events', 'Drop': 'events', 'Trace': 'events', 'TimeSeries': 'series', 'Results': 'results', 'FlowResult': 'results',
     'LinkResult': 'results', 'Error': 'errors', 'Refused': 'errors', 'Wrong': 'errors', 'WrongQueue': 'errors',
     'NotInstalled': 'errors', 'NoProgram': 'errors', 'sweep': 'sweeps', 'Sweep': 'sweeps',
-    'FlowTime': 'times', 'TimePart': 'times',
+    'FlowTime': 'times', 'TimePart': 'times', 'Difference': 'difference',
 }
 __all__ = ['__version__', 'dumbbell', 'chain', 'parking_lot', 'tree', 'access_line', 'asymmetric', 'islands', 'read', 'from_text',
            'ScenarioText', 'run', 'Simulation', 'debug', 'DebugSession', 'Event', 'Sent', 'Drop', 'Trace', 'TimeSeries', 'Results',
            'FlowResult', 'LinkResult', 'Error', 'Refused', 'Wrong', 'WrongQueue', 'NotInstalled', 'NoProgram', 'sweep', 'Sweep',
-           'FlowTime', 'TimePart']
+           'FlowTime', 'TimePart', 'Difference']
 
 
 def __getattr__(name: str) -> object:

@@ -15,7 +15,7 @@ from clone import BIN, PROGRAM, TOP
 EXAMPLE = pathlib.Path(TOP, 'examples', 'two_timeouts_in_a_row')
 OLD = 'what stood here before\n'
 PATIENCE = 60               # seconds in which a tool that is not waited for ends
-MODULES = {name: f'tcpsim.cli.{name}' for name in ('plot', 'flows', 'net', 'sweep', 'follow', 'stalls', 'time', 'replay')}
+MODULES = {name: f'tcpsim.cli.{name}' for name in ('plot', 'flows', 'net', 'sweep', 'follow', 'stalls', 'time', 'replay', 'diff')}
 TOOLS = tuple(MODULES)
 READERS = 'plot', 'flows', 'replay', 'stalls', 'time', 'follow'
 ENDINGS = {'plot': '.svg', 'replay': '.html', 'sweep': '.csv'}
@@ -25,6 +25,8 @@ def words(tool, scenario='s.txt', trace='s.trace'):
     """A command line of a tool, but for -o."""
     if tool == 'net':
         return ['dumbbell', '--flows', '3']
+    if tool == 'diff':
+        return [scenario, scenario, '--program', PROGRAM]
     if tool == 'sweep':
         return [scenario, '--set', 'a.lose=none,5', '--program', PROGRAM, '-j', '2']
     return [scenario, *([trace] if trace else []), *(['--flow', 'f', '--byte', '4000'] if tool == 'follow' else [])]
@@ -68,7 +70,8 @@ def target(place, tool, name='a'):
 
 
 def is_told(done, status, *says):
-    """Whether a tool said one sentence, and no traceback. What sweep says of its progress is left out."""
+    """Whether a tool said one sentence, and no traceback. What sweep says of its progress is left out. tcpsim-diff fails with 2."""
+    status = 2 if status == 1 and any(str(word).endswith('tcpsim-diff') for word in done.args) else status
     lines = [line for line in done.stderr.decode().splitlines() if not re.match(r'\d+ of \d+ runs', line)]
     assert done.returncode == status, (done.returncode, lines)
     assert len(lines) == 1, lines

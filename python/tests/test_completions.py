@@ -16,7 +16,7 @@ from clone import BIN, PROGRAM, TOP, Folder, read_text  # noqa: E402
 
 COMPLETIONS = os.path.join(TOP, 'completions')
 SUBCOMMANDS = ('asm', 'debug', 'dis', 'explain', 'figures', 'run')
-TOOLS = ('run', 'debug', 'model', 'flows', 'plot', 'net', 'sweep', 'follow', 'stalls', 'time', 'replay')
+TOOLS = ('run', 'debug', 'model', 'flows', 'plot', 'net', 'sweep', 'follow', 'stalls', 'time', 'diff', 'replay')
 MARK = '@ready@'
 PATIENCE = 60           # seconds for one answer, on a machine that is busy
 # A line up to the cursor, and behind the stroke what its last word gets, completed. `scenario one.txt`, `scenario_two.txt` and
@@ -34,7 +34,7 @@ LINES = [(line.partition('|')[0], line.replace('|', '')) for line in (
     'tcpsim-follow scenario_|two.txt ', 'tcpsim-follow scenario_two.txt --by|te ',
     'tcpsim-follow scenario_two.txt shelf/in|ner.txt ', 'tcpsim-stalls scenario_|two.txt ',
     'tcpsim-stalls scenario_two.txt --lon|ger ', 'tcpsim-stalls --ca|uses ',
-    'tcpsim-time scenario_|two.txt ', 'tcpsim-time scenario_two.txt --pat|h ', 'tcpsim-debug --work|ers ', 'tcpsim-debug scenario_|two.txt ', 'tcpsim-net dumb|bell ',
+    'tcpsim-time scenario_|two.txt ', 'tcpsim-time scenario_two.txt --pat|h ', 'tcpsim-diff scenario_|two.txt ', 'tcpsim-diff scenario_two.txt sh|elf/', 'tcpsim-debug --work|ers ', 'tcpsim-debug scenario_|two.txt ', 'tcpsim-net dumb|bell ',
     'tcpsim-net dumbbell --acc|ess', 'tcpsim-net dumbbell --que|ue ')]
 
 

@@ -9,6 +9,7 @@ from collections.abc import Callable, Iterator, Mapping
 from typing import TYPE_CHECKING, BinaryIO
 
 from tcpsim import output
+from tcpsim.api.difference import Difference, Side, queue_at
 from tcpsim.api.engines import Engine, check_own, check_queues, engine_of, reads_of
 from tcpsim.api.errors import Wrong, as_api, wanted
 from tcpsim.api.events import Names, Trace
@@ -20,6 +21,7 @@ from tcpsim.api.times import FlowTime
 from tcpsim.breakdown import breakdowns
 from tcpsim.critical_path import critical_paths
 from tcpsim.engine import EngineRun
+from tcpsim.figures import engine_figures
 from tcpsim.scenario import units
 from tcpsim.scenario.text import Scenario
 from tcpsim.series import STEPS, Series
@@ -65,7 +67,7 @@ def run(scenario: ScenarioText | str | os.PathLike, engine: str | None = None, q
 
 
 class Simulation:
-    """A run of a scenario: `figures`, `trace`, `series`, `stalls`, `time`, `plot`, `replay`. `scenario` is what is run, and `engine`
+    """A run of a scenario: `figures`, `trace`, `series`, `stalls`, `time`, `diff`, `plot`, `replay`. `scenario` is what is run, and `engine`
     what runs it: 'program' or 'model'. The same scenario gives the same run, always."""
 
     def __init__(self, scenario: ScenarioText, engine: str | None = None, queues: Mapping[str, Callable[..., object]] | None = None,
@@ -204,6 +206,16 @@ class Simulation:
         engine = 'model' if self._own else self._engine.path
         with Simulation(ScenarioText(text), engine, queues)._lines() as lines:
             yield lines
+
+    def diff(self, other: Simulation) -> Difference:
+        """Where this run and another part, and the figures that differ: `sentence`, `events`, `positions`, `figures`. It is true where
+        the runs differ."""
+        with as_api(), self._lines() as ours, other._lines() as theirs:
+            return Difference(self._side(ours), other._side(theirs))
+
+    def _side(self, lines):
+        queue = functools.partial(queue_at, self.scenario, None if self._own else self._engine.path, self._queues)
+        return Side(self._parsed(), lines, engine_figures(self.figures._run), queue)
 
     # ---- pictures and pages
 
