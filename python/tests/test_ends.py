@@ -22,8 +22,8 @@ import time
 import pytest
 
 from clone import TOP
-from seven_tools import (ENDINGS, EXAMPLE, MODULES, OLD, PATIENCE, PROGRAM, READERS, TOOLS, call, is_told, place, run, target,
-                         to_old, to_private, whole, words)
+from seven_tools import (ENDINGS, EXAMPLE, MODULES, OLD, PATIENCE, PROGRAM, READERS, TOOLS, call, failed, is_told, place, run,
+                         target, to_old, to_private, whole, words)
 
 from tcpsim.cli import net as command
 from tcpsim.scenario.text import Scenario
@@ -133,8 +133,8 @@ def open_to_all(place):
 @NEEDS_ROOT
 @pytest.mark.skipif(not os.access('/usr/bin/python3', os.X_OK), reason='no python3 that nobody can run')
 @pytest.mark.parametrize('tool', TOOLS)
-@pytest.mark.parametrize('mode, status', [(0o644, 1), (0o666, 0)])
-def test_others_as_nobody(tool, mode, status, place):
+@pytest.mark.parametrize('mode, fails', [(0o644, True), (0o666, False)])
+def test_others_as_nobody(tool, mode, fails, place):
     """A file of root's that may not be written stays, in a folder that may; one that may be written stays root's."""
     with open_to_all(place) as moved:
         path = target(moved, tool)
@@ -144,10 +144,10 @@ def test_others_as_nobody(tool, mode, status, place):
                               capture_output=True, preexec_fn=as_nobody, timeout=PATIENCE,
                               env={**os.environ, 'TMPDIR': str(moved / 'out'), 'MPLCONFIGDIR': str(moved / 'out'),
                                    'HOME': '/', 'PYTHONDONTWRITEBYTECODE': '1'})
-        if status:
-            is_told(done, 1, str(path), 'Permission denied')
-        assert done.returncode == status, done.stderr
-        assert path.read_bytes() == (OLD.encode() if status else whole(tool))
+        if fails:
+            is_told(done, failed(tool), str(path), 'Permission denied')
+        assert done.returncode == (failed(tool) if fails else 0), done.stderr
+        assert path.read_bytes() == (OLD.encode() if fails else whole(tool))
         assert path.stat().st_uid == 0 and stat.S_IMODE(path.stat().st_mode) == mode
 
 
@@ -213,7 +213,7 @@ def test_full_disk(tool, make, place):
         if done.returncode == 0 and make is to_link and begin is None:
             assert path.read_bytes() == whole(tool)     # it had room where the old one was
             return
-        is_told(done, 1, says, *([str(path)] if begin is None else []))      # a limit is one of all disks
+        is_told(done, failed(tool), says, *([str(path)] if begin is None else []))      # a limit is one of all disks
         if make is not to_nothing:
             assert path.read_text() == OLD
 
@@ -222,7 +222,7 @@ def test_full_disk(tool, make, place):
 def test_dev_full(tool, place):
     path = target(place, tool)
     path.symlink_to('/dev/full')
-    is_told(run(tool, *words(tool), '-o', path, cwd=place), 1, f'{path}: No space left on device')
+    is_told(run(tool, *words(tool), '-o', path, cwd=place), failed(tool), f'{path}: No space left on device')
     assert os.readlink(path) == '/dev/full' and os.listdir(place / 'out') == [path.name]
 
 
@@ -235,7 +235,7 @@ def test_full_standard_output(tool, place):
         if tool == 'plot' and given != ['--help']:
             assert (done.returncode, done.stderr) == (0, b'')
         else:
-            is_told(done, 1, 'standard output: No space left on device')
+            is_told(done, failed(tool), 'standard output: No space left on device')
 
 
 @pytest.mark.parametrize('tool', TOOLS)
@@ -249,9 +249,9 @@ def test_closed_standard_output(tool, closed, place):
     if tool == 'plot':
         assert (done.returncode, done.stderr) == (0, b'')
     elif '2>' in closed:
-        assert (done.returncode, done.stderr) == (1, b'')
+        assert (done.returncode, done.stderr) == (failed(tool), b'')
     else:
-        is_told(done, 1, 'standard output')
+        is_told(done, failed(tool), 'standard output')
     if tool in ('plot', 'replay'):
         assert path.read_bytes() == whole(tool)
     assert done.stdout == b''
@@ -293,7 +293,7 @@ def test_closed_standard_error(tool, place):
 @pytest.mark.parametrize('tool', TOOLS)
 def test_folder_that_is_not_there(tool, place):
     path = place / 'nowhere' / target(place, tool).name
-    is_told(run(tool, *words(tool), '-o', path, cwd=place), 1, f'{path}: No such file or directory')
+    is_told(run(tool, *words(tool), '-o', path, cwd=place), failed(tool), f'{path}: No such file or directory')
 
 
 # ---- signals
@@ -332,7 +332,7 @@ def waiting(tool, place, path, **more):
         if path.exists():
             path.unlink()
         os.mkfifo(path)
-    elif tool == 'sweep':
+    elif tool in ('sweep', 'diff'):
         program = place / 'sleeps'
         program.write_text('#!/bin/sh\nexec sleep 100\n')
         program.chmod(0o755)
@@ -348,7 +348,7 @@ def waiting(tool, place, path, **more):
         while time.monotonic() < until and not (hears(process.pid) and (
                 tool == 'net' or any(name.endswith('.part') for name in os.listdir(path.parent)))):
             time.sleep(0.02)
-        time.sleep(0.7 if tool in ('sweep', 'net') else 0.1)
+        time.sleep(0.7 if tool in ('sweep', 'diff', 'net') else 0.1)
         yield process
     finally:
         for each in session(process.pid):

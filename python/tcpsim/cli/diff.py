@@ -90,9 +90,10 @@ def failing_as_diff() -> Iterator[None]:
 
 def main() -> None:
     """Does what the words ask for."""
-    given = words_of()
-    with failing_as_diff(), output.opened(given.output, [given.scenario, given.other, given.program or found()]) as file:
-        found_difference = difference(given)
-        print(found_difference, file=file)
-    if found_difference:
+    with failing_as_diff():
+        given = words_of()
+        with output.opened(given.output, [given.scenario, given.other, given.program or found()]) as file:
+            differs = difference(given)
+            print(differs, file=file)
+    if differs:
         raise SystemExit(DIFFERENT)
