@@ -87,7 +87,8 @@ def data_of(program, record, lessons):
     yield held('templates', replay.for_script({'ranges': units.RANGES, 'help': helps}), 'application/json')
     yield held('lessons', replay.for_script([it.facts() for it in lessons]), 'application/json')
     yield held('licenses', replay.for_script([read(it) for it in LICENSES]), 'application/json')
-    yield held('host', read(WEB, 'host.js').replace('</script', '<\\/script'))
+    worker = '\n'.join(read(*it) for it in ((replay.PARTS, 'trace.js'), (replay.PARTS, 'record.js'), (WEB, 'scenario.js'), (WEB, 'host.js')))
+    yield held('host', worker.replace('</script', '<\\/script'))
     for name, (_, trace) in ones.items():
         yield held(f'trace-{name}', packed(trace.encode('ascii')))
     for name in sorted({name for it in lessons for name in it.pictures}):

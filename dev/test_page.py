@@ -503,10 +503,15 @@ def test_16_mib_leave_the_page_answering(browser, part):
     assert not browser.value('simulator.editor.box.getOption("readOnly")')
 
 
+def long_net():
+    """A scenario whose run takes minutes."""
+    return subprocess.run([sys.executable, f'{TOP}/bin/tcpsim-net', 'dumbbell', '--flows', '10', '--rate', '1G', '--rtt', '10ms', '--queue',
+                           'droptail:100', '--end', '1000s'], capture_output=True, text=True, check=True).stdout
+
+
 def test_a_lesson_that_is_chosen_ends_the_run_before(browser):
     """What was run is not shown over the other scenario, and the run can be begun at once."""
-    long = page_cases.read('examples', 'four_flows_share_codel.txt').decode().replace('sim ', 'sim 9')
-    browser.value(f'simulator.openText({json.dumps(long)}, "long")')
+    browser.value(f'simulator.openText({json.dumps(long_net())}, "long")')
     browser.wait('document.documentElement.dataset.judged === "0"')
     browser.value('(window.done = simulator.start()) && 1')
     browser.wait('simulator.run.record && simulator.run.record.count > 500')
@@ -555,9 +560,7 @@ def test_want_of_memory_is_told_and_the_page_lives(browser):
 
 def test_a_run_can_be_ended(browser):
     """A long one, by the button; the next run is whole."""
-    net = subprocess.run([sys.executable, f'{TOP}/bin/tcpsim-net', 'dumbbell', '--flows', '10', '--rate', '1G', '--rtt', '10ms', '--queue',
-                          'droptail:100', '--end', '1000s'], capture_output=True, text=True, check=True).stdout
-    browser.value(f'simulator.editor.text = {json.dumps(net)}')
+    browser.value(f'simulator.editor.text = {json.dumps(long_net())}')
     browser.click(element('#run'))
     browser.wait('simulator.run.record && simulator.run.record.count > 500')
     browser.click(element('#stop'))
@@ -579,7 +582,7 @@ ENDED_AT = """async k => {
       while (!all.closed) await new Promise(done => setTimeout(done, 5));
       for await (const piece of all) { if (count++ === k) simulator.stop(); yield piece; }
     })();
-    return {...run, pieces};
+    return {...run, pieces: Object.assign(pieces, {begun: all.begun, ended: all.ended, reached: all.reached})};
   };
   await simulator.start();
   engine.start = start;
@@ -589,7 +592,7 @@ ENDED_AT = """async k => {
   document.getElementById('save-trace').click();
   save.give = give;
   return {count, said: document.getElementById('said').textContent, left: document.getElementById('left').textContent, whole: facts.whole,
-    lines: record.lines.length, last, line: record.line(last), words: document.getElementById('words').textContent, saved,
+    lines: d3.sum(record.lines.pieces, piece => piece.filter(byte => byte === NEWLINE).length), last, line: record.line(last), words: document.getElementById('words').textContent, saved,
     figures: [document.getElementById('save-figures').disabled, document.querySelectorAll('#figures-table tr').length]};
 }"""
 

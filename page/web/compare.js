@@ -134,7 +134,7 @@ class Compare {
     };
     const figures = await this.engine.run(['figures'], toBytes(text));
     if (figures.why || figures.status) refuse(figures);
-    const record = new Record(factsOf(text, title.replace(/_/g, ' '))), run = this.engine.start(['run'], toBytes(text), {most: this.most});
+    const record = new Record(factsOf(text, title.replace(/_/g, ' '))), run = this.engine.start(['run'], toBytes(text), {most: this.most, read: true});
     await fill(record, run.pieces);
     const ended = await run.ended;
     if (ended.why || ended.status) refuse(ended);

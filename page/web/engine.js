@@ -3,6 +3,7 @@
 
 const HAS_MEMORY64 = Uint8Array.of(0, 97, 115, 109, 1, 0, 0, 0, 5, 3, 1, 4, 1);     // a module with a 64-bit memory
 const MOST_PAGES = 65536;               // 4 GiB
+const MUCH = 1e5;                       // events
 const NO_MEMORY64 = 'This browser runs no program with 64-bit memory, as Chromium does from version 133 on and Firefox from ' +
   'version 134 on; the runs of the examples can be seen all the same.';
 
@@ -21,16 +22,24 @@ async function bytesOf(packed) {
 async function textOf(packed) { return new TextDecoder().decode(await bytesOf(packed)); }
 const toBytes = text => new TextEncoder().encode(text);
 
-// Pieces of output as they come: an async iterable. `close` says how the run ended, which `ended` gives once all pieces were
-// taken; a run whose pieces are cut has ended so, whatever the program said.
+// Pieces of output as they come: an async iterable. `begun` gives whether there is one. `close` says how the run ended, which `ended`
+// gives once all pieces were taken; a run whose pieces are cut has ended so, whatever the program said. Of a trace that the worker
+// reads `reached` says how far it is: how many events, and the moment of the last.
 class Pieces {
-  constructor() {
-    Object.assign(this, {waiting: [], closed: null, wake: () => {}});
+  constructor(read) {
+    Object.assign(this, {waiting: [], closed: null, wake: () => {}, reached: read ? [0, 0] : null});
     this.ended = new Promise(done => { this.tell = done; });
+    this.begun = new Promise(done => { this.begin = done; });
   }
-  push(bytes) { this.waiting.push(bytes); this.wake(); }
+  push(bytes, reached) {
+    if (reached) this.reached = reached;
+    this.waiting.push(bytes);
+    this.begin(true);
+    this.wake();
+  }
   close(answer) {
     this.closed = answer;
+    this.begin(false);
     if (!this.waiting.length) this.tell(answer);
     this.wake();
   }
@@ -69,9 +78,10 @@ class Engine {
   }
 
   // Starts a run: {pieces, ended, stop}. Behind its last piece `ended` gives {status, note}, or {why} where it did not come to its
-  // end: 'long' where it has more than `most` events, 'ended' where `stop` came before all pieces were taken, else a sentence.
-  start(words, input, {files = new Map(), pages = MOST_PAGES, most = Infinity} = {}) {
-    const worker = this.take(), number = this.count++, pieces = new Pieces();
+  // end: 'long' where it has more than `most` events, 'ended' where `stop` came before all pieces were taken, else a sentence. A trace is
+  // `read` by the worker: its pieces are of whole lines, and `ended` has what a record takes.
+  start(words, input, {files = new Map(), pages = MOST_PAGES, most = Infinity, read = false} = {}) {
+    const worker = this.take(), number = this.count++, pieces = new Pieces(read);
     const leave = (answer, keep) => {
       if (pieces.closed) return;          // its worker may be at another run already
       worker.onmessage = worker.onerror = null;
@@ -80,10 +90,11 @@ class Engine {
     };
     worker.onmessage = ({data}) => {
       if (data.number !== number) return;
-      if (data.bytes) pieces.push(data.bytes); else leave(data.ended, true);
+      // A worker that has read much is ended, and with it what it held.
+      if (data.bytes) pieces.push(data.bytes, data.reached); else leave(data.ended, !data.ended.read || data.ended.read.count < MUCH);
     };
     worker.onerror = wrong => { wrong.preventDefault(); leave({why: `the program was stopped: ${wrong.message}`}, false); };
-    worker.postMessage({number, words, input, files, pages, most});
+    worker.postMessage({number, words, input, files, pages, most, read});
     return {pieces, ended: pieces.ended, stop: () => { leave({why: 'ended'}, false); pieces.cut({why: 'ended'}); }};
   }
 

@@ -79,7 +79,7 @@ class Overview {
   share(f) {
     const {record} = this;
     if (!record) return null;
-    const track = record.tracks[this.bottleneck(f)], size = entry => HEADER_BYTES + (track.sort[entry] === DATA ? this.facts.flows[track.flow[entry]].mss : 0);
+    const track = record.tracks[this.bottleneck(f)], size = entry => track.size(entry);
     return d3.sum(track.sent.filter(entry => track.flow[entry] === f), size) / (d3.sum(track.sent, size) || 1);
   }
   // The segments of a flow that were dropped; null where no trace was kept.

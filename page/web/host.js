@@ -1,6 +1,6 @@
 'use strict';
 // The worker's script: runs the program, an instance with a memory of its own for each run. What it asks of a system comes
-// through five functions: words, files, input, output and its end.
+// through five functions: words, files, input, output and its end. A trace can be read here, where its bytes are: into a record.
 
 const FIRST_PIECE = 1 << 14, PIECE = 1 << 18;       // bytes of output that are sent at once
 const FIRST_PAGES = 32;                             // of 64 KiB each, as the module is linked
@@ -12,9 +12,9 @@ class Ended {
 }
 class TooLong {}
 
-// Bytes that are written to a stream, sent in pieces.
+// Bytes that are written to a stream, sent in pieces, or in pieces of whole `lines`.
 class Stream {
-  constructor(send) { Object.assign(this, {send, room: new Uint8Array(FIRST_PIECE), used: 0}); }
+  constructor(send, lines) { Object.assign(this, {send, lines, room: new Uint8Array(FIRST_PIECE), used: 0}); }
   put(bytes) {
     for (let at = 0; at < bytes.length;) {
       const part = bytes.subarray(at, at + this.room.length - this.used);
@@ -25,9 +25,11 @@ class Stream {
     }
   }
   flush(next = 0) {
-    if (this.used) this.send(this.room.subarray(0, this.used));
-    this.room = new Uint8Array(next);
-    this.used = 0;
+    const {room, used} = this, end = this.lines ? room.subarray(0, used).lastIndexOf(NEWLINE) + 1 : used, rest = room.slice(end, used);
+    this.room = new Uint8Array(Math.max(next, next && 2 * rest.length));
+    this.room.set(next ? rest : []);
+    this.used = next ? rest.length : 0;
+    if (end) this.send(room.subarray(0, end));
   }
 }
 
@@ -40,17 +42,18 @@ function lastEvent(bytes) {
 }
 
 // A run of the program: what it asks of a system, of its words, its standard input, files by name; how many pages of memory it
-// may have, and how many events of a trace are wanted at most. `send` takes its output.
+// may have, how many events of a trace are wanted at most, and whether it is `read`. `send` takes its output, and of a trace that is
+// read how far it is: how many events, and the moment of the last.
 class Run {
-  constructor({words, input, files, pages, most = Infinity}, send) {
+  constructor({words, input, files, pages, most = Infinity, read = false}, send) {
     const args = ['tcpsim', ...words].map(word => letters.encode(word)), names = new TextDecoder(), says = new TextDecoder('latin1');
-    Object.assign(this, {pages, note: '', input: {bytes: input, at: 0}});
+    Object.assign(this, {pages, note: '', input: {bytes: input, at: 0}, record: null, pieces: 0});
     const opened = [this.input], view = (at, length) => new Uint8Array(this.memory.buffer, Number(at), Number(length));
     this.output = new Stream(bytes => {
       const last = most === Infinity ? 0 : lastEvent(bytes);
-      send(bytes);
+      send(bytes, read && this.read(bytes));
       if (last > most) throw new TooLong();
-    });
+    }, read);
     this.page = {
       arg: (i, at, room) => {
         const word = args[Number(i)];
@@ -80,13 +83,20 @@ class Run {
       exit: status => { throw new Ended(status); },
     };
   }
+  // Whole lines of a trace. The scenario was accepted, as there is one.
+  read(bytes) {
+    const record = this.record = this.record || new Record(factsOf(new TextDecoder().decode(this.input.bytes), ''));
+    record.take(bytes, 0, this.pieces++);
+    return [record.count, record.moments.all[record.count]];
+  }
   instance(module) {
     this.memory = new WebAssembly.Memory({address: 'i64', initial: BigInt(FIRST_PAGES), maximum: BigInt(this.pages)});
     return new WebAssembly.Instance(module, {page: this.page, env: {memory: this.memory}});
   }
   ended(answer) {
     try { this.output.flush(); } catch (thrown) { if (!(thrown instanceof TooLong)) throw thrown; }
-    return {note: this.note, ...answer};
+    if (this.record) this.record.close();
+    return {note: this.note, ...answer, read: this.record && this.record.handed()};
   }
   // What a run came to that was ended by what was thrown: {status, note}; {why} where it did not come to its end.
   endedBy(thrown) {
@@ -130,8 +140,9 @@ let program = null;
 onmessage = async ({data}) => {
   if (data.module) { program = data.module; return; }
   if (data.more) { more(data.more); return; }
-  const {number} = data, send = bytes => postMessage({number, bytes}, [bytes.buffer]);
+  const {number} = data, send = (bytes, reached) => postMessage({number, bytes, reached}, [bytes.buffer]);
   const ended = data.keep ? await keepProgram(program, data, send, note => postMessage({number, waits: true, note})) :
     runProgram(program, data, send);
-  postMessage({number, ended});
+  const read = ended.read ? [...ended.read.columns, ...ended.read.tracks.flatMap(track => Object.values(track).filter(ArrayBuffer.isView))] : [];
+  postMessage({number, ended}, read.map(({buffer}) => buffer));
 };

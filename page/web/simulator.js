@@ -260,23 +260,17 @@ class Simulator {
   drawFigures({csv, text, title, record}) { if (csv) drawFigures(byId('figures-table'), csv, factsOf(text, title), this.page && this.page.record === record ? record : null); }
   // Keeps the trace, and shows it. Answers what is to be said, '' where there is nothing, null where there were too many events.
   async keepTrace(input, mine, most, wanted) {
-    const run = mine.trace = this.engine.start(['run', '--explain'], input, {most, pages: this.mostPages});
-    const told = record => {
-      const part = record.times[record.count] / record.facts.end;
-      byId('progress').value = part;
-      byId('how-far').textContent = `${number(record.count)} events, ${(100 * part).toFixed(0)} % of ${seconds(record.facts.end, 3)}`;
-    };
-    const pieces = run.pieces[Symbol.asyncIterator](), first = await pieces.next();
+    const run = mine.trace = this.engine.start(['run', '--explain'], input, {most, pages: this.mostPages, read: true});
+    const begun = await run.pieces.begun;
     if (!wanted()) return '';
-    if (first.done) return this.reason(await run.ended);
+    if (!begun) return this.reason(await run.ended);
     let record = mine.record = new Record(factsOf(mine.text, mine.title)), lacks = false;
+    const {end} = record.facts, told = (count, time) => {
+      byId('progress').value = time / end;
+      byId('how-far').textContent = `${number(count)} events, ${(100 * time / end).toFixed(0)} % of ${seconds(end, 3)}`;
+    };
     try {
-      const all = (async function* () {
-        yield first.value;
-        yield* pieces;
-        record.lines.forgetRest();      // of a run that was cut; a whole trace ends with a line's end
-      })();
-      await fill(record, all, told, wanted);
+      await fill(record, run.pieces, told, wanted);
     } catch (wrong) {
       if (!(wrong instanceof RangeError)) throw wrong;
       run.stop();

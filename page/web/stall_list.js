@@ -3,20 +3,19 @@
 // program's own session answers to `why` in its midst.
 
 const MOST_ASKED = 200;                 // stalls for which the program is asked, the longest
-const LONGER = 2e8;                     // ns, as findStalls has it
 
 // The spans in which all packets of a flow that were in the net were at one link, and one of them waited: [begin, end, link].
 function waitsOf(record, f) {
   const {facts} = record, moves = [], ways = [...new Set(facts.ways[f].flat())];
   for (const l of ways) {
-    const track = record.tracks[l], turns = new Map(track.sent.map((entry, k) => [entry, k]));
+    const track = record.tracks[l], turns = new Map(Array.from(track.sent, (entry, k) => [entry, k]));
     const dropped = record.drops.filter(({link, flow, reason}) => link === l && flow === f && reason === 'codel');
     track.flow.forEach((flow, entry) => {
       if (flow !== f) return;
       const k = turns.get(entry);
-      moves.push({time: track.entered[entry], l, waits: 1});
+      moves.push({time: track.entered(entry), l, waits: 1});
       if (k === undefined) { if (dropped.length) moves.push({time: dropped.shift().time, l, waits: -1}); return; }
-      moves.push({time: track.begun[k], l, waits: -1, sent: 1}, {time: track.arrives[k] - facts.links[l].delay, l, sent: -1, flying: 1}, {time: track.arrives[k], l, flying: -1});
+      moves.push({time: track.begun(k), l, waits: -1, sent: 1}, {time: track.arrives(k) - facts.links[l].delay, l, sent: -1, flying: 1}, {time: track.arrives(k), l, flying: -1});
     });
   }
   moves.sort((one, two) => one.time - two.time);
@@ -48,7 +47,7 @@ function causeOf(record, {flow: f, event, from, to}, queue) {
   const before = stateAt(event - 1), {una, ...begun} = stateAt(event), last = stateAt(record.eventsBefore(to)), windowed = nxt => nxt < mss * segments && nxt + mss > una + rwnd;
   record.go(kept);
   const drops = record.drops.filter(drop => drop.flow === f && drop.time <= to), lost = drops.filter(({sort, number: seq}) => sort === DATA && seq === una);
-  const sent = track.entered.filter((_, k) => track.flow[k] === f && track.sort[k] === DATA && track.number[k] === una);
+  const sent = d3.range(track.many).filter(k => track.flow[k] === f && track.sort[k] === DATA && track.number(k) === una).map(k => track.entered(k));
   const copies = [...sent, ...lost.filter(({link, reason}) => link === first && reason !== 'codel').map(({time}) => time)].filter(time => time <= to);
   // By a partial acknowledgement, with which the stall begins.
   const partial = before.recovery && line.includes(' ack ') && line.includes(' phase=fr');

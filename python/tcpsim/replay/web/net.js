@@ -198,7 +198,7 @@ class Net {
       let packet = this.drawn.get(key);
       if (!packet) { packet = this.newPacket(l, k); this.drawn.set(key, packet); }
       packet.seen = this.stamp;
-      const part = Math.min(1, Math.max(0, (time - track.begun[k]) / (track.arrives[k] - track.begun[k])));
+      const part = Math.min(1, Math.max(0, (time - track.begun(k)) / (track.arrives(k) - track.begun(k))));
       const [x, y] = this.pointAt(l, part);
       packet.element.setAttribute('transform', `translate(${x.toFixed(2)},${y.toFixed(2)})`);
       packet.element.setAttribute('data-place', part.toFixed(6));
@@ -209,7 +209,7 @@ class Net {
     const track = this.record.tracks[l], packet = this.record.packet(l, track.sent[k]);
     const element = this.shape(packet);
     Object.assign(element.dataset, {link: l, flow: packet.flow, sort: packet.sort === DATA ? 'data' : 'ack',
-      number: packet.number, count: k + track.sentBefore + 1, begun: track.begun[k], arrives: track.arrives[k],
+      number: packet.number, count: k + track.sentBefore + 1, begun: track.begun(k), arrives: track.arrives(k),
       again: packet.again ? 1 : 0});
     element.addEventListener('click', () => this.show({packet, link: l, sent: k}));
     this.moving.appendChild(element);

@@ -234,8 +234,8 @@ class Page {
   packetRows({packet, link, sent}) {
     const track = this.record.tracks[link], l = this.facts.links[link];
     return [['packet', packetName(this.facts, packet), ''], ['link', `${l.name}, ${rateText(l.rate)}, ${milliseconds(l.delay)}`, ''],
-      ['waited', `from ${seconds(packet.entered, 9)}, ${milliseconds(track.begun[sent] - packet.entered)}`, ''],
-      ['tx', `begun ${seconds(track.begun[sent], 9)}`, ''], ['arrives', seconds(track.arrives[sent], 9), ''],
+      ['waited', `from ${seconds(packet.entered, 9)}, ${milliseconds(track.begun(sent) - packet.entered)}`, ''],
+      ['tx', `begun ${seconds(track.begun(sent), 9)}`, ''], ['arrives', seconds(track.arrives(sent), 9), ''],
       ['again', packet.again ? 'this segment was sent before' : 'sent for the first time', packet.again ? 'RFC 5681 section 3.2, RFC 6298 section 5.4' : '']];
   }
   linkRows(l) {

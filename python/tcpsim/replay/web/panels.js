@@ -15,8 +15,8 @@ const flowName = (record, f) => record.facts.flows[f].name;
 function arrivals(record, link, flow, sort) {
   const track = record.tracks[link], end = record.times[record.count], found = {times: [], values: []};
   track.sent.forEach((entry, k) => {
-    if (track.flow[entry] !== flow || track.sort[entry] !== sort || track.arrives[k] > end) return;
-    found.times.push(track.arrives[k]); found.values.push(track.number[entry]);
+    if (track.flow[entry] !== flow || track.sort[entry] !== sort || track.arrives(k) > end) return;
+    found.times.push(track.arrives(k)); found.values.push(track.number(entry));
   });
   return found;
 }
@@ -34,8 +34,8 @@ function sent(record, f) {
   const link = record.facts.ways[f][0][0], track = record.tracks[link], all = {times: [], values: []}, again = [];
   track.flow.forEach((flow, entry) => {
     if (flow !== f || track.sort[entry] !== DATA) return;
-    all.times.push(track.entered[entry]); all.values.push(track.number[entry]);
-    if (track.again[entry]) again.push({kind: 'again', time: track.entered[entry], value: track.number[entry], name: `segment ${number(track.number[entry])} is sent again`});
+    all.times.push(track.entered(entry)); all.values.push(track.number(entry));
+    if (track.again[entry]) again.push({kind: 'again', time: track.entered(entry), value: track.number(entry), name: `segment ${number(track.number(entry))} is sent again`});
   });
   return {all, again};
 }
@@ -56,7 +56,7 @@ function spansOf(record, f, place = {}) {
 // When each packet that entered a queue left it: for its link, or dropped at the head.
 function leavings(record, l) {
   const track = record.tracks[l], left = new Float64Array(track.flow.length).fill(Infinity), heads = record.drops.filter(({link, reason}) => link === l && !['full', 'lost'].includes(reason));
-  track.sent.forEach((entry, k) => { left[entry] = track.begun[k]; });
+  track.sent.forEach((entry, k) => { left[entry] = track.begun(k); });
   for (let entry = 0, k = 0; k < heads.length && entry < left.length; entry++) if (left[entry] === Infinity) left[entry] = heads[k++].time;
   return left;
 }
@@ -76,7 +76,7 @@ function stacked(record, l, x) {
     peak = -1;
   };
   for (let entry = 0, out = 0; out < left.length;) {
-    const enters = entry < left.length && track.entered[entry] <= left[out], time = enters ? track.entered[entry] : left[out];
+    const enters = entry < left.length && track.entered(entry) <= left[out], time = enters ? track.entered(entry) : left[out];
     if (time > end) break;
     const next = Math.floor(from + (time - begin) * across), f = track.flow[enters ? entry++ : out++];
     if (next !== column) close(next);
@@ -109,7 +109,7 @@ const PANELS = {
       {curve: record.queueCurve(l), colour: linkColourOf(l), outline: true, name: `queue of ${record.facts.links[l].name}`}]}))},
   delays: {says: 'delay', of: 'links', whole: false, titles: [`${LOOKS.panels.delay}, ms`, 'delay of each packet, ms', 'delay, ms'], lanes: (record, links) => links.map(l => {
     const track = record.tracks[l], of = record.facts.flows.map(() => ({times: [], values: []}));
-    track.sent.forEach((entry, k) => { const one = of[track.flow[entry]]; one.times.push(track.entered[entry]); one.values.push((track.begun[k] - track.entered[entry]) / 1e6); });
+    track.sent.forEach((entry, k) => { const one = of[track.flow[entry]]; one.times.push(track.entered(entry)); one.values.push((track.begun(k) - track.entered(entry)) / 1e6); });
     return {name: record.facts.links[l].name, colour: linkColourOf(l), series: of.map((dots, f) => ({dots, curve: dots, flow: f, colour: colourOf(f),
       name: `delay of packets of ${flowName(record, f)} at ${record.facts.links[l].name}`})).filter(({dots}) => dots.times.length)};
   })},

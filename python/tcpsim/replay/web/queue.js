@@ -41,8 +41,7 @@ class QueueView {
   // The bytes that entered the queue before an entry.
   bytesBefore(entry) {
     const {record, l, sums} = this, track = record.tracks[l];
-    for (let k = sums.length; k <= entry; k++)
-      sums.push(sums[k - 1] + HEADER_BYTES + (track.sort[k - 1] === DATA ? record.facts.flows[track.flow[k - 1]].mss : 0));
+    for (let k = sums.length; k <= entry; k++) sums.push(sums[k - 1] + track.size(k - 1));
     return sums[entry];
   }
   draw() {

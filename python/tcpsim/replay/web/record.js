@@ -1,23 +1,17 @@
 'use strict';
-// The run: the trace's lines, and the state after any number of events. A state is one row of numbers;
-// each event sets some of them. Every SNAPSHOT events, or a row's length where that is more, the whole row is kept.
-// Lines are taken one after another; `close` is called behind the last.
+// The run: the trace's lines, and the state after any number of events. A state is one row of numbers, which a line of the trace
+// changes; every so many events the row is kept, and from there the lines are read again. Of each packet it is kept when it entered a
+// queue and when it was sent, of curves where they change. Bytes of the trace come piece by piece, in a page or in a worker; `close`
+// is called behind the last.
 
-const SNAPSHOT = 256, DATA = 0, ACK = 1, HEADER_BYTES = 40;
+const SNAPSHOT = 1024, DATA = 0, ACK = 1, HEADER_BYTES = 40, LONGER = 2e8;
 const OFFERED = 0, ENTERED = 1, TAKEN = 2, SENT = 3, ARRIVED = 4, BUSY = 5, OF_LINK = 6;
-const UNA = 0, NXT = 1, HIGH = 2, CWND = 3, SSTHRESH = 4, RECOVERY = 5, DUPS = 6, NEXT = 7, OF_FLOW = 8;
-
-// A line's words: `split`, in half the time for lines that are each seen once.
-function wordsOf(line) {
-  const words = [];
-  let at = 0;
-  for (let end = line.indexOf(' '); end >= 0; end = line.indexOf(' ', at)) {
-    words.push(line.slice(at, end));
-    at = end + 1;
-  }
-  words.push(line.slice(at));
-  return words;
-}
+const UNA = 0, NXT = 1, HIGH = 2, CWND = 3, SSTHRESH = 4, RECOVERY = 5, DUPS = 6, NEXT = 7, HIGHEST = 8, WAITS = 9, OF_FLOW = 10;
+const DRAWN = [CWND, SSTHRESH, RECOVERY];       // what of a flow has a curve
+const FREE = 0, START = 1, RTO = 2, DELACK = 3, CAME_DATA = 4, CAME_ACK = 5, WIDTHS = [5, 6, 4, 7, 5, 4];      // with the space behind
+const ROUTER = 0, RECEIVER = 1, SENDER = 2, PHASE = 8;  // of nodes; letters of `phase=ss`
+const SPACE = 32, ZERO = 48, NINE = 57, COLON = 58;
+const [LETTER_A, LETTER_C, LETTER_D, LETTER_E, LETTER_F, LETTER_P, LETTER_R, LETTER_S] = [...'acdefprs'].map(it => it.charCodeAt(0));
 
 // How long a link of this rate sends so many bytes, in ns, rounded up: without BigInt where doubles are exact.
 function timeOnLink(size, rate) {
@@ -26,255 +20,392 @@ function timeOnLink(size, rate) {
   return Number((BigInt(size) * 8000000000n + BigInt(rate) - 1n) / BigInt(rate));
 }
 
-// Packets that entered a link's queue, one entry each, in order, and which of them were sent and when.
+// Packets that entered a link's queue, one entry each, in order, and which of them were sent. When that was is kept as the number of
+// the event; of those from before the record as the moment. A packet's number is kept in segments.
 class Track {
-  constructor() {
-    this.flow = []; this.sort = []; this.number = []; this.entered = []; this.again = [];
-    this.sent = []; this.begun = []; this.arrives = [];
-    this.sentBefore = 0;      // the count of the first that `sent` has
+  constructor(link, flows, base) {
+    Object.assign(this, {link, base, sentBefore: base.arrived, many: 0, gone: 0, times: null});
+    this.mss = flows.map(({mss}) => mss);
+    Object.assign(this, {flow: new Uint8Array(16), sort: new Uint8Array(16), again: new Uint8Array(16), segment: new Uint32Array(16),
+      enteredAt: new Uint32Array(16), sent: new Uint32Array(16), begunAt: new Uint32Array(16)});
+    for (const [flow, sort, number, , , again] of base.under_way) { this.enter(flow, sort, number, again, 0); this.send(this.many - 1, 0); }
+    for (const [flow, sort, number, , again] of base.waiting) this.enter(flow, sort, number, again, 0);
   }
-  enter(packet, time) {
-    this.flow.push(packet.flow); this.sort.push(packet.sort); this.number.push(packet.number);
-    this.entered.push(time); this.again.push(packet.again);
-    return this.flow.length;
+  enter(flow, sort, number, again, at) {
+    const k = this.many;
+    if (k === this.flow.length) this.resize(['flow', 'sort', 'again', 'segment', 'enteredAt'], 2 * k);
+    this.flow[k] = flow; this.sort[k] = sort; this.again[k] = again ? 1 : 0; this.segment[k] = number / this.mss[flow]; this.enteredAt[k] = at;
+    this.many = k + 1;
   }
+  send(entry, at) {
+    const k = this.gone;
+    if (k === this.sent.length) this.resize(['sent', 'begunAt'], 2 * k);
+    this.sent[k] = entry; this.begunAt[k] = at;
+    this.gone = k + 1;
+  }
+  resize(names, length) {
+    for (const name of names) {
+      const more = new this[name].constructor(length);
+      more.set(this[name].length > length ? this[name].subarray(0, length) : this[name]);
+      this[name] = more;
+    }
+  }
+  // Takes away the room behind the last.
+  trim() {
+    this.resize(['flow', 'sort', 'again', 'segment', 'enteredAt'], this.many);
+    this.resize(['sent', 'begunAt'], this.gone);
+  }
+  number(entry) { return this.segment[entry] * this.mss[this.flow[entry]]; }
+  size(entry) { return HEADER_BYTES + (this.sort[entry] === DATA ? this.mss[this.flow[entry]] : 0); }
+  entered(entry) {
+    const {under_way: first, waiting} = this.base;
+    return entry < first.length ? first[entry][6] : entry < first.length + waiting.length ? waiting[entry - first.length][3] :
+      this.times[this.enteredAt[entry]];
+  }
+  begun(k) { return k < this.base.under_way.length ? this.base.under_way[k][3] : this.times[this.begunAt[k]]; }
+  arrives(k) {
+    const {under_way: first} = this.base;
+    return k < first.length ? first[k][4] : this.begun(k) + timeOnLink(this.size(this.sent[k]), this.link.rate) + this.link.delay;
+  }
+}
+
+// Where a number changed, by the number of the event, and to what.
+class Curve {
+  constructor(value) {
+    Object.assign(this, {at: new Column(Uint32Array), values: new Column(Uint32Array)});
+    this.push(0, value);
+  }
+  push(at, value) { this.at.push(at); this.values.push(value); }
+  get last() { return this.values.all[this.values.length - 1]; }
 }
 
 class Record {
   constructor(facts) {
     this.facts = facts; this.lines = new Lines();
-    this.first = facts.first; this.count = 0; this.last = this.first;
-    this.L = facts.links.length;
+    this.first = facts.first; this.count = 0; this.at = this.first;
+    this.L = facts.links.length; this.F = facts.flows.length;
     this.row = new Float64Array(this.L * OF_LINK + facts.flows.length * OF_FLOW);
-    this.tracks = facts.links.map(() => new Track());
-    this.times = [];
-    this.opAt = new Column(Uint32Array);
-    this.slots = new Column(Uint16Array); this.values = new Counts();
-    this.every = Math.max(SNAPSHOT, this.row.length);
-    this.curves = [];         // of some numbers of the row: {times, values}, where they changed
-    this.touched = [];        // links whose queue this event may have changed
-    this.drops = [];          // {event, time, link, flow, sort, number, reason, again}
-    this.timeouts = [];       // event numbers
-    // [event, time] of each flow's start and of each rise of una; without an event where that is before the page.
-    this.moved = facts.base.flows.map(flow => flow.since === null ? [] : [[null, flow.since]]);
-    this.snapshots = [];
-    this.hops = new Map();
-    facts.ways.forEach((ways, flow) => ways.forEach((way, sort) => way.forEach(link =>
-      this.hops.set(this.hopKey(facts.links[link].from, flow, sort), link))));
+    this.every = Math.max(SNAPSHOT, 2 * this.row.length);
+    this.tracks = facts.links.map((link, l) => new Track(link, facts.flows, facts.base.links[l]));
+    this.moments = new Column(Float64Array);
+    this.hops = new Int32Array(2 * facts.nodes.length * facts.flows.length);
+    facts.ways.forEach((ways, flow) => ways.forEach((way, sort) => way.forEach(link => {
+      this.hops[this.hopKey(facts.links[link].from, flow, sort)] = link;
+    })));
     this.endOf = facts.nodes.map(() => -1);
     facts.flows.forEach((flow, f) => { this.endOf[flow.sender] = f; this.endOf[flow.receiver] = f; });
+    this.roles = Uint8Array.from(facts.nodes, ({kind}) => ['router', 'receiver', 'sender'].indexOf(kind));
+    this.own = Uint8Array.from(facts.links, ({own}) => own ? 1 : 0);
+    // Of packets that were dropped: the event, and what `drops` has besides.
+    this.dropped = {at: new Column(Uint32Array), link: new Column(Uint16Array), flow: new Column(Uint8Array), sort: new Column(Uint8Array),
+      again: new Column(Uint8Array), number: new Column(Float64Array), reason: new Column(Uint8Array)};
+    this.reasons = ['lost', 'full', 'codel'];
+    this.timeouts = [];       // event numbers
+    this.stalls = [];
     this.opening();
   }
-  // Takes the next line. `end N` says that the trace is whole.
-  take(line) {
-    if (line.startsWith('end ')) { this.facts.whole = true; return; }
-    this.read(wordsOf(line), this.count);
-    this.count += 1; this.last += 1;
-    if (this.count % this.every === 0) this.snapshots.push(this.row.slice());
-  }
-  // Behind the last line: what the whole trace says, and the state before its first.
-  close() {
-    this.findStalls();
-    this.at = this.first;
-    this.row = this.snapshots[0].slice();
-  }
-  hopKey(node, flow, sort) { return (node * 256 + flow) * 2 + sort; }
+  get last() { return this.first + this.count; }
+  hopKey(node, flow, sort) { return (node * this.F + flow) * 2 + sort; }
   ofLink(link, what) { return link * OF_LINK + what; }
   ofFlow(flow, what) { return this.L * OF_LINK + flow * OF_FLOW + what; }
-  set(slot, value) {
-    this.row[slot] = value; this.slots.push(slot); this.values.push(value);
-    const curve = this.curves[slot];
-    if (curve) { curve.times.push(this.now.time); curve.values.push(value); }
-  }
 
   // The state before the first line.
   opening() {
-    const base = this.facts.base, row = this.row;
-    this.times.push(base.time);
-    this.opAt.push(0);
+    const {base, flows} = this.facts, {row} = this;
+    this.moments.push(base.time);
     base.links.forEach((link, l) => {
-      const track = this.tracks[l];
-      for (const [flow, sort, number, begun, arrives, again, entered] of link.under_way) {
-        track.sent.push(track.enter({flow, sort, number, again}, entered) - 1);
-        track.begun.push(begun); track.arrives.push(arrives);
-      }
-      for (const [flow, sort, number, entered, again] of link.waiting)
-        track.enter({flow, sort, number, again}, entered);
-      track.sentBefore = link.arrived;
       row[this.ofLink(l, OFFERED)] = link.offered;
-      row[this.ofLink(l, ENTERED)] = track.flow.length;
+      row[this.ofLink(l, ENTERED)] = this.tracks[l].many;
       row[this.ofLink(l, TAKEN)] = link.under_way.length;
       row[this.ofLink(l, SENT)] = link.sent;
       row[this.ofLink(l, ARRIVED)] = link.arrived;
       row[this.ofLink(l, BUSY)] = link.busy ? 1 : 0;
     });
-    this.answers = [];        // of each flow's receiver: what it has above next, whether an answer waits
-    base.flows.forEach((flow, f) => {
-      [flow.una, flow.nxt, flow.high, flow.cwnd, flow.ssthresh, flow.recovering ? 1 : 0, flow.dups, flow.next]
-        .forEach((value, what) => { row[this.ofFlow(f, what)] = value; });
-      this.answers.push({above: new Set(flow.above), waits: flow.answer_waits});
-    });
-    this.snapshots.push(row.slice());
-    const begun = value => ({times: [base.time], values: [value]});
-    base.flows.forEach((flow, f) => [CWND, SSTHRESH, RECOVERY].forEach(what => {
-      const slot = this.ofFlow(f, what);
-      this.curves[slot] = begun(row[slot]);
-    }));
-    this.queues = base.links.map(link => begun(link.waiting.length));
+    base.flows.forEach((flow, f) => row.set([flow.una, flow.nxt, flow.high, flow.cwnd, flow.ssthresh, flow.recovering ? 1 : 0, flow.dups,
+      flow.next, Math.max(-1, ...flow.above), flow.answer_waits ? 1 : 0], this.ofFlow(f, 0)));
+    this.snapshots = new Column(Float64Array, 4 * row.length);
+    this.keepRow();
+    this.curves = flows.map((_, f) => DRAWN.map(what => new Curve(row[this.ofFlow(f, what)])));
+    this.queues = base.links.map(link => new Curve(link.waiting.length));
     this.longest = base.links.map(link => link.waiting.length);
+    // Since when each flow's una did not rise: the event, 0 where that is before the record, and the moment.
+    this.movedAt = flows.map(() => 0); this.moved = flows.map(() => 0);
+  }
+  keepRow() {
+    const {snapshots, row} = this;
+    while (snapshots.all.length < snapshots.length + row.length) snapshots.grow();
+    snapshots.all.set(row, snapshots.length);
+    snapshots.length += row.length;
   }
 
-  read(words, k) {
-    const time = +words[1], node = +words[2], kind = words[5];
-    const name = +words[6], facts = this.facts, event = this.first + k + 1;
-    this.times.push(time);
-    this.now = {time, event};
-    this.touched.length = 0;
-    if (kind === 'free') {
-      const state = {sender: 5, receiver: 1, router: 0}[facts.nodes[node].kind];
-      this.set(this.ofLink(name, BUSY), 0);
-      this.takeNext(name, words, 7 + state);
-    } else {
-      const sort = kind === 'data' ? DATA : ACK;
-      let again = false;
-      if (kind === 'data' || kind === 'ack') again = this.arrive(+words[3] - 1);
-      if (facts.nodes[node].kind === 'router') {
-        this.offer(this.hops.get(this.hopKey(node, name, sort)), [+words[7]], name, sort, words, 8, again);
-      } else if (facts.nodes[node].kind === 'sender') this.sender(name, kind, words);
-      else this.receiver(name, kind, words);
-    }
-    this.opAt.push(this.slots.length);
-    for (const l of this.touched) this.noteQueue(l, time);
-  }
-  // The length of a queue, where the event changed it.
-  noteQueue(l, time) {
-    const {times, values} = this.queues[l], length = this.row[this.ofLink(l, ENTERED)] - this.row[this.ofLink(l, TAKEN)];
-    if (length === values[values.length - 1]) return;
-    times.push(time); values.push(length);
-    if (length > this.longest[l]) this.longest[l] = length;
-  }
+  // ---- the lines, as bytes
 
-  // A packet is at its link's end; answers whether it was one sent again.
-  arrive(link) {
-    const slot = this.ofLink(link, ARRIVED), track = this.tracks[link];
-    const entry = track.sent[this.row[slot] - track.sentBefore];
-    this.set(slot, this.row[slot] + 1);
-    return track.again[entry];
-  }
-
-  sender(f, kind, words) {
-    const at = kind === 'ack' ? 8 : 7, flow = this.facts.flows[f], row = this.row;
-    const una = +words[at].slice(4), nxt = +words[at + 1].slice(4), cwnd = +words[at + 2].slice(5), ssthresh = +words[at + 3].slice(9);
-    const recovery = words[at + 4] === 'phase=fr' ? 1 : 0, of = what => row[this.ofFlow(f, what)];
-    const ack = kind === 'ack' ? +words[7] : 0;
-    let numbers = [], dups = of(DUPS);
-    if (kind === 'rto') { numbers = [una]; dups = 0; this.timeouts.push(this.now.event); }
-    else if (kind === 'ack' && ack <= of(UNA) && recovery && !of(RECOVERY)) { numbers = [una]; dups += 1; }
-    else if (kind === 'ack' && ack > of(UNA) && recovery) numbers = nxt > of(NXT) ? [una, of(NXT)] : [una];
-    else {
-      for (let no = Math.max(of(NXT), ack); no < nxt; no += flow.mss) numbers.push(no);
-      if (kind === 'ack') dups = ack > of(UNA) ? 0 : ack === of(UNA) && of(UNA) < of(NXT) ? dups + 1 : dups;
-    }
-    if (una > of(UNA) || kind === 'start') this.moved[f].push([this.now.event, this.now.time]);
-    const high = of(HIGH);
-    const link = this.hops.get(this.hopKey(flow.sender, f, DATA));
-    this.offer(link, numbers, f, DATA, words, at + 5, null, high);
-    const change = (what, value) => { if (of(what) !== value) this.set(this.ofFlow(f, what), value); };
-    change(UNA, una); change(NXT, nxt); change(HIGH, Math.max(high, nxt)); change(CWND, cwnd); change(SSTHRESH, ssthresh);
-    change(RECOVERY, recovery); change(DUPS, dups);
-  }
-
-  receiver(f, kind, words) {
-    const at = kind === 'data' ? 8 : 7, flow = this.facts.flows[f], slot = this.ofFlow(f, NEXT);
-    const seq = kind === 'data' ? +words[7] : null, next = +words[at].slice(5), before = this.row[slot];
-    const answer = this.answers[f];
-    if (next !== before) this.set(slot, next);
-    if (seq === before && !answer.above.size && flow.delack && !answer.waits) { answer.waits = true; return; }
-    if (seq !== null && seq > before) answer.above.add(seq);
-    for (const number of answer.above) if (number < next) answer.above.delete(number);
-    answer.waits = false;
-    this.offer(this.hops.get(this.hopKey(flow.receiver, f, ACK)), [next], f, ACK, words, at + 1, false);
-  }
-
-  // `again` where it is known; a sender's segments are sent again below `high`.
-  offer(link, numbers, flow, sort, words, at, again, high) {
-    this.touched.push(link);
-    for (const number of numbers) {
-      const packet = {flow, sort, number, again: again === null ? number < high : again};
-      this.set(this.ofLink(link, OFFERED), this.row[this.ofLink(link, OFFERED)] + 1);
-      const act = words[at] || '', own = this.facts.links[link].own, [reason, ...whose] = act.slice(5).split(':');
-      if (own && act.startsWith('drop=') && whose.join(':') === `${flow}:${number}`) {
-        this.dropped(link, packet, reason);
-        at += 1;
-      } else if (!own && act.startsWith('drop=') && !act.startsWith('drop=codel') &&
-          act.slice(9) === `:${flow}:${number}`) {
-        this.dropped(link, packet, act.slice(5, 9));
-        at += 1;
-      } else {
-        this.set(this.ofLink(link, ENTERED), this.tracks[link].enter(packet, this.now.time));
-        if (own) at = this.dropHeads(link, words, at);
-        if (!this.row[this.ofLink(link, BUSY)]) at = this.takeNext(link, words, at);
-      }
-    }
-  }
-
-  // What is dropped at the head of a queue: by CoDel, or by a class of Python's with words of its own.
-  dropHeads(link, words, at) {
-    const track = this.tracks[link], taken = this.ofLink(link, TAKEN), {own} = this.facts.links[link];
-    while (at < words.length && words[at].startsWith(own ? 'drop=' : 'drop=codel:')) {
-      const entry = this.row[taken], [reason, flow, number] = words[at].slice(5).split(':');
-      if (own && (entry >= this.row[this.ofLink(link, ENTERED)] || track.flow[entry] !== +flow || track.number[entry] !== +number)) break;
-      this.dropped(link, {flow: track.flow[entry], sort: track.sort[entry], number: track.number[entry],
-        again: track.again[entry]}, reason);
-      this.set(taken, entry + 1);
-      at += 1;
+  // Reads so many lines of a piece from here on, at most; answers where the next one begins. `end N` says that the trace is whole.
+  take(bytes, at, piece, most = Infinity) {
+    for (let left = most; left && at < bytes.length; left--) {
+      if (bytes[at] === LETTER_E) { this.facts.whole = true; return bytes.length; }
+      this.lines.note(this.count, piece, at);
+      at = this.step(bytes, at, true);
+      this.count += 1;
+      if (this.count % this.every === 0) this.keepRow();
     }
     return at;
   }
 
-  takeNext(link, words, at) {
-    this.touched.push(link);
-    const track = this.tracks[link], taken = this.ofLink(link, TAKEN);
-    at = this.dropHeads(link, words, at);
-    if (at >= words.length || this.row[taken] >= this.row[this.ofLink(link, ENTERED)]) return at;
-    const entry = this.row[taken];
-    const size = HEADER_BYTES + (track.sort[entry] === DATA ? this.facts.flows[track.flow[entry]].mss : 0);
-    const {rate, delay} = this.facts.links[link];
-    track.sent.push(entry);
-    track.begun.push(this.now.time);
-    track.arrives.push(this.now.time + timeOnLink(size, rate) + delay);
-    this.set(taken, entry + 1);
-    this.set(this.ofLink(link, SENT), this.row[this.ofLink(link, SENT)] + 1);
-    this.set(this.ofLink(link, BUSY), 1);
-    return at + 1;
+
+  // One line: changes the row, and keeps what is kept of an event if that is wanted. Answers where the next line begins.
+  step(bytes, at, keep) {
+    let time = 0, node = 0, source = 0, byte = 0;
+    while (bytes[at] !== SPACE) at += 1;        // its number
+    while ((byte = bytes[++at]) !== SPACE) time = 10 * time + byte - ZERO;
+    while ((byte = bytes[++at]) !== SPACE) node = 10 * node + byte - ZERO;
+    while ((byte = bytes[++at]) !== SPACE) source = 10 * source + byte - ZERO;
+    while (bytes[++at] !== SPACE);              // which alarm or packet it is
+    this.bytes = bytes; this.cursor = at + 1; this.parsed = -1; this.keep = keep;
+    this.now = this.count + 1;
+    if (keep) this.moments.push(time);
+    const kind = this.kind(), name = this.next();
+    let link;
+    if (kind === FREE) {
+      link = name;
+      this.row[link * OF_LINK + BUSY] = 0;
+      this.passState(this.roles[node]);
+      this.takeNext(link);
+    } else {
+      const packet = kind >= CAME_DATA, again = packet && this.arrive(source - 1), number = packet ? this.next() : 0;
+      if (this.roles[node] === ROUTER) {
+        const sort = kind === CAME_DATA ? DATA : ACK;
+        link = this.hops[this.hopKey(node, name, sort)];
+        this.offer(link, name, sort, number, again);
+      } else link = this.roles[node] === SENDER ? this.sender(name, kind, number, time) : this.receiver(name, kind, number);
+    }
+    if (keep) this.noteQueue(link);
+    return this.over ? this.cursor : bytes.indexOf(NEWLINE, this.cursor) + 1;
+  }
+  // The number at the cursor, which goes on behind the byte that ends it; `over` where that ends the line.
+  next() {
+    const {bytes} = this;
+    let at = this.cursor, value = 0, byte = bytes[at];
+    for (; byte >= ZERO && byte <= NINE; byte = bytes[++at]) value = 10 * value + byte - ZERO;
+    this.cursor = at + 1;
+    this.over = byte === NEWLINE;
+    return value;
+  }
+  kind() {
+    const {bytes, cursor} = this, letter = bytes[cursor], kind = letter === LETTER_F ? FREE : letter === LETTER_A ? CAME_ACK : letter === LETTER_S ? START :
+      letter === LETTER_R ? RTO : bytes[cursor + 1] === LETTER_A ? CAME_DATA : DELACK;
+    this.cursor += WIDTHS[kind];
+    return kind;
+  }
+  // Goes behind the state of a node: of a sender behind `phase=ss`, the only word with a p.
+  passState(role) {
+    if (role === ROUTER || this.over) return;
+    const {bytes} = this;
+    let at = this.cursor;
+    if (role === SENDER) { while (bytes[at] !== LETTER_P) at += 1; at += PHASE; } else while (bytes[at] > SPACE) at += 1;
+    this.over = bytes[at] === NEWLINE;
+    this.cursor = at + 1;
+  }
+  // Reads the act at the cursor, without going on: whether it is a drop, and why, and of which packet.
+  act() {
+    if (this.parsed === this.cursor) return;
+    const {bytes} = this;
+    let at = this.parsed = this.cursor;
+    this.isDrop = bytes[at] === LETTER_D;
+    this.why = at += this.isDrop ? 5 : 3;
+    while (bytes[at] !== COLON) at += 1;
+    this.whyTo = at;
+    let value = 0, byte = bytes[++at];
+    for (; byte !== COLON; byte = bytes[++at]) value = 10 * value + byte - ZERO;
+    this.actFlow = value;
+    value = 0; byte = bytes[++at];
+    for (; byte >= ZERO && byte <= NINE; byte = bytes[++at]) value = 10 * value + byte - ZERO;
+    this.actNumber = value; this.actTo = at + 1; this.actLast = byte === NEWLINE;
+  }
+  pass() { this.cursor = this.actTo; this.over = this.actLast; }
+  isDropOf(flow, number) { return this.isDrop && this.actFlow === flow && this.actNumber === number; }
+
+  // A packet is at its link's end; answers whether it was one sent again.
+  arrive(link) {
+    const slot = link * OF_LINK + ARRIVED, track = this.tracks[link], entry = track.sent[this.row[slot] - track.sentBefore];
+    this.row[slot] += 1;
+    return track.again[entry];
   }
 
-  dropped(link, packet, reason) {
-    this.drops.push({event: this.now.event, time: this.now.time, link, reason, ...packet});
+  // The lines of a sender and of a receiver; both answer the link over which they send.
+  sender(f, kind, ack, time) {
+    const {row, bytes} = this, flow = this.facts.flows[f], base = this.ofFlow(f, 0), before = row[base + UNA], acked = kind === CAME_ACK;
+    this.cursor += 4;
+    const una = this.next();
+    this.cursor += 4;
+    const nxt = this.next();
+    this.cursor += 5;
+    const cwnd = this.next();
+    this.cursor += 9;
+    const ssthresh = this.next(), recovery = bytes[this.cursor + 6] === LETTER_F ? 1 : 0;
+    this.over = bytes[this.cursor + 8] === NEWLINE;
+    this.cursor += 9;
+    const sent = row[base + NXT], high = row[base + HIGH], link = this.hops[this.hopKey(flow.sender, f, DATA)];
+    let dups = row[base + DUPS];
+    if (kind === RTO) {
+      dups = 0;
+      if (this.keep) this.timeouts.push(this.first + this.now);
+      this.offer(link, f, DATA, una, una < high);
+    } else if (acked && ack <= before && recovery && !row[base + RECOVERY]) {
+      dups += 1;
+      this.offer(link, f, DATA, una, una < high);
+    } else if (acked && ack > before && recovery) {
+      this.offer(link, f, DATA, una, una < high);
+      if (nxt > sent) this.offer(link, f, DATA, sent, sent < high);
+    } else {
+      for (let no = Math.max(sent, ack); no < nxt; no += flow.mss) this.offer(link, f, DATA, no, no < high);
+      if (acked) dups = ack > before ? 0 : ack === before && before < sent ? dups + 1 : dups;
+    }
+    if (this.keep) {
+      const [windows, thresholds, recoveries] = this.curves[f];
+      if (una > before || kind === START) this.moves(f, time);
+      if (cwnd !== row[base + CWND]) windows.push(this.now, cwnd);
+      if (ssthresh !== row[base + SSTHRESH]) thresholds.push(this.now, ssthresh);
+      if (recovery !== row[base + RECOVERY]) recoveries.push(this.now, recovery);
+    }
+    row[base + UNA] = una; row[base + NXT] = nxt; row[base + HIGH] = Math.max(high, nxt); row[base + CWND] = cwnd;
+    row[base + SSTHRESH] = ssthresh; row[base + RECOVERY] = recovery; row[base + DUPS] = dups;
+    return link;
+  }
+  receiver(f, kind, number) {
+    const {row} = this, flow = this.facts.flows[f], base = this.ofFlow(f, 0), before = row[base + NEXT], data = kind === CAME_DATA;
+    const link = this.hops[this.hopKey(flow.receiver, f, ACK)];
+    this.cursor += 5;
+    const next = row[base + NEXT] = this.next();
+    if (data && number === before && row[base + HIGHEST] < before && flow.delack && !row[base + WAITS]) { row[base + WAITS] = 1; return link; }
+    if (data && number > row[base + HIGHEST]) row[base + HIGHEST] = number;
+    row[base + WAITS] = 0;
+    this.offer(link, f, ACK, next, 0);
+    return link;
   }
 
-  // Spans of a flow without a new acknowledgement that are longer than this, by the rule of stalls.py: from
-  // the flow's start or a new acknowledgement to the next one, or to the run's end while bytes are left. A start's first
-  // round trip counts where it is so much longer than the empty way takes.
-  findStalls(longer = 2e8) {
-    this.stalls = [];
-    const end = this.facts.whole ? this.facts.end : this.times[this.count];
-    this.facts.flows.forEach((flow, f) => {
-      const moved = this.moved[f], open = this.row[this.ofFlow(f, UNA)] < flow.mss * flow.segments;
-      moved.forEach(([event, from], k) => {
-        const to = k + 1 < moved.length ? moved[k + 1][1] : open ? end : from;
-        const least = event !== null && from === flow.start ? longer + this.emptyRoundTrip(f) : longer;
-        if (event !== null && to - from > least) this.stalls.push({flow: f, event, from, to});
-      });
-    });
-    this.stalls.sort((a, b) => a.event - b.event);
+  offer(link, flow, sort, number, again) {
+    const {row} = this, base = link * OF_LINK, own = this.own[link];
+    row[base + OFFERED] += 1;
+    if (!this.over) {
+      this.act();
+      if (this.isDropOf(flow, number) && (own || this.bytes[this.why] !== LETTER_C)) {
+        if (this.keep) this.drop(link, flow, sort, number, again);
+        this.pass();
+        return;
+      }
+    }
+    if (this.keep) this.tracks[link].enter(flow, sort, number, again, this.now);
+    row[base + ENTERED] += 1;
+    if (own) this.dropHeads(link);
+    if (!row[base + BUSY]) this.takeNext(link);
+  }
+  // What is dropped at the head of a queue: by CoDel, or by a class of Python's with words of its own.
+  dropHeads(link) {
+    const {row} = this, base = link * OF_LINK, track = this.tracks[link], own = this.own[link];
+    while (!this.over) {
+      this.act();
+      const entry = row[base + TAKEN];
+      if (!this.isDrop || !own && this.bytes[this.why] !== LETTER_C) return;
+      if (own && (entry >= row[base + ENTERED] || !this.isDropOf(track.flow[entry], track.number(entry)))) return;
+      if (this.keep) this.drop(link, track.flow[entry], track.sort[entry], track.number(entry), track.again[entry]);
+      row[base + TAKEN] = entry + 1;
+      this.pass();
+    }
+  }
+  takeNext(link) {
+    const {row} = this, base = link * OF_LINK;
+    this.dropHeads(link);
+    if (this.over || row[base + TAKEN] >= row[base + ENTERED]) return;
+    if (this.keep) this.tracks[link].send(row[base + TAKEN], this.now);
+    row[base + TAKEN] += 1; row[base + SENT] += 1; row[base + BUSY] = 1;
+    this.pass();
+  }
+  drop(link, flow, sort, number, again) {
+    const {dropped, reasons} = this, word = String.fromCharCode(...this.bytes.subarray(this.why, this.whyTo));
+    let reason = reasons.indexOf(word);
+    if (reason < 0) reason = reasons.push(word) - 1;
+    dropped.at.push(this.now); dropped.link.push(link); dropped.flow.push(flow); dropped.sort.push(sort);
+    dropped.again.push(again); dropped.number.push(number); dropped.reason.push(reason);
+  }
+  // The length of a queue, where the event changed it.
+  noteQueue(l) {
+    const queue = this.queues[l], length = this.row[l * OF_LINK + ENTERED] - this.row[l * OF_LINK + TAKEN];
+    if (length === queue.last) return;
+    queue.push(this.now, length);
+    if (length > this.longest[l]) this.longest[l] = length;
   }
 
+  // ---- stalls
+
+  // A start or a new acknowledgement. Spans of a flow without one that are longer than LONGER are stalls, by the rule of stalls.py: from
+  // the flow's start or a new acknowledgement to the next one, or to the run's end while bytes are left. A start's first round trip
+  // counts where it is so much longer than the empty way takes.
+  moves(f, time) {
+    this.spanTo(f, time);
+    this.movedAt[f] = this.now; this.moved[f] = time;
+  }
+  spanTo(f, to) {
+    const from = this.moved[f], at = this.movedAt[f];
+    if (!at || to - from <= LONGER) return;
+    if (from !== this.facts.flows[f].start || to - from > LONGER + this.emptyRoundTrip(f)) this.stalls.push({flow: f, event: this.first + at, from, to});
+  }
   // What a segment and its acknowledgement take where no packet waits, in nanoseconds.
   emptyRoundTrip(f) {
     const {mss} = this.facts.flows[f];
-    return d3.sum(this.facts.ways[f], (way, sort) => d3.sum(way, l =>
-      this.facts.links[l].delay + Math.ceil((HEADER_BYTES + (sort === DATA ? mss : 0)) * 8e9 / this.facts.links[l].rate)));
+    let sum = 0;
+    this.facts.ways[f].forEach((way, sort) => way.forEach(l => {
+      const {delay, rate} = this.facts.links[l];
+      sum += delay + Math.ceil((HEADER_BYTES + (sort === DATA ? mss : 0)) * 8e9 / rate);
+    }));
+    return sum;
+  }
+
+  // ---- what is kept, whole
+
+  // Behind the last line: what the whole trace says.
+  close() {
+    const end = this.facts.whole ? this.facts.end : this.moments.all[this.count];
+    this.facts.flows.forEach((flow, f) => { if (this.row[this.ofFlow(f, UNA)] < flow.mss * flow.segments) this.spanTo(f, end); });
+    this.stalls.sort((a, b) => a.event - b.event);
+    for (const column of this.columns()) column.trim();
+    for (const track of this.tracks) track.trim();
+    this.settle();
+  }
+  columns() {
+    return [this.moments, this.snapshots, this.lines.pieceOf, this.lines.startOf, ...Object.values(this.dropped),
+      ...[...this.curves.flat(), ...this.queues].flatMap(({at, values}) => [at, values])];
+  }
+  // All of it, as a worker hands it over with its numbers, and as a page takes it.
+  handed() {
+    const {count, longest, reasons, timeouts, stalls, facts: {whole}} = this;
+    const columns = this.columns().map(({all}) => all);
+    const tracks = this.tracks.map(({flow, sort, again, segment, enteredAt, sent, begunAt, many, gone}) =>
+      ({flow, sort, again, segment, enteredAt, sent, begunAt, many, gone}));
+    return {count, longest, reasons, timeouts, stalls, whole, columns, tracks};
+  }
+  adopt({columns, tracks, whole, ...rest}) {
+    Object.assign(this, rest);
+    this.facts.whole = whole;
+    this.columns().forEach((column, k) => Object.assign(column, {all: columns[k], length: columns[k].length}));
+    this.tracks.forEach((track, l) => Object.assign(track, tracks[l]));
+    this.settle();
+  }
+  // The state before the first line, and moments by the numbers of events.
+  settle() {
+    this.times = this.moments.all;
+    for (const track of this.tracks) track.times = this.times;
+    this.at = this.first;
+    this.row = this.snapshots.all.slice(0, this.row.length);
+  }
+  // [{event, time, link, flow, sort, number, reason, again}], made when they are first asked for.
+  get drops() {
+    if (!this.made) {
+      const {at, link, flow, sort, again, number, reason} = this.dropped;
+      this.made = Array.from(at.all, (event, k) => ({event: this.first + event, time: this.times[event], link: link.all[k], flow: flow.all[k],
+        sort: sort.all[k], number: number.all[k], reason: this.reasons[reason.all[k]], again: again.all[k] === 1}));
+    }
+    return this.made;
   }
 
   // How many events, counted from the run's first, lie before a moment: where `until T` stops.
@@ -292,16 +423,19 @@ class Record {
   // Makes `row` the state after `event` events.
   go(event) {
     event = Math.min(this.last, Math.max(this.first, Math.round(event)));
-    const k = event - this.first, now = this.at - this.first;
-    if (event < this.at || k - now > this.every) {
-      const snapshot = Math.floor(k / this.every);
-      if (event < this.at || snapshot * this.every > now) {
-        this.row.set(this.snapshots[snapshot]);
-        this.at = this.first + snapshot * this.every;
+    const k = event - this.first, size = this.row.length, snapshot = Math.floor(k / this.every);
+    let now = this.at - this.first;
+    if (event < this.at || snapshot * this.every > now) {
+      this.row.set(this.snapshots.all.subarray(snapshot * size, (snapshot + 1) * size));
+      now = snapshot * this.every;
+    }
+    if (now < k) {
+      const {pieces} = this.lines;
+      for (let [piece, at] = this.lines.place(now); now < k; now++) {
+        if (at === pieces[piece].length) { piece += 1; at = 0; }
+        at = this.step(pieces[piece], at, false);
       }
     }
-    const end = this.opAt.at(k);
-    for (let op = this.opAt.at(this.at - this.first); op < end; op++) this.row[this.slots.at(op)] = this.values.at(op);
     this.at = event;
   }
 
@@ -316,11 +450,15 @@ class Record {
       length: of(ENTERED) - of(TAKEN), firstUnderWay: of(ARRIVED) - before, endUnderWay: of(SENT) - before};
   }
   packet(l, entry) {
-    const t = this.tracks[l];
-    return {flow: t.flow[entry], sort: t.sort[entry], number: t.number[entry], entered: t.entered[entry],
-      again: t.again[entry]};
+    const track = this.tracks[l];
+    return {flow: track.flow[entry], sort: track.sort[entry], number: track.number(entry), entered: track.entered(entry),
+      again: track.again[entry] === 1};
   }
-  // [time, value] where cwnd or ssthresh of a flow changed, over the whole page; `slot` is of the row.
-  curve(slot) { return this.curves[slot]; }
-  queueCurve(l) { return this.queues[l]; }
+  // [time, value] where a flow's cwnd, ssthresh or recovery changed, over the whole page; `slot` is of the row.
+  curve(slot) {
+    const f = Math.floor((slot - this.L * OF_LINK) / OF_FLOW);
+    return this.drawn(this.curves[f][DRAWN.indexOf(slot - this.ofFlow(f, 0))]);
+  }
+  queueCurve(l) { return this.drawn(this.queues[l]); }
+  drawn({at, values}) { return {times: Array.from(at.all, event => this.times[event]), values: Array.from(values.all)}; }
 }

@@ -1,47 +1,41 @@
 'use strict';
-// A trace as it comes, piece by piece: its bytes, where each line begins, and a driver that reads it in turns.
+// A trace as it comes, piece by piece: its bytes, where lines begin, and a driver that reads it in turns.
 
-// How long the page reads before it lets the browser draw and answer, in milliseconds.
-const TURN = 24;
-const PART = 1 << 16, IN_PART = PART - 1;
+// How long the page reads before it lets the browser draw and answer, in milliseconds, and how many lines between two looks.
+const TURN = 24, LINES_AT_ONCE = 256;
 const NEWLINE = 10;
+const BLOCK = 64;                       // the place of one line in so many is kept
 
-// Numbers of one typed array's kind that grow at the end, in parts, so that none is ever copied.
+// Numbers of one typed array's kind that grow at the end.
 class Column {
-  constructor(Kind) { Object.assign(this, {Kind, parts: [], part: null, length: 0}); }
+  constructor(Kind, room = 64) { Object.assign(this, {all: new Kind(room), length: 0}); }
   push(value) {
-    const at = this.length & IN_PART;
-    if (!at) this.parts.push(this.part = new this.Kind(PART));
-    this.part[at] = value;
-    this.length += 1;
+    if (this.length === this.all.length) this.grow();
+    this.all[this.length++] = value;
   }
-  at(k) { return this.parts[k >>> 16][k & IN_PART]; }
+  grow() {
+    const more = new this.all.constructor(2 * this.all.length);
+    more.set(this.all);
+    this.all = more;
+  }
+  // Takes away the room behind the last number; answers all of them.
+  trim() { return this.all = this.all.slice(0, this.length); }
 }
 
-// Whole numbers from 0 on, in four bytes each; those that have no room there stand aside.
-const FULL = 0xffffffff;
-class Counts extends Column {
-  constructor() { super(Uint32Array); this.aside = new Map(); }
-  push(value) {
-    if (value >= FULL) this.aside.set(this.length, value);
-    super.push(value < FULL ? value : FULL);
-  }
-  at(k) {
-    const value = this.parts[k >>> 16][k & IN_PART];
-    return value === FULL ? this.aside.get(k) : value;
-  }
-}
-
-// The lines of a trace, kept as the bytes that came.
+// The lines of a trace, kept as the bytes that came, in pieces of whole lines.
 class Lines {
   constructor() {
-    Object.assign(this, {pieces: [], firsts: [], starts: new Column(Uint32Array), rest: new Uint8Array(0), bytes: 0});
+    // Of one line in BLOCK in which piece it begins, and where there.
+    Object.assign(this, {pieces: [], pieceOf: new Column(Uint32Array), startOf: new Column(Uint32Array), rest: new Uint8Array(0), bytes: 0});
     this.letters = new TextDecoder('latin1');
   }
-  get length() { return this.starts.length; }
-
-  // Keeps a piece; answers the lines that it ends, without their newlines.
-  add(piece) {
+  // Keeps a piece of whole lines.
+  keep(bytes) {
+    this.pieces.push(bytes);
+    this.bytes += bytes.length;
+  }
+  // The lines that a piece ends, with what was left of the one before.
+  whole(piece) {
     let bytes = piece;
     if (this.rest.length) {
       bytes = new Uint8Array(this.rest.length + piece.length);
@@ -50,29 +44,27 @@ class Lines {
     }
     const end = bytes.lastIndexOf(NEWLINE) + 1;
     this.rest = bytes.slice(end);
-    if (!end) return [];
-    const lines = this.letters.decode(bytes.subarray(0, end)).split('\n');
-    lines.pop();
-    this.pieces.push(bytes.length - end > end ? bytes.slice(0, end) : bytes.subarray(0, end));
-    this.firsts.push(this.length);
-    this.bytes += end;
-    let at = 0;
-    for (const line of lines) { this.starts.push(at); at += line.length + 1; }
-    return lines;
+    return bytes.length - end > end ? bytes.slice(0, end) : bytes.subarray(0, end);
   }
-  // A trace that was cut: what came of a last line is none.
-  forgetRest() { this.rest = new Uint8Array(0); }
-  // The last line, where no newline ends it.
-  close() { return this.rest.length ? this.add(Uint8Array.of(NEWLINE)) : []; }
-
-  text(k) {
-    let low = 0, high = this.firsts.length;
-    while (high - low > 1) {
-      const middle = (low + high) >> 1;
-      if (this.firsts[middle] <= k) low = middle; else high = middle;
+  // A line begins here, in a piece of this number.
+  note(k, piece, at) {
+    if (k % BLOCK) return;
+    this.pieceOf.push(piece);
+    this.startOf.push(at);
+  }
+  // Where a line begins: [the number of its piece, the place in it].
+  place(k) {
+    const block = Math.floor(k / BLOCK);
+    let piece = this.pieceOf.all[block], at = this.startOf.all[block];
+    for (let left = k % BLOCK; left; left--) {
+      at = this.pieces[piece].indexOf(NEWLINE, at) + 1;
+      if (at === this.pieces[piece].length) { piece += 1; at = 0; }
     }
-    const piece = this.pieces[low], start = this.starts.at(k);
-    return this.letters.decode(piece.subarray(start, piece.indexOf(NEWLINE, start)));
+    return [piece, at];
+  }
+  text(k) {
+    const [piece, at] = this.place(k), bytes = this.pieces[piece];
+    return this.letters.decode(bytes.subarray(at, bytes.indexOf(NEWLINE, at)));
   }
 }
 
@@ -92,23 +84,37 @@ function pause() {
   });
 }
 
-// Reads the pieces of a trace into a record, in turns; `told` is called between turns. Where `wanted` says no, it stops.
+// Reads the pieces of a trace into a record, in turns; `told` is called between turns. Where `wanted` says no, it stops. What a worker
+// reads is kept, and behind it comes what was read; of a run that was ended it is read here.
 async function fill(record, pieces, told = () => {}, wanted = () => true) {
+  const {lines} = record;
   let begun = performance.now();
-  const take = async lines => {
-    for (let k = 0; k < lines.length; k++) {
-      record.take(lines[k]);
-      if (k % 32 || performance.now() - begun < TURN) continue;
-      told(record);
+  const read = async piece => {
+    const bytes = lines.pieces[piece];
+    for (let at = 0; at < bytes.length && wanted();) {
+      at = record.take(bytes, at, piece, LINES_AT_ONCE);
+      if (performance.now() - begun < TURN) continue;
+      told(record.count, record.moments.all[record.count]);
       await pause();
-      if (!wanted()) return;
       begun = performance.now();
     }
   };
+  const add = async bytes => {
+    if (!bytes.length) return;
+    lines.keep(bytes);
+    if (!pieces.reached) await read(lines.pieces.length - 1);
+  };
   for await (const piece of pieces) {
-    await take(record.lines.add(piece));
+    await add(pieces.reached ? piece : lines.whole(piece));
+    if (pieces.reached) { told(...pieces.reached); [record.count] = pieces.reached; }
     if (!wanted()) return;
   }
-  await take(record.lines.close());
-  record.close();
+  if (pieces.reached) {
+    const ended = await pieces.ended;
+    if (ended.why === 'long') return;
+    if (ended.read) { record.adopt(ended.read); return; }
+    record.count = 0;
+    for (let k = 0; k < lines.pieces.length; k++) await read(k);
+  } else if (lines.rest.length) await add(lines.whole(Uint8Array.of(NEWLINE)));
+  if (wanted()) record.close();
 }
