@@ -27,6 +27,7 @@ MADE = os.path.join(TOP, 'out', 'page', 'tcpsim.html')
 # What is wanted: seconds of the first view and of the module, times the native seconds, seconds of a freeze, bytes an event beside the
 # trace, which is of runs with so many events.
 FIRST_VIEW, MODULE, FIGURES, RUN, FREEZE, MEMORY, MANY = 1.0, 4.0, 4, 6, 0.05, 24, 100_000
+STEPS, STEP = 200, 0.1      # steps of a number that is moved, and seconds of a step, at the 95th percentile
 AFTER = 3               # seconds in which a worker is gone that was ended
 TASKS = '''window.longest = 0;
 new PerformanceObserver(list => { for (const task of list.getEntries()) longest = Math.max(longest, task.duration); }).observe({type: 'longtask'});'''
@@ -48,6 +49,21 @@ SHOW = '''(async text => {
   await simulator.start();
   await new Promise(done => setTimeout(done, 500));
   return [simulator.page ? simulator.page.record.count : 0, longest / 1000];
+})'''
+
+
+# From the key until what it changes is drawn.
+MOVE = '''(async steps => {
+  const {box} = simulator.editor, line = simulator.editor.text.split('\\n').findIndex(it => it.startsWith('link a ')), took = [];
+  for (let k = 0; k < steps; k++) {
+    const begun = performance.now(), before = document.documentElement.dataset.explored;
+    box.setCursor({line, ch: box.getLine(line).length});
+    simulator.drag.key(-1);
+    while (document.documentElement.dataset.explored === before) await new Promise(done => setTimeout(done, 1));
+    await new Promise(done => requestAnimationFrame(() => requestAnimationFrame(done)));
+    took.push(performance.now() - begun);
+  }
+  return took.sort((a, b) => a - b);
 })'''
 
 
@@ -122,6 +138,21 @@ def measured(path, rounds):
     return min(first), min(ready), rows, verdict
 
 
+def moved(path):
+    """Of both browsers the seconds of the steps of a queue of bufferbloat, from the least to the greatest."""
+    for kind in (browsers.Chromium, browsers.Firefox):
+        with tempfile.TemporaryDirectory() as folder:
+            browser = kind(folder)
+            browser.size(1400, 900)
+            browser.open(f'file://{path}')
+            browser.wait('document.documentElement.dataset.ready')
+            browser.value('simulator.openExample("bufferbloat")')
+            browser.wait('document.documentElement.dataset.judged === "0"')
+            browser.value('simulator.start()')
+            yield kind.__name__, [took / 1000 for took in browser.json(f'({MOVE})({STEPS})')]
+            browser.close()
+
+
 def judged(value, most, text):
     return text if value <= most else f'**{text}**'
 
@@ -152,6 +183,10 @@ def written(path, rounds):
         (name, judged(longest, FREEZE, f'{1000 * longest:.0f}'), judged(beside, MEMORY, f'{beside:.0f}') if events > MANY else '-')
         for name, events, _, _, longest, beside in rows))
     yield f'The bounds are {1000 * FREEZE:.0f} ms, and {MEMORY} bytes an event where there are more than {MANY:,}.'
+    yield ''
+    yield from table((f'A queue of bufferbloat is moved, {STEPS} steps', 'Median, ms', '95th percentile, ms', 'At most'), (
+        (name, f'{1000 * took[len(took) // 2]:.0f}', judged(took[len(took) * 95 // 100], STEP, f'{1000 * took[len(took) * 95 // 100]:.0f}'), f'{1000 * STEP:.0f}')
+        for name, took in moved(path)))
 
 
 def main():

@@ -177,8 +177,14 @@ class Chromium(Browser):
         for what in ('mousePressed', 'mouseReleased'):
             self.call('Input.dispatchMouseEvent', type=what, x=x, y=y, button='left', clickCount=1)
 
+    def mouse(self, what, x, y):
+        """Moves the mouse to a place, with its button as it is; `what` is moved, pressed or released."""
+        self.held = what == 'pressed' or what == 'moved' and getattr(self, 'held', False)
+        self.call('Input.dispatchMouseEvent', type=f'mouse{what.capitalize()}', x=x, y=y, button='left' if self.held or what == 'released' else 'none',
+                  buttons=int(self.held), clickCount=int(what != 'moved'))
+
     def press(self, key, modifiers=0):
-        """Presses a key; `modifiers` is 2 with Ctrl, 8 with Shift."""
+        """Presses a key; `modifiers` is 1 with Alt, 2 with Ctrl, 8 with Shift."""
         codes = {'Enter': 13, 'Backspace': 8, 'Delete': 46, 'End': 35, 'Home': 36, 'Tab': 9, 'Escape': 27, 'ArrowLeft': 37, 'ArrowUp': 38,
                  'ArrowRight': 39, 'ArrowDown': 40, 'PageUp': 33, 'PageDown': 34, ' ': 32}
         more = {'text': '\r' if key == 'Enter' else key} if (len(key) == 1 or key == 'Enter') and not modifiers else {}
@@ -246,13 +252,19 @@ class Firefox(Browser):
         self._act('pointer', [{'type': 'pointerMove', 'x': x, 'y': y}, {'type': 'pointerDown', 'button': 0},
                               {'type': 'pointerUp', 'button': 0}], parameters={'pointerType': 'mouse'})
 
+    def mouse(self, what, x, y):
+        """Moves the mouse to a place, with its button as it is; `what` is moved, pressed or released."""
+        button = {'pressed': 'pointerDown', 'released': 'pointerUp'}.get(what)
+        self._act('pointer', [{'type': 'pointerMove', 'x': int(x), 'y': int(y)}, *([{'type': button, 'button': 0}] if button else [])],
+                  parameters={'pointerType': 'mouse'})
+
     def press(self, key, modifiers=0):
-        """Presses a key; `modifiers` is 2 with Ctrl, 8 with Shift."""
+        """Presses a key; `modifiers` is 1 with Alt, 2 with Ctrl, 8 with Shift."""
         value = {'Enter': '\ue007', 'Backspace': '\ue003', 'Delete': '\ue017', 'End': '\ue010', 'Home': '\ue011', 'Tab': '\ue004',
                  'Escape': '\ue00c', 'ArrowRight': '\ue014', 'ArrowLeft': '\ue012', 'ArrowUp': '\ue013', 'ArrowDown': '\ue015',
                  'PageUp': '\ue00e', 'PageDown': '\ue00f'}.get(key, key)
         pair = [{'type': 'keyDown', 'value': value}, {'type': 'keyUp', 'value': value}]
-        held = '\ue008' if modifiers == 8 else '\ue009'
+        held = {1: '\ue00a', 8: '\ue008'}.get(modifiers, '\ue009')
         self._act('key', [{'type': 'keyDown', 'value': held}, *pair, {'type': 'keyUp', 'value': held}] if modifiers else pair)
 
     def type(self, text):

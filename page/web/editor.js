@@ -101,7 +101,7 @@ class Editor {
     });
     this.box.on('change', (box, {origin}) => {
       this.edited = origin !== 'setValue';
-      this.changed();
+      this.changed(origin);
       clearTimeout(this.timer);
       this.timer = setTimeout(() => this.judge(), JUDGE_AFTER);
     });

@@ -4,6 +4,7 @@
 const byId = id => document.getElementById(id);
 const dataOf = id => JSON.parse(byId(id).textContent);
 const LAY_AFTER = 60, NOTE_AFTER = 300;         // ms after the last change of size; of what the address says
+const AT_ONCE = 30000, LATE = 100;              // events of a run that is shown while a hand moves; ms after which it is ended for the next
 // The tabs: a name, as the address has it, what it says, the elements in its panel where simulator.html has none, and what is done
 // once it is shown.
 const TABS = [
@@ -27,7 +28,8 @@ class Simulator {
     this.examples = dataOf('examples');
     this.lessons = new Lessons(byId('lesson'), dataOf('lessons'), name => this.openExample(name), event => this.goFromLesson(event));
     this.editor = new Editor(byId('editor'), dataOf('grammar'), null);
-    this.editor.changed = () => this.note();
+    this.editor.changed = origin => { this.note(); if (this.explored && /^(undo|redo)$/.test(origin)) this.explore().then(() => this.rest()); };
+    this.drag = new Drag(byId('editor'), this.editor.box, dataOf('templates').ranges, said => this.explore(said), () => this.rest());
     this.title = 'scenario';
     this.typed = [];                    // at the debugger's prompt
     this.templates = new TemplateForm(byId('template-dialog'), dataOf('templates'), (text, name) => this.openText(text, name));
@@ -223,6 +225,7 @@ class Simulator {
   // Runs the scenario: its trace, and its figures beside it. Where it `plays`, the net moves from its first event on.
   async start({trace = true, most = this.mostKept, plays = false} = {}) {
     const text = this.editor.text, input = toBytes(text), title = this.title;
+    this.endExploring();
     this.stop();
     this.clear();
     const mine = this.run = {text, title, begun: performance.now()};
@@ -306,6 +309,7 @@ class Simulator {
   // Ends what runs, of which nothing is shown: the scenario is another.
   endRun() {
     this.wanted = null;
+    this.endExploring();
     if (byId('stop').disabled) return;
     this.stop();
     this.run = {...this.run};
@@ -318,6 +322,66 @@ class Simulator {
     if (run.trace) run.trace.stop();
     this.enable(false);
     this.say('ended');
+  }
+
+  // ---- while a hand moves a number
+
+  // Runs the text as it is now, and shows it in the place of the run before. Where another comes meanwhile, a run that is late is ended.
+  async explore(said) {
+    if (!this.engine) return;
+    this.explored = said || this.explored;
+    this.again = true;
+    if (this.exploring) {
+      if (performance.now() - this.exploring.begun > LATE) this.exploring.end();
+      return;
+    }
+    if (!byId('stop').disabled) { this.stop(); this.run = {...this.run}; }
+    while (this.again) {
+      this.again = false;
+      await this.exploreOnce();
+    }
+    this.exploring = null;
+  }
+  endExploring() {
+    this.again = this.isLong = false;
+    if (this.exploring) this.exploring.end();
+    this.exploring = null;
+  }
+  // Figures and trace, side by side; of a long run the figures alone.
+  async exploreOnce() {
+    const text = this.editor.text, input = toBytes(text), {title, mostPages: pages} = this;
+    const figures = this.engine.start(['figures'], input, {pages}), trace = this.engine.start(['run'], input, {most: AT_ONCE, pages, read: true});
+    const mine = this.exploring = {text, title, begun: performance.now(), end: () => { figures.stop(); trace.stop(); }};
+    const parts = [], counting = (async () => { for await (const piece of figures.pieces) parts.push(piece); return figures.ended; })();
+    let record = null;
+    if (await trace.pieces.begun) {
+      record = new Record(factsOf(text, title));
+      await fill(record, trace.pieces);
+    }
+    const read = await trace.ended, counted = await counting;
+    this.isLong = read.why === 'long';
+    if (counted.why || counted.status) {
+      if (counted.why !== 'ended') this.say(`${this.explored}: ${this.reason(counted)}`);
+      return;
+    }
+    if (this.exploring !== mine) return;        // another scenario was opened, or is run
+    const run = this.run = {text, title, begun: mine.begun, csv: await new Blob(parts).text(), record: this.isLong || read.why || read.status ? null : record};
+    if (run.record) this.replaceRun(run.record);
+    this.drawFigures(run);
+    byId('save-figures').disabled = false;
+    this.say(`${this.explored}${this.isLong ? ': figures alone, until the hand rests' : ''}`);
+    document.documentElement.dataset.explored = +(document.documentElement.dataset.explored || 0) + 1;
+  }
+  // Another run of the same net stands where this one does, at the same moment.
+  replaceRun(record) {
+    const names = ({nodes, links, flows}) => [nodes, links, flows].map(ones => ones.map(({name}) => name).join(' ')).join('\n');
+    if (!this.page || names(this.page.facts) !== names(record.facts)) { this.showRun(record, this.title); return; }
+    this.page.replace(record);
+  }
+  // The hand rests: what follows from the whole trace is of the last run.
+  async rest() {
+    while (this.exploring) await new Promise(done => setTimeout(done, LATE));
+    if (this.isLong) { this.isLong = false; await this.start(); } else if (this.run && this.run.record && this.page) this.showParts(this.run.record);
   }
 
   // What can be compared: [value, name, text] each.
@@ -353,10 +417,16 @@ class Simulator {
     this.page = window.page = new Page(record, {told: () => this.note(), causes: 'the tab stalls says why'});
     this.showPanels();
     this.lecture.arrange();
-    this.list = new TraceList(byId('all-lines'), record, event => this.goTo(event));
-    byId('save-trace').disabled = false;
+    this.showParts(record);
     // Where all stands below each other, the run is brought into view.
     if (document.documentElement.dataset.ready && isNarrow()) byId('run-side').scrollIntoView();
+  }
+  // What is in the other tabs.
+  showParts(record) {
+    for (const part of [this.list, this.stalls, this.prompt]) if (part) part.end();
+    for (const id of ['all-lines', 'stall-list', 'debugger']) byId(id).textContent = '';
+    this.list = new TraceList(byId('all-lines'), record, event => this.goTo(event));
+    byId('save-trace').disabled = false;
     if (!this.engine) return;
     this.stalls = new StallList(byId('stall-list'), this.engine, this.run.text, record, stall => this.goToStall(stall));
     this.prompt = new Prompt(byId('debugger'), this.engine, this.run.text, {facts: record.facts, go: event => this.goTo(event), history: this.typed});

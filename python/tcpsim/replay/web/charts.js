@@ -50,8 +50,7 @@ class Chart {
     const box = svg.node().getBoundingClientRect();
     this.wide = Math.max(240, box.width || CHART.wide); this.tall = Math.max(80, box.height || CHART.tall);
     this.svg = svg.attr('viewBox', `0 0 ${this.wide} ${this.tall}`).attr('preserveAspectRatio', 'none');
-    const begin = record.times[0], end = record.times[record.count];
-    this.x = d3.scale.linear().domain([begin, Math.max(end, begin + 1)]);
+    this.x = d3.scale.linear().domain(this.span());
     this.title = this.svg.append('text').attr('class', 'title');
     this.axes = this.svg.append('g');
     this.under = this.svg.append('g').attr('class', 'axis');
@@ -73,6 +72,19 @@ class Chart {
     this.catch = this.svg.append('rect').attr('class', 'catch').attr('y', this.top)
       .attr('height', this.tall - this.top - this.bottom).on('click', () => this.go(this.x.invert(d3.mouse(this.svg.node())[0])));
     this.layTime(CHART.left);
+  }
+  // From the run's begin to its last event.
+  span() {
+    const {times, count} = this.record;
+    return [times[0], Math.max(times[count], times[0] + 1)];
+  }
+  // Another run takes this one's place.
+  replace(record) {
+    this.record = record;
+    const span = this.span();
+    if (this.x.domain().join() === span.join()) return;
+    this.x.domain(span);
+    this.layTime(this.leftOf);
   }
   // The title as high as its letters are, and what is below it further down.
   layTitle(titles) {
@@ -118,7 +130,7 @@ class Chart {
     const kept = room ? lanes : [this.together(lanes)];
     const tops = kept.map(({series}) => Math.max(0, ...series.filter(s => !s.thin).map(s => s.most === undefined ? greatestOf(s.curve.values) : s.most)) || 1);
     const greatest = Math.max(...tops), lane = height / Math.max(1, kept.length);
-    for (const group of [this.axes, this.bands, this.curves, this.marks, this.names, this.key]) group.selectAll('*').remove();
+    for (const group of [this.axes, this.bands, this.curves, this.marks, this.names]) group.selectAll('*').remove();
     this.lanes = kept.map((one, k) => {
       const from = this.top + lane * k + (k ? LANE_GAP : 0), to = this.top + lane * (k + 1), most = tops[k] * OWN_SCALE < greatest ? tops[k] : greatest;
       return {...one, from, to, y: d3.scale.linear().range([to, from]).domain([0, most * 1.1])};
@@ -191,6 +203,10 @@ class Chart {
   }
   // What bands and marks mean, beside the title, as far as there is room.
   drawKey(key) {
+    const words = JSON.stringify(key);
+    if (words === this.keyed) return;           // as it was
+    this.keyed = words;
+    this.key.selectAll('*').remove();
     let x = this.wide - CHART.right;
     const least = 4 + this.title.node().getComputedTextLength() + 12, y = this.top - 5;
     for (const [kind, words, colour] of key) {

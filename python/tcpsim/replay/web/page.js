@@ -52,6 +52,16 @@ class Page {
     this.measure();
     this.show();
   }
+  // Another run of the same net takes this one's place, at the same moment; the curves before it lie behind its own.
+  replace(record) {
+    this.play(false);
+    Object.assign(this, {record, facts: record.facts, picked: null});
+    this.sayLeft();
+    this.makeNet(this.folds);
+    this.panels.replace(record);
+    this.measure();
+    this.goTo(Math.min(this.time, record.times[record.count]));
+  }
   fold() {
     this.makeNet(!this.net.folded);
     this.show();

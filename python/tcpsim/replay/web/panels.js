@@ -2,6 +2,7 @@
 // What the panels below the net show of a run: each is a row of PANELS, which makes the lanes of a chart of the flows or links that
 // are ticked. Titles and words of keys are those of tcpsim-plot, by looks.py.
 
+const BEFORE = '5 4';                    // the dash of curves that were before
 const LITTLE_OF_LONGEST = 0.1;          // a queue that is shorter than this part of the longest is not ticked at first
 const LEAST_WIDE = 308, LEAST_TALL = 130;     // pixels of a panel, with the space beside it
 const MOST_TICKED = {flows: 4, links: 2}, MOST_NAMES = 6;
@@ -123,6 +124,13 @@ const PANELS = {
 };
 
 // The panels of a page: which are shown, which flows and links are ticked, and their charts.
+// The curves of a run that is no more, as far as the axis of time goes.
+function dashed(series, x) {
+  const end = x.domain()[1], upTo = ({times, values}) => { const k = d3.bisectRight(times, end); return {times: times.slice(0, k), values: values.slice(0, k)}; };
+  return series.filter(({dots, area, thin}) => !dots && !area && !thin)
+    .map(one => ({...one, curve: upTo(one.curve), dash: BEFORE, thin: true, outline: false, name: `${one.name}, before`}));
+}
+
 class Panels {
   // `go` is given a moment that is clicked.
   constructor(record, go) {
@@ -211,11 +219,19 @@ class Panels {
     this.draw('flows');
     this.draw('links');
   }
+  // Another run of the same net: the curves of the one before lie behind, dashed.
+  replace(record) {
+    Object.assign(this, {before: this.record, record});
+    for (const chart of Object.values(this.charts)) chart.replace(record);
+    this.draw('flows');
+    this.draw('links');
+  }
   // Draws the panels of flows, or those of links, anew.
   draw(of) {
     for (const [name, chart] of Object.entries(this.charts)) {
       if (PANELS[name].of !== of) continue;
       const lanes = PANELS[name].lanes(this.record, this.ticked[of](), chart.x);
+      if (this.before) PANELS[name].lanes(this.before, this.ticked[of](), chart.x).forEach((lane, k) => lanes[k].series.unshift(...dashed(lane.series, chart.x)));
       chart.show(lanes, keyOf(lanes, this.record));
       if (this.time !== undefined) chart.mark(this.time);
     }
