@@ -130,8 +130,8 @@ class Terminal:
         return lines
 
     def process(self):
-        """The program that runs for the session."""
-        only, = children(self.child.pid)
+        """The program that runs for the session; beside it is what reads the run ahead."""
+        only, = (it for it in children(self.child.pid) if b'\0debug\0' in pathlib.Path(f'/proc/{it}/cmdline').read_bytes())
         return only
 
     def end(self, keys='\x04'):
@@ -220,15 +220,23 @@ def test_time_is_told_by_the_tool(terminal):
 
 
 def test_time_of_a_run_that_has_no_end_is_ended(terminal, long):
-    """By Ctrl-C, and the session goes on; nobody is left who runs."""
+    """By Ctrl-C, and the session goes on. The run is read up to a bound unasked, and on while somebody waits; it is asked again."""
     session = terminal(long)
     session.begin()
     session.ask('step 3')
-    only = children(session.child.pid)
-    session.type('time f\r')
-    assert soon(lambda: len(children(session.child.pid)) > 1)
-    assert session.interrupted().endswith('tcpsim-debug: ended; the session is where it was\n')
-    assert soon(lambda: children(session.child.pid) == only)
+    ahead, = set(children(session.child.pid)) - {session.process()}
+
+    def rests():
+        before = work_of(ahead)
+        time.sleep(1)
+        return work_of(ahead) == before
+    assert soon(rests)
+    for _ in range(2):
+        before = work_of(ahead)
+        session.type('time f\r')
+        assert soon(lambda: work_of(ahead) > before + 5)
+        assert session.interrupted().endswith('tcpsim-debug: ended; the session is where it was\n')
+        assert soon(rests)
     assert session.ask('where').startswith('at 3 of the run')
     assert session.end() == 0
 

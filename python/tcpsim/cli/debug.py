@@ -53,6 +53,7 @@ def hold(words: list[str], source: bytes) -> int:
         ends.callback(session.end)
         signal.signal(signal.SIGINT, nothing)
         prompt = Times(session.ask, source, words[0])
+        ends.callback(prompt.end)
         completion = Completion(prompt.ask)
         keyboard = Keyboard(PROMPT.decode(), lambda before: completion.words(before, session.counted))
         ends.enter_context(keys_kept())
