@@ -393,6 +393,29 @@ def test_stalls_have_the_causes_of_tcpsim_stalls(browser):
     assert 'fa: no new acknowledgement for 1.35' in text_of(browser, '#notice')
 
 
+def test_where_the_time_went_has_a_tab(browser):
+    """A part leads to its event, which the net above shows; the key w comes and goes, and in a lecture it has the panel's place."""
+    choose(browser, 'example bufferbloat')
+    assert run(browser).startswith('done in')
+    browser.click(element('[data-tab=time]'))
+    assert text_of(browser, '#time-went .said') == '3.01 s: 94.3 % of it in the queue of a, behind packets of f'
+    look(browser, 'time')
+    browser.click(element('#time-went .parts button'))
+    marked = '[...document.querySelectorAll(".on-path")].map(it => it.dataset.packet)'
+    assert browser.json(f'[page.record.at, simulator.view, {marked}]') == [4963, 'time', ['1:d:1000@3001166400']]
+    assert text_of(browser, '#notice') == 'queue of a, behind packets of f: 2.84 s, first from event 4,963 on'
+    browser.value('document.activeElement.blur()')
+    browser.press('w')
+    assert browser.json(f'[simulator.view, {marked}]') == ['net', []]
+    seen = '["went", "charts"].map(id => document.getElementById(id).checkVisibility())'
+    browser.press('l')
+    assert browser.json(seen) == [False, True]
+    browser.press('w')
+    assert browser.json(f'[{seen}, {marked}.length, getComputedStyle(document.querySelector("#went button")).fontSize]') == [[True, False], 1, '24px']
+    browser.press('Escape')
+    assert browser.json(f'[simulator.view, {seen}, {marked}]') == ['net', [False, True], []]
+
+
 def opened_file(browser, name, data):
     """Opens a file as by the button; answers what the page says."""
     browser.value(f'''(async () => {{ const bytes = Uint8Array.from(atob({json.dumps(base64.b64encode(data).decode())}), c => c.charCodeAt(0));

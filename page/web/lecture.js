@@ -32,7 +32,7 @@ class Lecture {
     this.root.classList.remove('lecture', 'slide');
     this.whole = false;
     if (document.fullscreenElement) document.exitFullscreen();
-    if (page) { page.makeNet(); simulator.showPanels(); page.lay(); this.arrange(); }
+    if (page) { if (page.went) page.toggleTime(); page.makeNet(); simulator.showPanels(); page.lay(); this.arrange(); }
     if (compare) compare.layNow();
   }
   // Here and on a phone the ends of a net with routers are stubs, so that what is between them has large letters; the key f draws

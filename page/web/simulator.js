@@ -11,6 +11,7 @@ const TABS = [
   ['net', 'curves', [], it => it.page && it.page.panels.make()],
   ['figures', 'figures', ['figures-table']],
   ['stalls', 'stalls', ['stall-list'], it => it.stalls && it.stalls.show()],
+  ['time', 'time', ['time-went'], it => it.showTime()],
   ['trace', 'trace', ['all-lines'], it => it.list && it.list.show(it.page.record.at)],
   ['debug', 'debugger', ['debugger'], it => it.page && it.page.panels.make()],
   ['compare', 'compare', [], it => it.compare && it.compare.offer()],
@@ -377,6 +378,7 @@ class Simulator {
     const names = ({nodes, links, flows}) => [nodes, links, flows].map(ones => ones.map(({name}) => name).join(' ')).join('\n');
     if (!this.page || names(this.page.facts) !== names(record.facts)) { this.showRun(record, this.title); return; }
     this.page.replace(record);
+    if (this.view === 'time') this.showTime();
   }
   // The hand rests: what follows from the whole trace is of the last run.
   async rest() {
@@ -414,7 +416,7 @@ class Simulator {
     place.append(byId('view').content.cloneNode(true));
     this.lecture.addKeys(place.querySelector('#keys'));
     this.lessons.putHead(place.querySelector('h1'), title);
-    this.page = window.page = new Page(record, {told: () => this.note(), causes: 'the tab stalls says why'});
+    this.page = window.page = new Page(record, {told: () => this.note(), causes: 'the tab stalls says why', openTime: () => this.openTime()});
     this.showPanels();
     this.lecture.arrange();
     this.showParts(record);
@@ -470,12 +472,20 @@ ${dataOf('licenses').join('\n\n')}`;
       tab.tabIndex = chosen ? 0 : -1;
       byId(`tab-${tab.dataset.tab}`).hidden = !chosen;
     }
+    if (this.page && name !== 'time') this.page.showTime(null);
     // All but two runs have the net above them.
     byId('tab-net').hidden = name === 'compare';
     byId('run-side').dataset.view = name;
     this.note();
     const [, , , shown] = TABS.find(([one]) => one === name);
     if (shown) shown(this);
+  }
+  // Where the time went: in a tab of its own, and in a lecture in the panel's place.
+  openTime() { if (this.lecture.on) this.page.toggleTime(); else this.showTab(this.view === 'time' ? 'net' : 'time'); }
+  showTime() {
+    if (!this.page) return;
+    if (!this.went || this.went.record !== this.page.record) this.went = new TimeWent(byId('time-went'), this.page.record, (event, words) => { this.goTo(event); this.page.say(words); });
+    this.page.showTime(this.went);
   }
   // The panels that carry the lesson; in a lecture the first of them alone.
   showPanels() {

@@ -17,7 +17,8 @@ from tcpsim.scenario.text import Scenario
 HERE = os.path.dirname(os.path.realpath(__file__))
 PARTS = os.path.join(HERE, 'web')
 # What shows a run, here and in the page with the simulator (dev/page.py); behind it what opens this page.
-SCRIPTS = ('trace.js', 'record.js', 'words.js', 'layout.js', 'queue.js', 'net.js', 'charts.js', 'panels.js', 'page.js')
+SCRIPTS = ('trace.js', 'record.js', 'words.js', 'layout.js', 'queue.js', 'net.js', 'charts.js', 'panels.js', 'critical_path.js', 'time_went.js', 'page.js')
+STYLES = ('page.css', 'time_went.css')
 OPENING = 'boot.js'
 # What has two runs under one clock.
 OF_TWO = ('clock.js', 'beside.js')
@@ -59,7 +60,7 @@ def scripts() -> str:
 
 def style() -> str:
     """The style of what shows a run."""
-    return looks.css() + read_part(os.path.join(PARTS, 'page.css'))
+    return '\n'.join((looks.css(), *(read_part(os.path.join(PARTS, name)) for name in STYLES)))
 
 
 def page(title: str, scenario: Scenario, part: Part, slide: bool = False, within: bool = False) -> str:

@@ -205,6 +205,15 @@ class Net {
     }
   }
 
+  // Marks the packet that a span of a critical path is about, or the node that waits.
+  follow(span) {
+    if (this.followed) { this.followed.classList.remove('on-path'); this.followed = null; }
+    if (!span) return;
+    const {link, entry, k, node} = span;
+    if (node !== undefined) this.followed = this.nodes[node];
+    else this.followed = (this.drawn.get(link * 4294967296 + k) || {}).element || this.queues[link].elementOf(entry);
+    this.followed.classList.add('on-path');
+  }
   newPacket(l, k) {
     const track = this.record.tracks[l], packet = this.record.packet(l, track.sent[k]);
     const element = this.shape(packet);

@@ -25,10 +25,10 @@ function fit(element) {
 
 class Page {
   // Shows a record in the elements of view.html, until `end`. A page around it that has an address of its own is `told` where
-  // this one is; `causes` says where a stall's cause is found.
-  constructor(record, {told = null, causes = 'tcpsim-stalls says why'} = {}) {
+  // this one is; `causes` says where a stall's cause is found, and `openTime` shows where the time went, or what was before.
+  constructor(record, {told = null, causes = 'tcpsim-stalls says why', openTime = () => this.toggleTime()} = {}) {
     this.ended = new AbortController();
-    Object.assign(this, {told, causes, record, facts: record.facts, time: record.times[0], playing: false, picked: null, frames: 0});
+    Object.assign(this, {told, causes, openTime, went: null, record, facts: record.facts, time: record.times[0], playing: false, picked: null, frames: 0});
     this.sayLeft();
     this.panels = new Panels(record, time => this.goTo(time));
     this.keepRoom();
@@ -55,12 +55,28 @@ class Page {
   // Another run of the same net takes this one's place, at the same moment; the curves before it lie behind its own.
   replace(record) {
     this.play(false);
+    const timed = document.getElementById('went').parentNode.classList.contains('timed');
+    if (timed) this.toggleTime();
     Object.assign(this, {record, facts: record.facts, picked: null});
     this.sayLeft();
     this.makeNet(this.folds);
     this.panels.replace(record);
     this.measure();
     this.goTo(Math.min(this.time, record.times[record.count]));
+    if (timed) this.toggleTime();
+  }
+  // Where the time of a flow went, in the place of the curves, and back.
+  toggleTime() {
+    const place = document.getElementById('went');
+    this.showTime(this.went ? null : new TimeWent(place, this.record, (event, words) => { this.jump(event); this.say(words); }));
+    place.parentNode.classList.toggle('timed', Boolean(this.went));
+    this.lay();
+  }
+  // The net marks what the path of `went` is about; null: nothing.
+  showTime(went) {
+    this.went = went;
+    document.getElementById('open-time').setAttribute('aria-pressed', Boolean(went));
+    this.draw();
   }
   fold() {
     this.makeNet(!this.net.folded);
@@ -130,6 +146,8 @@ class Page {
   draw() {
     const record = this.record;
     this.net.draw(this.time, this.fallTime());
+    this.net.follow(this.went && this.went.at(this.time));
+    if (this.went) this.went.mark(this.time);
     this.panels.mark(this.time);
     const where = document.getElementById('where');
     where.textContent = whereText(record.at, record.last, this.time);
@@ -274,7 +292,7 @@ class Page {
     on('start', () => this.goEvent(this.record.first)); on('back', () => this.step(-1)); on('on', () => this.step(1));
     on('play', () => this.play(!this.playing)); on('drop', () => this.next('drop', 1));
     on('timeout', () => this.next('timeout', 1)); on('stall', () => this.next('stall', 1));
-    on('fold', () => this.fold()); on('help', () => this.keys(document.getElementById('keys').hidden));
+    on('fold', () => this.fold()); on('open-time', () => this.openTime()); on('help', () => this.keys(document.getElementById('keys').hidden));
     this.speed = document.getElementById('speed'); this.unit = document.getElementById('unit');
     const span = this.record.times[this.record.count] - this.record.times[0];
     this.meanGap = span / 1e9 / Math.max(1, this.record.count);
@@ -298,7 +316,7 @@ class Page {
     const does = {ArrowRight: () => this.step(1), ArrowLeft: () => this.step(-1), ' ': () => this.play(!this.playing),
       d: () => this.next('drop', 1), D: () => this.next('drop', -1), r: () => this.next('timeout', 1),
       R: () => this.next('timeout', -1), s: () => this.next('stall', 1), S: () => this.next('stall', -1),
-      f: () => this.fold(), '?': () => this.keys(true),
+      f: () => this.fold(), w: () => this.openTime(), t: () => this.nextPart(1), T: () => this.nextPart(-1), '?': () => this.keys(true),
       Home: () => this.jump(this.record.first), End: () => this.jump(this.record.last)}[event.key];
     if (does) { does(); event.preventDefault(); }
   }
@@ -316,6 +334,10 @@ class Page {
       this.say(stalls.map(stall => `${this.facts.flows[stall.flow].name}: no new acknowledgement for ${seconds(stall.to - stall.from)}`).join('; ') +
         ` (${this.causes})`);
     }
+  }
+  nextPart(way) {
+    if (!this.went) this.openTime();
+    if (!this.went.next(way, this.record.at)) this.say(`no part ${way > 0 ? 'after' : 'before'} this event`);
   }
   say(words) {
     const notice = document.getElementById('notice');

@@ -50,7 +50,8 @@ class QueueView {
     this.head = now.head; this.tail = now.tail;
     const {most} = this.line, all = now.length <= most, heads = all ? now.length : Math.ceil(OF_THE_HEAD * (most - 1));
     const entries = d3.range(all ? now.length : most).map(k => k < heads ? now.head + k : k === heads ? -1 : now.tail - most + k);
-    this.drawBoxes(most ? entries : []);
+    this.entries = most ? entries : [];
+    this.drawBoxes(this.entries);
     this.drawBar(now);
     const wait = 8e9 * (this.bytesBefore(now.tail) - this.bytesBefore(now.head)) / this.link.rate;
     Object.assign(this.group.dataset, {length: now.length, heads, wait: Math.round(wait)});
@@ -86,6 +87,8 @@ class QueueView {
     }
     this.group.dataset.shown = words.join(',');
   }
+  // The square of an entry; of one that has none, the queue.
+  elementOf(entry) { return this.boxes[(this.entries || []).indexOf(entry)] || this.group; }
   // The k-th square, with the mark of its packet's flow.
   boxAt(k) {
     const {wide, tall} = this.sizes.box;

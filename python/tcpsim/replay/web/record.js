@@ -79,6 +79,36 @@ class Curve {
   get last() { return this.values.all[this.values.length - 1]; }
 }
 
+// A sender's timer: by which event it was set (RFC 6298 section 5), and how often it was doubled since a round trip was measured.
+class SenderTimer {
+  constructor(mss) { Object.assign(this, {mss, runs: false, set: 0, partial: false, timed: null, unmeasured: false, doubled: 0}); }
+  // Takes a sender's line: `una` and `recovery` after it, the state before it, the segments that it sends. Where the timer ended it
+  // answers by which event it was set, 0 where that is before the record, and how often it had been doubled.
+  take(event, kind, una, recovery, row, base, numbers) {
+    const partial = recovery && row[base + RECOVERY];
+    let ended = null;
+    if (una > row[base + UNA]) {
+      if (this.timed !== null && una >= this.timed) { this.timed = null; this.unmeasured = false; }
+      // Of a recovery's partial acknowledgements the first sets it (RFC 6582 section 3.2 step 3).
+      if (!(partial && this.partial)) this.runs = una < row[base + NXT] && this.begin(event);
+      this.partial = Boolean(partial);
+    } else if (kind === RTO) {
+      this.doubled = this.unmeasured ? this.doubled + 1 : 0;
+      ended = {set: this.set, doubled: this.doubled};
+      Object.assign(this, {unmeasured: true, partial: false, timed: null});
+      this.begin(event);
+    } else if (recovery && !row[base + RECOVERY]) this.partial = false;
+    let high = row[base + HIGH];
+    for (const number of numbers) {
+      if (number < high) this.timed = null;
+      else { high = number + this.mss; if (this.timed === null) this.timed = high; }
+      if (!this.runs) this.begin(event);
+    }
+    return ended;
+  }
+  begin(event) { this.set = event; this.runs = true; return true; }
+}
+
 class Record {
   constructor(facts) {
     this.facts = facts; this.lines = new Lines();
@@ -101,6 +131,13 @@ class Record {
       again: new Column(Uint8Array), number: new Column(Float64Array), reason: new Column(Uint8Array)};
     this.reasons = ['lost', 'full', 'codel'];
     this.timeouts = [];       // event numbers
+    // Of each timeout {set, doubled}; of each answer that was delayed its event and that of the segment that made it wait. Numbers of
+    // events here are 0 where that is before the record.
+    this.timers = facts.flows.map(({mss}) => new SenderTimer(mss));
+    this.timerEnds = [];
+    this.delayed = {at: new Column(Uint32Array), since: new Column(Uint32Array)};
+    this.waitsSince = facts.flows.map(() => 0);
+    this.sends = [];          // what a sender sends by the present line
     this.stalls = [];
     this.opening();
   }
@@ -246,22 +283,26 @@ class Record {
     this.over = bytes[this.cursor + 8] === NEWLINE;
     this.cursor += 9;
     const sent = row[base + NXT], high = row[base + HIGH], link = this.hops[this.hopKey(flow.sender, f, DATA)];
+    const {sends} = this;
     let dups = row[base + DUPS];
+    sends.length = 0;
     if (kind === RTO) {
       dups = 0;
-      if (this.keep) this.timeouts.push(this.first + this.now);
-      this.offer(link, f, DATA, una, una < high);
+      sends.push(una);
     } else if (acked && ack <= before && recovery && !row[base + RECOVERY]) {
       dups += 1;
-      this.offer(link, f, DATA, una, una < high);
+      sends.push(una);
     } else if (acked && ack > before && recovery) {
-      this.offer(link, f, DATA, una, una < high);
-      if (nxt > sent) this.offer(link, f, DATA, sent, sent < high);
+      sends.push(una);
+      if (nxt > sent) sends.push(sent);
     } else {
-      for (let no = Math.max(sent, ack); no < nxt; no += flow.mss) this.offer(link, f, DATA, no, no < high);
+      for (let no = Math.max(sent, ack); no < nxt; no += flow.mss) sends.push(no);
       if (acked) dups = ack > before ? 0 : ack === before && before < sent ? dups + 1 : dups;
     }
+    for (const no of sends) this.offer(link, f, DATA, no, no < high);
     if (this.keep) {
+      const ended = this.timers[f].take(this.now, kind, una, recovery, row, base, sends);
+      if (ended) { this.timeouts.push(this.first + this.now); this.timerEnds.push(ended); }
       const [windows, thresholds, recoveries] = this.curves[f];
       if (una > before || kind === START) this.moves(f, time);
       if (cwnd !== row[base + CWND]) windows.push(this.now, cwnd);
@@ -277,7 +318,12 @@ class Record {
     const link = this.hops[this.hopKey(flow.receiver, f, ACK)];
     this.cursor += 5;
     const next = row[base + NEXT] = this.next();
-    if (data && number === before && row[base + HIGHEST] < before && flow.delack && !row[base + WAITS]) { row[base + WAITS] = 1; return link; }
+    if (data && number === before && row[base + HIGHEST] < before && flow.delack && !row[base + WAITS]) {
+      row[base + WAITS] = 1;
+      if (this.keep) this.waitsSince[f] = this.now;
+      return link;
+    }
+    if (this.keep && kind === DELACK) { this.delayed.at.push(this.now); this.delayed.since.push(this.waitsSince[f]); }
     if (data && number > row[base + HIGHEST]) row[base + HIGHEST] = number;
     row[base + WAITS] = 0;
     this.offer(link, f, ACK, next, 0);
@@ -373,16 +419,16 @@ class Record {
     this.settle();
   }
   columns() {
-    return [this.moments, this.snapshots, this.lines.pieceOf, this.lines.startOf, ...Object.values(this.dropped),
+    return [this.moments, this.snapshots, this.lines.pieceOf, this.lines.startOf, ...Object.values(this.dropped), ...Object.values(this.delayed),
       ...[...this.curves.flat(), ...this.queues].flatMap(({at, values}) => [at, values])];
   }
   // All of it, as a worker hands it over with its numbers, and as a page takes it.
   handed() {
-    const {count, longest, reasons, timeouts, stalls, facts: {whole}} = this;
+    const {count, longest, reasons, timeouts, timerEnds, movedAt, stalls, facts: {whole}} = this;
     const columns = this.columns().map(({all}) => all);
     const tracks = this.tracks.map(({flow, sort, again, segment, enteredAt, sent, begunAt, many, gone}) =>
       ({flow, sort, again, segment, enteredAt, sent, begunAt, many, gone}));
-    return {count, longest, reasons, timeouts, stalls, whole, columns, tracks};
+    return {count, longest, reasons, timeouts, timerEnds, movedAt, stalls, whole, columns, tracks};
   }
   adopt({columns, tracks, whole, ...rest}) {
     Object.assign(this, rest);
@@ -418,6 +464,22 @@ class Record {
     return this.first + low;
   }
   timeOf(event) { return this.times[event - this.first]; }
+  // The event of a number that is kept; undefined where that is before the record.
+  eventAt(k) { return k ? this.first + k : undefined; }
+  // By which event the timer was set that ended by this one, and how often it had been doubled.
+  timerEnd(event) {
+    const {set, doubled} = this.timerEnds[this.timeouts.indexOf(event)];
+    return {set: this.eventAt(set), doubled};
+  }
+  // Which segment made an answer wait that was sent by this event.
+  delayedSince(event) {
+    const {at, since} = this.delayed, k = event - this.first;
+    let low = 0, high = at.length;
+    while (low < high) { const middle = (low + high) >> 1; if (at.all[middle] < k) low = middle + 1; else high = middle; }
+    return this.eventAt(since.all[low]);
+  }
+  // The event that offered an entry of a link's track.
+  offeredBy(track, entry) { return this.eventAt(track.enteredAt[entry]); }
   line(event) { return this.lines.text(event - this.first - 1); }
 
   // Makes `row` the state after `event` events.
