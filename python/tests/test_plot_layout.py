@@ -165,7 +165,19 @@ def test_the_flows_that_carry_most_are_drawn():
     progress = figure.get_axes()[-1]
     assert progress.get_legend().get_texts()[-1].get_text() == '2 others'
     named = picture_of(file, '--program', PROGRAM, '--flows', 'ann,ben,cleo,dan,eve')
-    assert (len(named.flows), named.others, named.left_out) == (5, [], '')
+    assert (len(named.flows), named.others, named.left_out) == (5, [], [])
+
+
+def test_links_for_which_there_is_no_room_are_named(put):
+    """Of five bottlenecks four are drawn, and the picture says how the fifth is; of many more only how many there are."""
+    def said(hops, *words):
+        made = tool('net', 'parking-lot', '--hops', hops, '--end', '5s')
+        return picture_of(put('net.txt', made.stdout), '--program', PROGRAM, *words)
+    picture = said('5')
+    other, = {'p0p1', 'p1p2', 'p2p3', 'p3p4', 'p4p5'} - {view.name for view in picture.links}
+    assert picture.left_out[-1] == f'4 of 5 links: those where packets waited longest; --links {other} draws the other'
+    assert said('5', '--panels', 'window').left_out == picture.left_out[:-1]
+    assert said('12').left_out[-1] == '4 of 12 links: those where packets waited longest'
 
 
 def test_the_key_is_small_and_has_each_entry_once():

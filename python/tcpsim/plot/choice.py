@@ -17,7 +17,7 @@ from tcpsim.curves import Run, read_run
 from tcpsim.whole_trace import inputs_of
 
 from .clock import Clock, Cut, idle_spans, length_text
-from .layout import FIRST_CHOICE, OF_MANY, PANELS
+from .layout import FIRST_CHOICE, LINK_PANELS, OF_MANY, PANELS
 from .notes import differences, flow_notes, link_note, only_acks, trip_text
 from .picture import MOST_FLOWS, FlowView, LinkView, Picture
 
@@ -235,8 +235,7 @@ def moments(runs: Iterable[Run]) -> np.ndarray:
 
 def worst_links(run: Run, window: tuple[int, int], among: Iterable[int]) -> list[int]:
     """Of these links those at which packets of several flows waited longest in all within the window, if a tenth as long as at
-    the worst, and before them the one at which a single flow's waited longer than at any of these; where none waited the busiest.
-    In the scenario's order."""
+    the worst, and before them the one at which a single flow's waited longer than at any of these; where none waited the busiest."""
     waited = {number: within(run.links[number].wait_times, run.links[number].waits, window) for number in among}
     if not any(waited.values()):
         waited = {number: within(run.links[number].busy_from, np.asarray(run.links[number].busy_to) -
@@ -244,8 +243,7 @@ def worst_links(run: Run, window: tuple[int, int], among: Iterable[int]) -> list
     shared = {number: waited[number] for number in waited if waited[number] and len(set(run.links[number].taken_of)) > 1}
     worst = max(waited, key=lambda number: (waited[number], -number))
     ranked = sorted(shared or waited, key=lambda number: (-waited[number], number))
-    chosen = [worst] * (worst not in ranked) + [number for number in ranked if waited[number] * 10 >= waited[ranked[0]]]
-    return sorted(chosen[:MOST_LINKS])
+    return [worst] * (worst not in ranked) + [number for number in ranked if waited[number] * 10 >= waited[ranked[0]]]
 
 
 def most_carried(run: Run, window: tuple[int, int], most: int) -> list[int]:
@@ -267,17 +265,17 @@ def ways_of(run: Run, flows: Iterable[int]) -> list[int]:
 
 
 def shown_of(given: argparse.Namespace, run: Run, window: tuple[int, int],
-             most_links: int | None = None) -> tuple[list[int], list[int]]:
-    """The flows and links of a run that are shown, by their numbers."""
+             most_links: int = MOST_LINKS) -> tuple[list[int], list[int], list[int]]:
+    """The flows and links of a run that are shown, by their numbers, and the links for which there is no room."""
     flows = most_carried(run, window, max(1, MOST_FLOWS // (1 + len(given.beside)))) if given.flows is None else \
         named(given.flows, run.scenario.flows, 'flow')
     if given.links is not None:
-        return flows, named(given.links, run.scenario.links, 'link')
+        return flows, named(given.links, run.scenario.links, 'link'), []
     among = range(len(run.links)) if given.flows is None else ways_of(run, flows)
     links = worst_links(run, window, among)
     if most_links == 1:
-        links = sorted(links, key=lambda number: (-sum(run.links[number].waits), number))[:1]
-    return flows, links
+        links = sorted(links, key=lambda number: (-sum(run.links[number].waits), number))
+    return flows, sorted(links[:most_links]), sorted(links[most_links:])
 
 
 def drawn_by(given: argparse.Namespace, runs: Sequence[Run], flows: list, links: list, clock: Clock) -> Picture:
@@ -290,8 +288,8 @@ def drawn_by(given: argparse.Namespace, runs: Sequence[Run], flows: list, links:
         shown = [view.run for view in picture.flows]
         picture.others = flow_views([(run, flow.number, '') for run in runs for flow in run.flows if flow not in shown])
     if picture.others:
-        picture.left_out = f'{len(flows)} of {len(flows) + len(picture.others)} flows: those that carry most' + \
-            (' in each run' if given.beside else '')
+        picture.left_out.append(f'{len(flows)} of {len(flows) + len(picture.others)} flows: those that carry most' +
+                                ' in each run' * bool(given.beside))
     return picture
 
 
@@ -305,9 +303,14 @@ def part_text(given: argparse.Namespace) -> str:
 def picture_of(given: argparse.Namespace, run: Run) -> Picture:
     """What is drawn of one run."""
     window, cuts = window_of(given, (run,))
-    flows, links = shown_of(given, run, window)
-    return drawn_by(given, [run], [(run, n, run.scenario.flows[n].name) for n in flows],
-                    [link_view(run, n, run.scenario.links[n].name) for n in links], Clock(window, cuts))
+    flows, links, left = shown_of(given, run, window)
+    picture = drawn_by(given, [run], [(run, n, run.scenario.flows[n].name) for n in flows],
+                       [link_view(run, n, run.scenario.links[n].name) for n in links], Clock(window, cuts))
+    if left and (not given.panels or set(given.panels) & set(LINK_PANELS)):
+        others = ','.join(run.scenario.links[number].name for number in left)
+        picture.left_out.append(f'{len(links)} of {len(links) + len(left)} links: those where packets waited longest' +
+                                f'; --links {others} draws the other{"s" * (len(left) > 1)}' * (len(left) <= MOST_LINKS))
+    return picture
 
 
 def beside(given: argparse.Namespace, runs: Sequence[tuple[str, Run]]) -> Picture:
@@ -316,7 +319,7 @@ def beside(given: argparse.Namespace, runs: Sequence[tuple[str, Run]]) -> Pictur
     window, cuts = window_of(given, [run for _, run in runs])
     flows, links = [], []
     for name, run in runs:
-        of_flows, of_links = shown_of(given, run, window, most_links=1)
+        of_flows, of_links, _ = shown_of(given, run, window, most_links=1)
         flows += [(run, n, name + f', flow {run.scenario.flows[n].name}') for n in of_flows]
         links += [link_view(run, n, name + ('' if len(of_links) == 1 else f', {run.scenario.links[n].name}'))
                   for n in of_links]

@@ -74,7 +74,7 @@ def draw_head(picture: Picture, figure: Figure, title: str, panels: Sequence[str
         for handle in KEYS[panel](picture):
             key.setdefault(handle.get_label(), handle)
     columns = columns_that_fit(list(key), width)
-    ends = np.cumsum([MARGIN, len(lines) * HEAD * TEXT_LINE / POINTS, TEXT_LINE * NOTE / POINTS if picture.left_out else 0,
+    ends = np.cumsum([MARGIN, len(lines) * HEAD * TEXT_LINE / POINTS, len(picture.left_out) * TEXT_LINE * NOTE / POINTS,
                       math.ceil(len(key) / columns) * LINE / POINTS + MARGIN])
     high = max(least, ends[-1] + below)
     figure.set_size_inches(WIDE, high)
@@ -82,7 +82,7 @@ def draw_head(picture: Picture, figure: Figure, title: str, panels: Sequence[str
     tops = 1 - ends / high
     figure.suptitle('\n'.join(lines), y=tops[0], va='top', fontsize=HEAD, fontweight='bold').set_in_layout(False)
     if picture.left_out:
-        figure.text(.5, tops[1], picture.left_out, ha='center', va='top', fontsize=NOTE, color='#444444')
+        figure.text(.5, tops[1], '\n'.join(picture.left_out), ha='center', va='top', fontsize=NOTE, color='#444444')
     if key:
         figure.legend(handles=list(key.values()), loc='upper center', bbox_to_anchor=(.5, tops[2]), ncol=columns, **KEY)
 

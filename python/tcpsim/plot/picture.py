@@ -36,8 +36,8 @@ class Picture:
         self.timers = {}                # and those at timeouts, which stay left of their lines
         self.first = None               # the first panel of each flow, which says most of its timeouts
         self.part = ''                  # what is said where a part of the run is shown
-        self.left_out = ''              # what is said of the flows that are not drawn
-        self.others = []                # and their views
+        self.left_out = []              # what is said of the flows and the links that are not drawn
+        self.others = []                # the views of those flows
         self.row = .09                  # how high a row of signs above a queue is, as a part of the queue's axis
         self.wide = None                # points that a panel is wide, where that is another than panels are told
 

@@ -45,7 +45,7 @@ def draw_slide(picture: Picture, panel: str, title: str) -> Figure:
     axes.grid(True, color='#DDDDDD', lw=1)
     axes.set_axisbelow(True)
     enlarge(axes)
-    figure.suptitle('\n'.join(filter(None, (title, picture.left_out))), fontsize=POINTS + 2, fontweight='bold')
+    figure.suptitle('\n'.join(filter(None, (title, *picture.left_out))), fontsize=POINTS + 2, fontweight='bold')
     figure.draw_without_rendering()
     turn_timers(axes, picture.timers.get(axes, ()), [right for _, _, right, _ in picture.clock.cut_boxes(axes)])
     label_key(axes, key)
