@@ -308,7 +308,8 @@ def picture_of(given: argparse.Namespace, run: Run) -> Picture:
                        [link_view(run, n, run.scenario.links[n].name) for n in links], Clock(window, cuts))
     if left and (not given.panels or set(given.panels) & set(LINK_PANELS)):
         others = ','.join(run.scenario.links[number].name for number in left)
-        picture.left_out.append(f'{len(links)} of {len(links) + len(left)} links: those where packets waited longest' +
+        why = 'those where packets waited longest' if any(sum(run.links[number].waits) for number in links) else 'the busiest'
+        picture.left_out.append(f'{len(links)} of {len(links) + len(left)} links: {why}' +
                                 f'; --links {others} draws the other{"s" * (len(left) > 1)}' * (len(left) <= MOST_LINKS))
     return picture
 
