@@ -11,8 +11,8 @@ function partText({kind, at, behind, doubled}, own) {
   return `${kind} ${kind === DELAY ? 'at' : 'on'} ${at}`;
 }
 
-// A path's `spans` part its time, in order: {part, begin, end, event}, and what of the net it is about: {link, entry} or {node}. The
-// event is the one with which it begins. `begin` is null where the flow has not started, or not within these lines.
+// A path's `spans` part its time, in order: {part, begin, end}, and what of the net it is about: {link, entry, k} or {node}. `begin`
+// is null where the flow has not started, or not within these lines.
 class CriticalPath {
   constructor(record, f) {
     Object.assign(this, {record, f, facts: record.facts, begin: null, end: null, acknowledged: 0, spans: []});
@@ -49,11 +49,12 @@ class CriticalPath {
     const link = words[3] - 1, track = record.tracks[link], k = words[4] - 1 - track.sentBefore, entry = track.sent[k], cause = record.offeredBy(track, entry);
     if (cause === undefined) return {event, cause};
     const {name: at, delay} = facts.links[link], begun = track.begun(k), sent = time - delay, what = {link, entry, k};
-    const waits = this.waits(track, k, track.entered(entry)).map(wait => ({part: {kind: QUEUE, at, behind: facts.flows[wait.flow].name}, ...wait, event: cause, ...what}));
-    if (waits.length) waits.slice(1).forEach(wait => { wait.event = this.freed(link, wait.begin); });
-    return {event, cause, spans: [...waits,
-      {part: {kind: SERIALIZATION, at}, begin: begun, end: sent, event: begun > track.entered(entry) ? this.freed(link, begun) : cause, ...what},
-      {part: {kind: PROPAGATION, at}, begin: sent, end: time, event: this.freed(link, sent), ...what}]};
+    const waits = this.waits(track, k, track.entered(entry)).map(wait => ({part: {kind: QUEUE, at, behind: facts.flows[wait.flow].name}, ...wait, ...what}));
+    const sending = {part: {kind: SERIALIZATION, at}, begin: begun, end: sent, ...what};
+    // A packet can leave a queue at the moment at which it entered, by another event.
+    if (waits.length) waits[0].event = cause;
+    else if (track.begunAt[k] === track.enteredAt[entry]) sending.event = cause;
+    return {event, cause, spans: [...waits, sending, {part: {kind: PROPAGATION, at}, begin: sent, end: time, ...what}]};
   }
   // What was dropped last of the segment at `una`, or of its acknowledgements, before a timeout.
   lossBefore(event, una) {
@@ -70,8 +71,10 @@ class CriticalPath {
     }
     return found;
   }
-  // The event at which a link becomes free at a moment; where that is not among the lines, the last one up to then.
-  freed(link, time) {
+  // The event with which a span begins: where it is not known, that at which its link becomes free; where that is not among the
+  // lines, the last one up to then.
+  eventOf({event: known, link, begin: time}) {
+    if (known !== undefined) return known;
     const {record} = this, after = record.eventsBefore(time + 1);
     for (let event = after; event > record.first && record.timeOf(event) === time; event--) {
       const words = record.line(event).split(' ');
@@ -84,8 +87,8 @@ class CriticalPath {
   // timeout.
   parts() {
     const sums = new Map();
-    for (const {part, begin, end, event, loss} of this.spans) {
-      const key = partText(part), sum = sums.get(key) || {part, ns: 0, event, loss};
+    for (const span of this.spans) {
+      const {part, begin, end, loss} = span, key = partText(part), sum = sums.get(key) || {part, ns: 0, event: this.eventOf(span), loss};
       sums.set(key, sum);
       sum.ns += end - begin;
     }
@@ -97,15 +100,15 @@ class CriticalPath {
     const found = [];
     let sums = new Map(), begin = this.begin;
     const put = () => {
-      for (const [look, {ns, event}] of sums) {
+      for (const [look, {ns, span}] of sums) {
         const last = found[found.length - 1];
-        if (last && last.look === look) last.end += ns; else if (ns) found.push({look, begin, end: begin + ns, event});
+        if (last && last.look === look) last.end += ns; else if (ns) found.push({look, begin, end: begin + ns, event: this.eventOf(span)});
         begin += ns;
       }
       sums = new Map();
     };
     for (const span of this.spans) {
-      const look = lookOf(span.part), sum = sums.get(look) || {ns: 0, event: span.event};
+      const look = lookOf(span.part), sum = sums.get(look) || {ns: 0, span};
       sums.set(look, sum);
       sum.ns += span.end - span.begin;
       if (span.end - begin >= finest) put();
