@@ -33,7 +33,7 @@ BASH_COMPLETIONS = share/bash-completion/completions
 ZSH_COMPLETION = share/zsh/site-functions/_tcpsim
 FISH_COMPLETIONS = share/fish/vendor_completions.d
 # The tools that are installed, each started by bin/tcpsim-NAME, and the packages below python/ that they are made of.
-TOOLS = run debug plot flows net sweep replay follow stalls time diff model
+TOOLS = run debug plot flows net sweep find replay follow stalls time diff model
 PACKAGES = tcpsim tcpsim_model
 
 # Where CI=true all that tests want is installed first, and a test that is left out has failed.

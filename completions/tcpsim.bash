@@ -54,5 +54,5 @@ _tcpsim_tool() {
 }
 
 complete -o default -F _tcpsim tcpsim
-complete -o default -F _tcpsim_tool tcpsim-run tcpsim-debug tcpsim-model tcpsim-flows tcpsim-plot tcpsim-net tcpsim-sweep tcpsim-follow \
-  tcpsim-stalls tcpsim-time tcpsim-diff tcpsim-replay
+complete -o default -F _tcpsim_tool tcpsim-run tcpsim-debug tcpsim-model tcpsim-flows tcpsim-plot tcpsim-net tcpsim-sweep tcpsim-find \
+  tcpsim-follow tcpsim-stalls tcpsim-time tcpsim-diff tcpsim-replay

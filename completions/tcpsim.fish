@@ -31,7 +31,7 @@ function __tcpsim_shapes
     tcpsim-net --help 2>/dev/null </dev/null | string replace -rf '^    ([a-z][a-z-]+)( .*)?$' '$1'
 end
 
-for tool in run debug model flows plot net sweep follow stalls time diff replay
+for tool in run debug model flows plot net sweep find follow stalls time diff replay
     complete -c tcpsim-$tool -n 'string match -q -- "-*" (commandline -ct)' -f -a '(__tcpsim_options)'
 end
 complete -c tcpsim-net -n 'test (count (commandline -opc)) -eq 1' -f -a '(__tcpsim_shapes)'

@@ -13,6 +13,7 @@ if TYPE_CHECKING:
     from tcpsim.api.difference import Difference
     from tcpsim.api.errors import Error, NoProgram, NotInstalled, Refused, Wrong, WrongQueue
     from tcpsim.api.events import Drop, Event, Sent, Trace
+    from tcpsim.api.finds import Found, find
     from tcpsim.api.results import FlowResult, LinkResult, Results
     from tcpsim.api.scenarios import (ScenarioText, access_line, asymmetric, chain, dumbbell, from_text, islands, parking_lot,
                                       read, tree)
@@ -33,13 +34,13 @@ _MODULES = {
     'run': 'simulation', 'Simulation': 'simulation', 'debug': 'session', 'DebugSession': 'session', 'Event': 'events',
     'Sent': 'events', 'Drop': 'events', 'Trace': 'events', 'TimeSeries': 'series', 'Results': 'results', 'FlowResult': 'results',
     'LinkResult': 'results', 'Error': 'errors', 'Refused': 'errors', 'Wrong': 'errors', 'WrongQueue': 'errors',
-    'NotInstalled': 'errors', 'NoProgram': 'errors', 'sweep': 'sweeps', 'Sweep': 'sweeps',
+    'NotInstalled': 'errors', 'NoProgram': 'errors', 'sweep': 'sweeps', 'Sweep': 'sweeps', 'find': 'finds', 'Found': 'finds',
     'FlowTime': 'times', 'TimePart': 'times', 'Difference': 'difference',
 }
 __all__ = ['__version__', 'dumbbell', 'chain', 'parking_lot', 'tree', 'access_line', 'asymmetric', 'islands', 'read', 'from_text',
            'ScenarioText', 'run', 'Simulation', 'debug', 'DebugSession', 'Event', 'Sent', 'Drop', 'Trace', 'TimeSeries', 'Results',
            'FlowResult', 'LinkResult', 'Error', 'Refused', 'Wrong', 'WrongQueue', 'NotInstalled', 'NoProgram', 'sweep', 'Sweep',
-           'FlowTime', 'TimePart', 'Difference']
+           'find', 'Found', 'FlowTime', 'TimePart', 'Difference']
 
 
 def __getattr__(name: str) -> object:

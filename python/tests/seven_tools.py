@@ -15,10 +15,10 @@ from clone import BIN, PROGRAM, TOP
 EXAMPLE = pathlib.Path(TOP, 'examples', 'two_timeouts_in_a_row')
 OLD = 'what stood here before\n'
 PATIENCE = 60               # seconds in which a tool that is not waited for ends
-MODULES = {name: f'tcpsim.cli.{name}' for name in ('plot', 'flows', 'net', 'sweep', 'follow', 'stalls', 'time', 'replay', 'diff')}
+MODULES = {name: f'tcpsim.cli.{name}' for name in ('plot', 'flows', 'net', 'sweep', 'find', 'follow', 'stalls', 'time', 'replay', 'diff')}
 TOOLS = tuple(MODULES)
 READERS = 'plot', 'flows', 'replay', 'stalls', 'time', 'follow'
-ENDINGS = {'plot': '.svg', 'replay': '.html', 'sweep': '.csv'}
+ENDINGS = {'plot': '.svg', 'replay': '.html', 'sweep': '.csv', 'find': '.csv'}
 
 
 def words(tool, scenario='s.txt', trace='s.trace'):
@@ -29,6 +29,8 @@ def words(tool, scenario='s.txt', trace='s.trace'):
         return [scenario, scenario, '--program', PROGRAM]
     if tool == 'sweep':
         return [scenario, '--set', 'a.lose=none,5', '--program', PROGRAM, '-j', '2']
+    if tool == 'find':
+        return [scenario, '--vary', 'a.queue=droptail:1..2', '--least', '--so-that', 'a.sent > 0', '--program', PROGRAM, '-j', '2']
     return [scenario, *([trace] if trace else []), *(['--flow', 'f', '--byte', '4000'] if tool == 'follow' else [])]
 
 

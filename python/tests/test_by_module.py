@@ -35,7 +35,8 @@ def test_all_three_say_the_same(command):
 
 @pytest.mark.parametrize('command, words', [
     ('flows', [SCENARIO, '--program', PROGRAM]), ('net', ['islands', '--end', '1s']), ('stalls', [SCENARIO, '--program', PROGRAM]),
-    ('sweep', [SCENARIO, '--set', 'a.lose=none,5', '--program', PROGRAM, '-j', '1']), ('model', ['run', SCENARIO])])
+    ('sweep', [SCENARIO, '--set', 'a.lose=none,5', '--program', PROGRAM, '-j', '1']), (
+        'find', [SCENARIO, '--vary', 'a.queue=droptail:1..2', '--least', '--so-that', 'a.sent > 0', '--program', PROGRAM, '-j', '1']), ('model', ['run', SCENARIO])])
 def test_all_three_do_the_same(command, words):
     script, *others = (ran(*way, *words)[:2] for way in ways(command))
     assert others == [script] * 2

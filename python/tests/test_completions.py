@@ -16,7 +16,7 @@ from clone import BIN, PROGRAM, TOP, Folder, read_text  # noqa: E402
 
 COMPLETIONS = os.path.join(TOP, 'completions')
 SUBCOMMANDS = ('asm', 'debug', 'dis', 'explain', 'figures', 'run')
-TOOLS = ('run', 'debug', 'model', 'flows', 'plot', 'net', 'sweep', 'follow', 'stalls', 'time', 'diff', 'replay')
+TOOLS = ('run', 'debug', 'model', 'flows', 'plot', 'net', 'sweep', 'find', 'follow', 'stalls', 'time', 'diff', 'replay')
 MARK = '@ready@'
 PATIENCE = 60           # seconds for one answer, on a machine that is busy
 # A line up to the cursor, and behind the stroke what its last word gets, completed. `scenario one.txt`, `scenario_two.txt` and
@@ -246,6 +246,6 @@ class TestFish(Shelf):
                              ('tcpsim-flows scenario_', ['scenario_two.txt']), ('tcpsim-flows --ser', ['--series']),
                              ('tcpsim-follow scenario_', ['scenario_two.txt']), ('tcpsim-follow --by', ['--byte']),
                              ('tcpsim-stalls scenario_', ['scenario_two.txt']), ('tcpsim-stalls --lon', ['--longer']),
-                             ('tcpsim-stalls --ca', ['--causes']), ('tcpsim-time --pat', ['--path']),
+                             ('tcpsim-find --che', ['--check']), ('tcpsim-stalls --ca', ['--causes']), ('tcpsim-time --pat', ['--path']),
                              ('tcpsim-net dumb', ['dumbbell'])):
             assert self.fish(line) == answer

@@ -3,11 +3,11 @@ from __future__ import annotations
 
 import argparse
 import os
-from collections.abc import Mapping, Sequence
+from collections.abc import Callable, Iterable, Mapping, Sequence
 from typing import TYPE_CHECKING, Union
 
 from tcpsim import output
-from tcpsim.api.engines import Engine, by_model, engine_of
+from tcpsim.api.engines import by_model, engine_of
 from tcpsim.api.errors import as_api, wanted
 from tcpsim.api.results import html_table
 from tcpsim.api.scenarios import ScenarioText, as_word, scenario_of
@@ -17,7 +17,7 @@ from tcpsim.cli import sweep as command
 from tcpsim.program import NoProgram, check_time
 from tcpsim.sweeps.files import csv_text
 from tcpsim.sweeps.means import PARTS, Averaged, averaged, pair_of, pairs, titles
-from tcpsim.sweeps.pool import run_all
+from tcpsim.sweeps.pool import Rows, run_all
 from tcpsim.sweeps.rows import QUESTION, Grid
 from tcpsim.sweeps.shown import mean_table, table
 
@@ -43,28 +43,37 @@ def sweep(scenario: ScenarioText | str | os.PathLike, settings: Mapping[str, Val
     Wrong where a word is; a run that is refused, or that ends early, is a row whose status says so.
     """
     net = scenario_of(scenario)
-    given = argparse.Namespace(
-        scenario=net.name, sets=words_of(settings), over=words_of(over), show=as_word(show) if show else None,
-        skip=moment('skip', skip) or 0, pair=as_word(pair) if pair else None, link=link, exact=exact, engine=False, jobs=jobs, on=on,
-        folder=None, program=None)
+    given = words_given(net, settings, over, show, skip, exact, on, jobs)
+    given.pair, given.link = as_word(pair) if pair else None, link
     with as_api():
-        runs = engine_of(engine, None)
-        grid = command.grid_of(given, net.text, runs.path)
-        check_model(engine, runs, grid)
-        given.program = runs.path
-        if on:
-            grid.asked = grid.asked._replace(version=command.version_of(runs.path))
-        rows = run_all(grid, command.engine_of(given), progress=False)
-        return Sweep(grid, rows, given.pair)
+        grid = grid_to_run(engine, given, net.text, lambda plain: range(len(plain.points)))
+        rows = Rows(grid, command.engine_of(given), progress=False)
+        run_all(rows)
+        return Sweep(grid, rows.in_order(), given.pair)
 
 
-def check_model(engine: str | None, runs: Engine, grid: Grid) -> None:
-    """NoProgram where the model would take longer than a minute unasked."""
+def words_given(net: ScenarioText, settings: Mapping[str, Values] | None, over: Mapping[str, Values] | None, show: str | Sequence[str] | None,
+                skip: str | int, exact: bool, on: str | None, jobs: int | None) -> argparse.Namespace:
+    """The words of a command that runs a grid."""
+    return argparse.Namespace(
+        scenario=net.name, sets=words_of(settings), over=words_of(over), show=as_word(show) if show else None,
+        skip=moment('skip', skip) or 0, pair=None, link=None, exact=exact, engine=False, jobs=jobs, on=on, folder=None, program=None)
+
+
+def grid_to_run(engine: str | None, given: argparse.Namespace, text: str, numbers: Callable[[Grid], Iterable[int]]) -> Grid:
+    """The grid that the words ask for, by an engine; `numbers` gives its points that are to be run. NoProgram where the model would
+    take longer than a minute unasked for these."""
+    runs = engine_of(engine, None)
+    grid = command.grid_of(given, text, runs.path)
     if engine is None and runs.name == 'model':
         try:
-            check_time(map(grid.text, range(len(grid.points))))
+            check_time(map(grid.text, numbers(grid)))
         except NoProgram as wrong:
             raise NoProgram(by_model(str(wrong))) from None
+    given.program = runs.path
+    if given.on:
+        grid.asked = grid.asked._replace(version=command.version_of(runs.path))
+    return grid
 
 
 def words_of(settings: Mapping[str, Values] | None) -> list[str]:

@@ -9,9 +9,10 @@ Usage: bin/tcpsim-sweep SCENARIO --set NAME.FIELD=VALUE,.. [--over NAME.FIELD=A.
 from __future__ import annotations
 
 import argparse
-import contextlib
+import importlib.util
 import os
-from collections.abc import Callable
+from collections.abc import Callable, Iterable
+from typing import TYPE_CHECKING
 
 from tcpsim import FORMATS, output
 from tcpsim.command_line import MODEL, OutputClosed, Refused, Words, Wrong, as_type, go_on_with, note, tool
@@ -22,30 +23,43 @@ from tcpsim.sweeps.columns import columns_of
 from tcpsim.sweeps.files import csv_text, has_rows, is_answered, journal_of, rows_there
 from tcpsim.sweeps.means import Averaged, averaged, pair_of, pairs, titles
 from tcpsim.sweeps.pattern import WHERE, Pattern, settings_of
-from tcpsim.sweeps.pool import Runner, here, run_all
+from tcpsim.sweeps.pool import Rows, Runner, here, run_all
 from tcpsim.sweeps.rows import AskedOfRun, Grid, digest_of, format_of, version_of
 from tcpsim.sweeps.shown import along, mean_table, table
 from tcpsim.whole_trace import IMAGE_BEGINS, ProgramFailed, inputs_of, scenario_bytes, scenario_text
 
+if TYPE_CHECKING:
+    from matplotlib.figure import Figure
+
 MOST_PANELS = 12
+FIELDS = ('FIELD is of a link queue, rate, delay, lose; of a flow mss, segments, start, rwnd, delack, variant, iw. '
+          'a+b.FIELD sets both, *.FIELD all links or all flows; end=TIME sets the end. A VALUE can be a range, A..B/STEP.')
 
 
 # ---- the command line
 
 def command_line() -> Words:
     """The words of the command."""
-    words = Words(description='Runs one scenario over a grid of values, a row for each run.',
-                        epilog='FIELD is of a link queue, rate, delay, lose; of a flow mss, segments, start, rwnd, delack, variant, iw. '
-                        'a+b.FIELD sets both, *.FIELD all links or all flows; end=TIME sets the end. A VALUE can be a range, A..B/STEP.')
+    words = Words(description='Runs one scenario over a grid of values, a row for each run.', epilog=FIELDS)
     words.add_argument('scenario', metavar='SCENARIO', nargs='?', help='a text or an image')
     words.add_argument('--set', action='append', default=[], metavar='NAME.FIELD=VALUE,..', dest='sets',
                        help='as pq.queue=droptail:10,50,codel:5ms:100ms or pq.delay=20ms,100ms')
+    words.add_argument('--pair', metavar='A,B', help='differences between two values of a --set, over the same replicates')
+    words.add_argument('--link', metavar='LINK', help='whose figures are told: else the first that is set, else the busiest')
+    add_common(words, 'CSV on standard output too, in the place of the table', 'a picture (.svg, .png, .pdf): wait against utilization, or '
+               'the second that is shown against the first')
+    words.add_argument('--print', metavar='DIR', dest='print', help='write scenarios and a list of jobs, run nothing')
+    words.add_argument('--gather', metavar='DIR', help='the rows of the jobs of --print')
+    words.add_argument('--expect', help=argparse.SUPPRESS)      # the version that the program has to be of: jobs say it
+    return words
+
+
+def add_common(words: Words, csv: str, plot: str) -> None:
+    """The options that a sweep and a search have both; the helps of two differ."""
     words.add_argument('--over', action='append', default=[], metavar='NAME.FIELD=VALUE,..',
                        help='replicates, over which figures are averaged, as f2.start=100ms..1.08s/20ms')
     words.add_argument('--show', metavar='NAME.FIGURE,..',
                        help='the figures that are told, as f3.goodput,down.used,up.wait95,run.jain; a+b.FIGURE is a sum')
-    words.add_argument('--pair', metavar='A,B', help='differences between two values of a --set, over the same replicates')
-    words.add_argument('--link', metavar='LINK', help='whose figures are told: else the first that is set, else the busiest')
     words.add_argument('--skip', metavar='TIME', type=as_type(units.moment), default=0,
                        help='figures from this moment on')
     words.add_argument('--exact', action='store_true', help='all figures from traces: waits exact to the nanosecond, and slowly')
@@ -54,16 +68,11 @@ def command_line() -> Words:
                        help='runs side by side, else one for each processor')
     words.add_argument('-o', '--output', metavar='FILE', help='a row for each run as CSV')
     words.add_argument('--resume', metavar='FILE', help='as -o, but runs that have their row in FILE are not run again')
-    words.add_argument('--csv', action='store_true', help='CSV on standard output too, in the place of the table')
-    words.add_argument('--plot', metavar='FILE', help='a picture (.svg, .png, .pdf): wait against utilization, or the second that is '
-                       'shown against the first')
+    words.add_argument('--csv', action='store_true', help=csv)
+    words.add_argument('--plot', metavar='FILE', help=plot)
     words.add_argument('--on', metavar='ENGINE', help='who runs it: slurm, dask:HOST:PORT, parallel or parallel:HOST,..')
     words.add_argument('--folder', metavar='DIR', help='for --on slurm and parallel, one that all machines see; else a new one here')
-    words.add_argument('--print', metavar='DIR', dest='print', help='write scenarios and a list of jobs, run nothing')
-    words.add_argument('--gather', metavar='DIR', help='the rows of the jobs of --print')
-    words.add_argument('--expect', help=argparse.SUPPRESS)      # the version that the program has to be of: jobs say it
     words.add_program('the program that is run')
-    return words
 
 
 def text_of(path: str, program: str | None) -> str:
@@ -108,14 +117,19 @@ def check_words(given: argparse.Namespace) -> None:
         raise Wrong('name one SCENARIO' if not given.scenario else '--gather takes no SCENARIO')
     if given.gather and (given.sets or given.over or given.print or given.on or given.resume or given.show):
         raise Wrong('--gather knows its sweep: it goes with -o, --csv, --plot and --pair alone')
-    if given.engine and given.exact:
-        raise Wrong('--engine reads no traces and --exact reads all: name one of them')
     if given.print and (given.plot or given.output or given.csv or given.resume or given.on):
         raise Wrong('--print runs nothing, so it goes without -o, --resume, --csv, --plot and --on')
-    if given.output and given.resume:
-        raise Wrong('--resume FILE writes FILE, so it goes without -o')
     if given.link and given.show:
         raise Wrong(f'--show names the links of its figures, so it goes without --link: write --show {given.link}.used,{given.link}.wait50')
+    check_common(given)
+
+
+def check_common(given: argparse.Namespace) -> None:
+    """Refuses words of `add_common` that do not go together."""
+    if given.engine and given.exact:
+        raise Wrong('--engine reads no traces and --exact reads all: name one of them')
+    if given.output and given.resume:
+        raise Wrong('--resume FILE writes FILE, so it goes without -o')
     if given.folder and (given.on or '').partition(':')[0] not in ('slurm', 'parallel'):
         raise Wrong('--folder is of --on slurm and --on parallel, as --on slurm --folder jobs.d')
     if given.jobs is not None and not 1 <= given.jobs <= 1_024:
@@ -162,11 +176,15 @@ def check_all(rows: list) -> None:
         raise Refused(f'{len(failed)} of {len(rows)} runs have no figures: {failed[0]}')
 
 
-def written_rows(grid: Grid, engine: Runner, given: argparse.Namespace, inputs: list, progress: bool = True) -> list[dict]:
-    """Every row, in the file too that is named; what ends it early leaves the rows that were there in its journal."""
+def run_and_write(run: Callable[[Rows, output.Output | None], None], grid: Grid, engine: Runner, given: argparse.Namespace, inputs: list,
+                  progress: bool = True) -> list[dict]:
+    """The rows of what `run` has run, which writes them into the file too that is named; what ends it early leaves those that were there
+    in its journal."""
     path = given.resume or given.output
     if not path:
-        return run_all(grid, engine, progress=progress)
+        rows = Rows(grid, engine, progress=progress)
+        run(rows, None)
+        return rows.in_order()
     journal, there, done = None, {}, False
     try:
         journal = journal_of(path, grid)
@@ -180,12 +198,13 @@ def written_rows(grid: Grid, engine: Runner, given: argparse.Namespace, inputs: 
         if there:
             note(f'{len(there)} of {len(grid.points)} runs have their row in {output.printable(path)}')
         with output.written(path, inputs) as file:
-            rows = run_all(grid, engine, file, journal, there, progress)
+            rows = Rows(grid, engine, journal, there, progress)
+            run(rows, file)
         done = True
     finally:
         if journal:
             journal.close(done)
-    return rows
+    return rows.in_order()
 
 
 def sweep(given: argparse.Namespace) -> None:
@@ -199,15 +218,22 @@ def sweep(given: argparse.Namespace) -> None:
         with output.opened() as file:
             file.write(f'{len(grid.points)} scenarios and {output.printable(printed)}\n')
         return
+    grid = grid_to_run(given, text, lambda plain: range(len(plain.points)))
+    if given.expect is not None:
+        grid.asked = grid.asked._replace(version=given.expect)
+    finish(grid, engine_of(given), given, list(inputs_of(given)))
+
+
+def grid_to_run(given: argparse.Namespace, text: str, numbers: Callable[[Grid], Iterable[int]]) -> Grid:
+    """The grid that the words ask for, with the program that runs it; `numbers` gives its points that are to be run."""
     plain = grid_of(argparse.Namespace(**{**vars(given), 'show': None, 'skip': 0, 'engine': False}), text, '', 1)
-    program = find_program(given.program, lambda: map(plain.text, range(len(plain.points))))
+    program = find_program(given.program, lambda: map(plain.text, numbers(plain)))
     grid = grid_of(given, text, program)
-    if given.expect is not None or given.on:
-        grid.asked = grid.asked._replace(version=given.expect if given.expect is not None else version_of(program))
     if given.on:
+        grid.asked = grid.asked._replace(version=version_of(program))
         given.program = MODEL if given.program == MODEL else program
     say_traces(grid)
-    finish(grid, engine_of(given), given, list(inputs_of(given)))
+    return grid
 
 
 def say_traces(grid: Grid) -> None:
@@ -221,18 +247,23 @@ def say_traces(grid: Grid) -> None:
 def finish(grid: Grid, engine: Runner, given: argparse.Namespace, inputs: list, progress: bool = True) -> None:
     """Runs the points, and writes what is asked for."""
     draw = drawing_of(grid, given, inputs) if given.plot else None
-    rows = written_rows(grid, engine, given, inputs, progress)
+    rows = run_and_write(run_all, grid, engine, given, inputs, progress)
+    show_and_draw(lambda: show(grid, rows, given), draw and (lambda: draw(grid, rows)), given.plot)
+    check_all(rows)
+
+
+def show_and_draw(show: Callable[[], None], draw: Callable[[], Figure] | None, path: str) -> None:
+    """Shows what came out, and draws it, also where nobody reads standard output any more."""
     closed = None
     try:
-        show(grid, rows, given)
+        show()
     except OutputClosed as wrong:
         closed = wrong
     if draw:
         from tcpsim.plot.files import save
-        save(draw(grid, rows), given.plot)
+        save(draw(), path)
     if closed:
         raise closed
-    check_all(rows)
 
 
 def check_panels(grid: Grid) -> None:
@@ -245,17 +276,21 @@ def check_panels(grid: Grid) -> None:
 def drawing_of(grid: Grid, given: argparse.Namespace, inputs: list[str]) -> Callable:
     """What draws a sweep, where the picture can be drawn."""
     check_panels(grid)
+    check_plot(given, inputs)
+    from tcpsim.plot.sweep import draw
+    return draw
+
+
+def check_plot(given: argparse.Namespace, inputs: list[str]) -> None:
+    """Refuses a picture that would be written over another file, or that cannot be drawn."""
     for each in inputs:
         if output.is_same(given.plot, each):
             raise Wrong(f'--plot {given.plot} would write over what is read, {each}')
     written = given.output or given.resume
     if written and os.path.realpath(given.plot) == os.path.realpath(written):
         raise Wrong(f'--plot {given.plot} and {"-o" if given.output else "--resume"} {written} are one file')
-    try:
-        from tcpsim.plot.sweep import draw
-    except ImportError:
-        raise Refused('--plot wants matplotlib: apt-get install python3-matplotlib, or another python3 that has it') from None
-    return draw
+    if not importlib.util.find_spec('matplotlib'):
+        raise Refused('--plot wants matplotlib: apt-get install python3-matplotlib, or another python3 that has it')
 
 
 def gather(given: argparse.Namespace) -> None:

@@ -200,41 +200,41 @@ class ShownFigure(NamedTuple):
         return None if None in values else self.figure.joins(values) if self.figure.joins else values[0]
 
 
-def columns_of(words: str, pattern: Pattern) -> list[ShownFigure]:
-    """The columns of a word of --show, with commas, or Wrong."""
+def columns_of(words: str, pattern: Pattern, option: str = '--show') -> list[ShownFigure]:
+    """The columns of a word of an option, with commas, or Wrong."""
     found = []
     for word in words.split(','):
-        found += [column for column in named(word, pattern) if column not in found]
+        found += [column for column in named(word, pattern, option) if column not in found]
     return found
 
 
-def named(word: str, pattern: Pattern) -> Iterator[ShownFigure]:
+def named(word: str, pattern: Pattern, option: str) -> Iterator[ShownFigure]:
     """The columns of NAME.FIGURE."""
     of, dot, figure = word.rpartition('.')
     if not dot or not of or not figure:
-        raise Wrong(f'--show {word!r}: write FLOW.FIGURE, LINK.FIGURE or run.FIGURE, as {example(pattern)}')
+        raise Wrong(f'{option} {word!r}: write FLOW.FIGURE, LINK.FIGURE or run.FIGURE, as {example(pattern)}')
     if word == '*.jain':
         yield ShownFigure(word, 'flow', tuple(pattern.named('flow')))
         return
     if of == '*':
         there = [(sort, name) for sort in ('flow', 'link') if figure in SORTS[sort] for name in pattern.named(sort)]
         if not there:
-            raise Wrong(f'--show {word!r}: there is no figure {figure!r}; {offered("flow")}; {offered("link")}')
+            raise Wrong(f'{option} {word!r}: there is no figure {figure!r}; {offered("flow")}; {offered("link")}')
         yield from (ShownFigure(f'{name}.{figure}', sort, (name,)) for sort, name in there)
         return
     names = tuple(of.split('+'))
     sorts = {pattern.sorts.get(name) or ('run' if name == 'run' else None) for name in names}
     for name in names:
         if not {pattern.sorts.get(name), 'run' if name == 'run' else None} & set(SORTS):
-            raise Wrong(f'--show {word!r}: the scenario has no flow or link {name!r}; there are the flows {some(pattern.named("flow"))} '
+            raise Wrong(f'{option} {word!r}: the scenario has no flow or link {name!r}; there are the flows {some(pattern.named("flow"))} '
                         f'and the links {some(pattern.named("link"))}: write {example(pattern)}')
     if len(sorts) > 1 or len(set(names)) < len(names):
-        raise Wrong(f'--show {word!r}: a sum is of flows or of links, each once, as {example(pattern, 2)}')
+        raise Wrong(f'{option} {word!r}: a sum is of flows or of links, each once, as {example(pattern, 2)}')
     sort, = sorts
     if figure not in SORTS[sort]:
-        raise Wrong(f'--show {word!r}: there is no figure {figure!r}; {offered(sort)}')
+        raise Wrong(f'{option} {word!r}: there is no figure {figure!r}; {offered(sort)}')
     if len(names) > 1 and not SORTS[sort][figure].joins:
-        raise Wrong(f'--show {word!r}: {figure} does not add up; sums are of '
+        raise Wrong(f'{option} {word!r}: {figure} does not add up; sums are of '
                     f'{", ".join(key for key, its in SORTS[sort].items() if its.joins is sum)}, as {example(pattern, 2)}')
     yield ShownFigure(word, sort, names)
 

@@ -7,7 +7,7 @@ import signal
 import sys
 import threading
 import time as clock
-from collections.abc import Callable, Iterator, Sequence
+from collections.abc import Callable, Iterable, Iterator, Sequence
 from concurrent.futures import ProcessPoolExecutor, as_completed
 from concurrent.futures.process import BrokenProcessPool
 from multiprocessing import active_children, get_context
@@ -129,13 +129,42 @@ class Progress:
             note(': '.join([line, *filter(None, said)]))
 
 
-def run_all(grid: Grid, engine: Runner, file: output.Output | None = None, journal: Journal | None = None,
-            there: dict[int, dict] | None = None, progress: bool = True) -> list[dict]:
-    """Every run's row, in the grid's order; those that are `there` are not run again. Into `file` each row goes as soon as
-    those before it are there, into `journal` as soon as it is there."""
-    rows, columns = dict(there or {}), grid.columns()
-    numbers = [number for number in range(len(grid.points)) if number not in rows]
-    said, written = Progress(len(numbers)), 0
+class Rows:
+    """The rows of a grid by their numbers, as CSV has them: those that were `there`, and those of the runs that were asked for.
+    Into `journal` a row goes as soon as it is there."""
+
+    def __init__(self, grid: Grid, engine: Runner, journal: Journal | None = None, there: dict[int, dict] | None = None,
+                 progress: bool = True):
+        self.grid, self._engine, self._journal, self._rows = grid, engine, journal, dict(there or {})
+        self._said = Progress(0) if progress else None
+
+    def run(self, numbers: Iterable[int]) -> Iterator[int]:
+        """Runs those of these points that have no row, and gives the number of each as it ends."""
+        missing = [number for number in numbers if number not in self._rows]
+        if self._said:
+            self._said.count += len(missing)
+        for number, figures in self._engine(self.grid, missing) if missing else ():
+            self._rows[number] = self.grid.row(number, figures)
+            if self._journal:
+                self._journal.add(self._rows[number])
+            if self._said:
+                self._said.note(self.grid.labels(number), figures)
+            yield number
+
+    def __contains__(self, number: int) -> bool:
+        return number in self._rows
+
+    def __getitem__(self, number: int) -> dict[str, str]:
+        return self._rows[number]
+
+    def in_order(self) -> list[dict[str, str]]:
+        """All that are there, in the grid's order."""
+        return [self._rows[number] for number in sorted(self._rows)]
+
+
+def run_all(rows: Rows, file: output.Output | None = None) -> None:
+    """Runs every point. Into `file` each row goes as soon as those before it are there."""
+    columns, count, written = rows.grid.columns(), len(rows.grid.points), 0
 
     def write_ready():
         nonlocal written
@@ -146,11 +175,5 @@ def run_all(grid: Grid, engine: Runner, file: output.Output | None = None, journ
     if file:
         file.write(csv_line(dict(zip(columns, columns)), columns))
         write_ready()
-    for number, figures in engine(grid, numbers):
-        rows[number] = grid.row(number, figures)
-        if journal:
-            journal.add(rows[number])
-        if progress:
-            said.note(grid.labels(number), figures)
+    for _ in rows.run(range(count)):
         write_ready()
-    return [rows[number] for number in range(len(grid.points))]

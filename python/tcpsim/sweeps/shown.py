@@ -59,10 +59,10 @@ def table(grid: Grid, rows: list) -> list[str]:
     return [', '.join(head)] * bool(head) + aligned([titles, *lines]) + refused + too_short(grid)
 
 
-def too_short(grid: Grid) -> list[str]:
-    """A sentence on the choice of values whose run is shortest beside a tooth of its flows' sawtooth, where any is too short. Of
-    flows that can end in their run no teeth are told."""
-    found, choices = [], range(0, len(grid.points), grid.replicates)
+def too_short(grid: Grid, numbers: Sequence[int] | None = None) -> list[str]:
+    """A sentence on the choice of values whose run is shortest beside a tooth of its flows' sawtooth, where any is too short: of all
+    choices, or of those of these points. Of flows that can end in their run no teeth are told."""
+    found, choices = [], range(0, len(grid.points), grid.replicates) if numbers is None else numbers
     for number in choices:
         scenario = Scenario(grid.text(number))
         begin = max(grid.asked.skip, min(flow.start for flow in scenario.flows))
