@@ -287,3 +287,15 @@ def test_in_python(put):
         tcpsim.find(net, {}, 'pq.used > 0.5')
     with pytest.raises(tcpsim.Wrong, match='one setting in vary'):
         tcpsim.find(net, {'pq.queue': 'droptail:1..9'}, 'pq.used > 0.5', which='most')
+
+
+def test_a_shape_is_varied(put):
+    """The least rate of a dumbbell that carries so much, of one flow and of two."""
+    net = tcpsim.dumbbell(flows=1, rate='1M', rtt='40ms', end='2s')
+    done = find(put('net.txt', net.text), '--set', 'flows=1,2', '--vary', 'rate=200k..2M/100k', '--least', '--so-that', 'run.goodput >= 500k', '--csv')
+    answers = {row['flows']: row for row in rows_of(done.stdout) if row['is'] == 'answer'}
+    for flows in ('1', '2'):
+        rates = [(rate, tcpsim.run(tcpsim.dumbbell(flows=flows, rate=f'{rate}', rtt='40ms', end='2s'), engine=PROGRAM).figures)
+                 for rate in range(200_000, 2_000_001, 100_000)]
+        wanted = next(rate for rate, run in rates if sum(flow.delivered_bytes for flow in run.flows.values()) * 8 / 2 >= 500_000)
+        assert answers[flows]['rate_bit_s'] == str(wanted)

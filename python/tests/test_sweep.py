@@ -471,6 +471,59 @@ class TestPictures:
         assert '19 panels' in done.stderr
 
 
+NET = command.scenario(['dumbbell', '--flows', '2', '--rate=2M', '--rtt', '40ms', '--end', '2s'])
+
+
+def test_options_of_the_shape_are_set():
+    """Each run is of the text that tcpsim-net writes with these words; a name that not every scenario has is empty there."""
+    words = '--set', 'flows=1,3', '--set', 'rtt=20ms,60ms', '--over', 'spread=1..2', '--set', 'pq.queue=droptail:9,BDP'
+    pattern = sweep.Pattern(NET)
+    grid = Grid(pattern, sweep.settings_of([words[1], words[3], words[7]], pattern, ['spread=1..2']), AskedOfRun('', None, 0, ()))
+    assert len(grid.points) == 16
+    for number in range(16):
+        labels = grid.labels(number)
+        net = command.scenario(['dumbbell', '--end', '2s', '--rate=2M', *(f'--{name}={labels[name]}' for name in ('flows', 'rtt', 'spread')),
+                                '--queue', labels['pq.queue']])
+        assert grid.text(number).split('\n')[3:] and without_comments(grid.text(number)) == without_comments(net)
+    done = tool(path('net.txt', NET), *words[:4], '--show', '*.goodput,f1+f2.sent,*.jain', '--csv')
+    rows = rows_of(done.stdout)
+    assert [(row['flows'], row['rtt'], row['rtt_ns']) for row in rows] == [
+        ('1', '20ms', '20000000'), ('1', '60ms', '60000000'), ('3', '20ms', '20000000'), ('3', '60ms', '60000000')]
+    assert [[bool(row[name]) for name in ('f0.goodput_bit_s', 'f2.goodput_bit_s', 'f1+f2.sent', '*.jain')] for row in rows] == [
+        [True, False, False, True]] * 2 + [[True] * 4] * 2
+    table = tool(path('net.txt', NET), '--set', 'flows=1,3').stdout
+    assert table.startswith('figures of link pq, Jain\'s index of 1 to 3 flows\n')
+
+
+def without_comments(text):
+    return [line.partition('#')[0].split() for line in text.split('\n') if not line.startswith('#')]
+
+
+@pytest.mark.parametrize('text, words, why', [
+    (NET, ['flows=200'], '200 is out of range'), (NET, ['nosuch=3'], 'or OPTION=VALUE,.., with an option of this tcpsim-net: flows, rate, rtt'),
+    (NET, ['flows=1,2', 'f1.start=0,1s'], '--set f1.start: with flows=1 there is no f1'), (NET, ['flows=2,2'], 'twice'),
+    (NET, ['flows=1', 'rtt=20ms+30ms'], 'flows=1 rtt=20ms+30ms: --rtt has 2 values'), (NET, ['rate=1M+2M'], '--rate takes one'),
+    (NET, ['rtt=20'], 'as it has no unit'), (NET, ['flows'], 'with an option of this tcpsim-net'),
+    (NET.replace('link pq p q 2000000', 'link pq p q 3000000'), ['flows=1'], 'the scenario was changed since tcpsim-net wrote it'),
+    (BY_HAND, ['flows=1'], 'no line of the scenario says by which words')])
+def test_wrong_options_of_the_shape(text, words, why):
+    done = tool(path('net.txt', text), *(word for each in words for word in ('--set', each)))
+    assert (done.returncode, done.stdout, len(done.stderr.splitlines())) == (2, '', 1) and why in done.stderr
+
+
+def test_parts_of_the_product():
+    """At 2 Mbit/s and 48 ms a link has 8 packets of 1,500 bytes under way: half, twice that, and by the root of two flows."""
+    net = command.scenario(['dumbbell', '--flows', '2', '--rate=2M', '--rtt', '48ms', '--end', '2s', '--mice', '3'])
+    done = tool(path('net.txt', net), '--set', 'pq.queue=droptail:BDP,0.5BDP,2BDP,BDP/sqrt(n),0.6BDP', '--csv')
+    assert [(row['pq.queue'], row['pq.queue_packets']) for row in rows_of(done.stdout)] == [
+        ('droptail:BDP', '8'), ('droptail:0.5BDP', '4'), ('droptail:2BDP', '16'), ('droptail:BDP/sqrt(n)', '5'), ('droptail:0.6BDP', '4')]
+    for word, packets in (('0.5BDP', 4), ('BDP/sqrt(n)', 5)):
+        text = command.scenario(['dumbbell', '--flows', '2', '--rate=2M', '--rtt', '48ms', '--end', '2s', '--mice', '3', '--queue', f'droptail:{word}'])
+        assert f' droptail {packets}  # the bottleneck: 2Mbit/s, 12ms, droptail:{word}\n' in text
+    done = tool(path('net.txt', net), '--set', 'pq.queue=droptail:BDP/sqrt(n),0.5BDP', '--print', path('jobs.d'))
+    assert done.returncode == 0 and len([name for name in os.listdir(path('jobs.d')) if name.endswith('.txt')]) == 2
+
+
 def test_progress(monkeypatch, capsys):
     """Four runs, each of 30 s: done, left, and how long the others take."""
     seconds = iter(range(0, 150, 30))

@@ -8,6 +8,7 @@ Rates are in bit/s with k, M, G, as 10M or 10Mbit; times in ns, us, ms, s.
 from __future__ import annotations
 
 import argparse
+import functools
 import shlex
 import sys
 from collections.abc import Callable
@@ -106,8 +107,9 @@ SHAPES = {      # name: builder, its options, and what differs from the options 
 WITH_MICE = [name for name, (_, options, _) in SHAPES.items() if '--mice' in options]
 
 
+@functools.lru_cache(maxsize=1)
 def command_line() -> Words:
-    """The words of the command."""
+    """The words of the command; it is made once, as a sweep can ask for thousands of scenarios."""
     words = Words(description='Writes a scenario\'s text to standard output.',
                         epilog='Rates are in bit/s with k, M, G, as 10M or 10Mbit; times in ns, us, ms, s. A list that is shorter than '
                         'the flows or hops begins again.')

@@ -94,7 +94,7 @@ def grid_of(given: argparse.Namespace, text: str, program: str, number: int | No
         raise Wrong(f'{given.scenario} is no scenario: it has no link or no flow')
     settings = settings_of(given.sets, pattern, given.over)
     columns = tuple(columns_of(given.show, pattern)) if given.show else ()
-    link = given.link or next((each.names[0] for each in settings if each.field in WHERE['link'] and not columns), None)
+    link = given.link or next((each.names[0] for each in settings if each.field in WHERE['link'] and not (each.of_shape or columns)), None)
     if link and pattern.sorts.get(link) != 'link':
         raise Wrong(f'--link {link!r}: the scenario has no such link, only {", ".join(pattern.named("link")[:12])}')
     if number is None:

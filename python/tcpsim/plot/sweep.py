@@ -68,7 +68,7 @@ def size_of(grid: Grid, number: int, at: int) -> tuple[int, ...]:
     queue = grid.points[number][at]
     if queue.kind == 'codel':
         return queue.target, queue.interval, queue.capacity
-    return (capacity_in(grid.text(number), grid.chosen[at].names[0]) if queue.capacity is None else queue.capacity,)
+    return (capacity_in(grid.text(number), grid.chosen[at].names[0]) if queue.is_product else queue.capacity,)
 
 
 def short(each: Setting, value: object) -> str:
@@ -76,7 +76,7 @@ def short(each: Setting, value: object) -> str:
     if each.field != 'queue':
         return each.label(value)
     if value.kind == 'droptail':
-        return 'BDP' if value.capacity is None else str(value.capacity)
+        return str(value.capacity)
     others = {(queue.interval, queue.capacity, queue.maxpacket) for queue in each.values if queue.kind == 'codel'}
     return spelled_time(value.target) if len(others) == 1 else str(value).partition(':')[2]
 

@@ -177,20 +177,21 @@ class Net:
 
     def room(self, link: int) -> int:
         """How many packets a link's queue takes."""
-        capacity = self.links[link].queue.capacity
-        return self._products()[link] if capacity is None else capacity
+        queue = self.links[link].queue
+        return self._products()[link] if queue.is_product else queue.capacity
 
     def _products(self):
         """The bandwidth-delay product of each link whose queue asks for it."""
-        wanted = [number for number, link in enumerate(self.links) if link.queue.capacity is None]
+        wanted = [number for number, link in enumerate(self.links) if link.queue.is_product]
         if not wanted:
             return {}
         ways = self.ways()
         delays = [link.delay for link in self.links]
         products = {}
         for number in wanted:
-            packets = units.product(self.links[number].rate, units.round_trip(number, ways, delays),
-                                    self._greatest_packet())
+            packets = self.links[number].queue.capacity.packets(
+                self.links[number].rate, units.round_trip(number, ways, delays), self._greatest_packet(),
+                units.flows_over(number, ways, self.flows))
             products[number] = units.within('capacity', packets, 'the bandwidth-delay product of link '
                                             f'{self.links[number].name}, {packets:,} packets,')
         return products

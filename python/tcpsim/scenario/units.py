@@ -6,6 +6,7 @@ standard library.
 """
 from __future__ import annotations
 
+import math
 import re
 import sys
 import warnings
@@ -30,6 +31,7 @@ RATE_WORDS = {unit + bits: scale for unit, scale in RATE_UNITS.items() for bits 
 TIME_UNITS = {'ns': 1, 'us': 10**3, 'ms': 10**6, 's': 10**9}
 SIZE_UNITS = {'': 1, 'k': 10**3, 'M': 10**6, 'G': 10**9}
 WORD = re.compile(r'([0-9]{1,20})(?:\.([0-9]{1,20}))?([A-Za-z/]*)')
+PRODUCTS = re.compile(r'([0-9]{1,6}(?:\.[0-9]{1,6})?)?BDP(/sqrt\(n\))?')
 CODEL_LIMIT = 1000          # packets, where `codel:TARGET:INTERVAL` names no limit
 WITHIN = 'tcpsim', 'argparse', 'contextlib'     # modules that read a word, and are not the line that named it
 
@@ -123,13 +125,30 @@ SPELLED = {name: {rate: spelled_rate, time: spelled_time}.get(reader, '{:,}'.for
 
 # ---- queues
 
+class Products(namedtuple('Products', 'times root')):
+    """A queue's capacity as so many bandwidth-delay products of its link, or by the root of how many flows send over it."""
+
+    def __str__(self):
+        times = str(int(self.times)) if self.times.denominator == 1 else f'{float(self.times):g}'
+        return f'{times * (self.times != 1)}BDP{"/sqrt(n)" * self.root}'
+
+    def packets(self, bits: int, round_trip_of: int, packet: int, flows: int) -> int:
+        """The whole packets that this is, at least one, of a rate in bit/s, a round trip in ns, bytes of a packet, and how many flows."""
+        exact = self.times * bits * round_trip_of / (packet * BITS_NS)
+        return max(1, math.isqrt(int(exact**2 / max(1, flows))) if self.root else int(exact))
+
+
 class Queue(namedtuple('Queue', 'kind capacity target interval maxpacket', defaults=(0, 0, None))):
-    """A link's queue. The capacity is None where it is to be the bandwidth-delay product, CoDel's maxpacket where it
-    is to be the greatest packet."""
+    """A link's queue. The capacity can be Products, and CoDel's maxpacket is None where it is to be the greatest packet."""
+
+    @property
+    def is_product(self) -> bool:
+        """Whether its capacity depends on the link and its flows."""
+        return isinstance(self.capacity, Products)
 
     def __str__(self):
         if self.kind == 'droptail':
-            return f'droptail:{"BDP" if self.capacity is None else self.capacity}'
+            return f'droptail:{self.capacity}'
         times = f'codel:{spelled_time(self.target)}:{spelled_time(self.interval)}'
         if self.maxpacket is not None:
             return f'{times}:{self.capacity}:{self.maxpacket}'
@@ -137,8 +156,8 @@ class Queue(namedtuple('Queue', 'kind capacity target interval maxpacket', defau
 
     def words(self, packet: int, product: int) -> str:
         """The words of a link's statement from the kind of queue on. `packet` is the greatest in bytes, `product`
-        the bandwidth-delay product in packets."""
-        capacity = product if self.capacity is None else self.capacity
+        its capacity in packets where that is Products."""
+        capacity = product if self.is_product else self.capacity
         if self.kind == 'droptail':
             return f'droptail {capacity}'
         maxpacket = packet if self.maxpacket is None else self.maxpacket
@@ -146,13 +165,14 @@ class Queue(namedtuple('Queue', 'kind capacity target interval maxpacket', defau
 
 
 def queue(word: str, default_kind: str | None = None) -> Queue:
-    """The queue of a word: droptail:N, droptail:BDP or codel:TARGET:INTERVAL[:LIMIT[:MAXPACKET]]. With
-    `default_kind` the kind may be left out."""
+    """The queue of a word: droptail:N, droptail:BDP or codel:TARGET:INTERVAL[:LIMIT[:MAXPACKET]]; BDP can be 0.5BDP, or BDP/sqrt(n).
+    With `default_kind` the kind may be left out."""
     kind, *numbers = word.split(':')
     if kind not in ('droptail', 'codel') and default_kind:
         kind, numbers = default_kind, [kind, *numbers]
     if kind == 'droptail' and len(numbers) == 1:
-        return Queue(kind, None if numbers[0] == 'BDP' else _limit(word, numbers[0]))
+        products = PRODUCTS.fullmatch(numbers[0])
+        return Queue(kind, Products(Fraction(products[1] or 1), bool(products[2])) if products else _limit(word, numbers[0]))
     if kind == 'codel' and len(numbers) in (2, 3, 4):
         limit = _limit(word, numbers[2]) if numbers[2:] else CODEL_LIMIT
         return Queue(kind, limit, time(numbers[0]), time(numbers[1]), size(numbers[3]) if numbers[3:] else None)
@@ -168,7 +188,7 @@ def _limit(word, packets):
 def queue_in_range(word: str) -> Queue:
     """The queue of a word, each of its numbers in its range."""
     read = queue(word)
-    if read.capacity is not None:
+    if not read.is_product:
         within('capacity', read.capacity)
     if read.kind == 'codel':
         within('target', read.target)
@@ -202,11 +222,6 @@ def warn_of_order(queues: Sequence[Queue]) -> None:
     warnings.warn(f'{doubtful[0]}{more} has a target above its interval: the order is codel:TARGET:INTERVAL', stacklevel=level)
 
 
-def product(bits: int, round_trip_of: int, packet: int) -> int:
-    """The bandwidth-delay product in whole packets, at least one: what is under way in a round trip."""
-    return max(1, bits * round_trip_of // (packet * BITS_NS))
-
-
 def round_trip(link: int, ways: Sequence[tuple[Sequence[int], Sequence[int]]], delays: Sequence[int]) -> int:
     """The mean round trip, of delays alone, of the flows whose data goes over a link, or of those whose
     acknowledgements do where no data does; 0 where nothing does. `ways` are each flow's links there and back."""
@@ -215,3 +230,10 @@ def round_trip(link: int, ways: Sequence[tuple[Sequence[int], Sequence[int]]], d
         if trips:
             return sum(trips) // len(trips)
     return 0
+
+
+def flows_over(link: int, ways: Sequence[tuple[Sequence[int], Sequence[int]]], flows: Sequence) -> int:
+    """How many flows have their data go over a link, or where none has, their acknowledgements. `ways` are each flow's. Mice, which have
+    one segment in flight, are not counted."""
+    many = [both for both, flow in zip(ways, flows) if flow.rwnd >= 2 * flow.mss]
+    return next(filter(None, (sum(link in both[sort] for both in many) for sort in (0, 1))), 0)

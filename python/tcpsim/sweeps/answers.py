@@ -3,13 +3,13 @@ from __future__ import annotations
 
 import re
 from collections.abc import Iterator
+from fractions import Fraction
 
 from tcpsim.output import aligned
-from tcpsim.scenario.text import Scenario
-from tcpsim.scenario.units import product, round_trip
+from tcpsim.scenario.units import Products
+from tcpsim.sweeps.pattern import packets_of
 from tcpsim.sweeps.search import GREATEST, Quest, Search
 from tcpsim.sweeps.shown import columns, fixed_and_varied, mean_in_words, too_short
-from tcpsim.sweeps.pattern import capacity_in
 
 RULES = 'BDP', 'BDP/sqrt(n)'
 STRETCHES = 6           # that a sentence names at most
@@ -33,12 +33,8 @@ def rules_of(search: Search, choice: int) -> list[int]:
     value = search.varied.values[0]
     if search.varied.field != 'queue' or value.kind != 'droptail':
         return []
-    scenario = Scenario(search.grid.text(search.numbers(choice, 0)[0]))
-    link = [each.name for each in scenario.links].index(search.varied.names[0])
-    trip = round_trip(link, scenario.ways, [each.delay for each in scenario.links])
-    flows = sum(link in there for there, _ in scenario.ways)
-    packets = product(scenario.links[link].rate, trip, search.grid.pattern.packet)
-    return [packets, max(1, round(packets / max(1, flows)**.5))]
+    text = search.grid.text(search.numbers(choice, 0)[0])
+    return [packets_of(Products(Fraction(1), root), text, search.varied.names[0], search.grid.pattern.packet) for root in (False, True)]
 
 
 def records(search: Search) -> list[dict[str, object]]:

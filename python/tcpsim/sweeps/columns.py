@@ -196,7 +196,8 @@ class ShownFigure(NamedTuple):
         if self.sort == 'run':
             return read(run, 0)
         there = [each.name for each in (scenario.flows if self.sort == 'flow' else scenario.links)]
-        values = [read(run, there.index(name)) for name in self.names]
+        names = [name for name in self.names if name in there or not self.name.startswith('*')]
+        values = [read(run, there.index(name)) if name in there else None for name in names]
         return None if None in values else self.figure.joins(values) if self.figure.joins else values[0]
 
 

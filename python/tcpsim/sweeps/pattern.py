@@ -4,16 +4,18 @@ A value is a word, as 20ms or droptail:50, or a range of them, A..B/STEP. Nothin
 """
 from __future__ import annotations
 
+import functools
 import itertools
 import re
 from collections import namedtuple
-from collections.abc import Callable, Sequence
+from collections.abc import Callable, Iterable, Sequence
 
 from tcpsim.command_line import Wrong
 from tcpsim.scenario import units
 from tcpsim.scenario.senders import initial_window, variant
 from tcpsim.scenario.text import Scenario, Unreadable
-from tcpsim.scenario.units import HEADER_BYTES, spelled_rate, spelled_time
+from tcpsim.scenario.units import HEADER_BYTES, Products, spelled_rate, spelled_time
+from tcpsim.sweeps.shape import SHAPE, Option, options_of, with_options
 
 MOST_RUNS = 100_000
 # Where in a statement's words a field stands; `lose` has statements of its own. A flow's last two words may be left out.
@@ -26,16 +28,19 @@ QUEUE_UNITS = 'packets', 'target_ns', 'interval_ns'
 
 # ---- what is swept
 
-class Setting(namedtuple('Setting', 'key names field values option')):
+class Setting(namedtuple('Setting', 'key names field values option of_shape', defaults=(None,))):
     """A part of the command line, of --set or --over: `names` get each of `values` in turn, in their statements' `field`.
-    `values` are numbers, queues, words, or the numbers of packets that are lost."""
+    `values` are numbers, queues, words, or the numbers of packets that are lost. `of_shape` is the option of tcpsim-net where the
+    whole scenario is another one with each value."""
 
     def label(self, value: object) -> str:
         """A value in words."""
-        return spell(self.field, value)
+        return self.of_shape.words(value) if self.of_shape else spell(self.field, value)
 
     def titles(self) -> list[str]:
         """The columns of a value's numbers, with their units."""
+        if self.of_shape:
+            return [f'{self.key}_{self.of_shape.kind.unit}'] if self.of_shape.kind.unit else []
         if self.field == 'queue':
             codel = any(value.kind == 'codel' for value in self.values)
             return [f'{self.key}_{unit}' for unit in QUEUE_UNITS[:3 if codel else 1]]
@@ -43,9 +48,9 @@ class Setting(namedtuple('Setting', 'key names field values option')):
 
     def numbers(self, value: object, text: str) -> dict[str, object]:
         """A value's numbers by their columns; `text` is the run's, which has how many packets a product is."""
-        if self.field != 'queue':
-            return dict.fromkeys(self.titles(), value)
-        limit = capacity_in(text, self.names[0]) if value.capacity is None else value.capacity
+        if self.field != 'queue' or self.of_shape:
+            return dict.fromkeys(self.titles(), None if isinstance(value, tuple) else value)
+        limit = capacity_in(text, self.names[0]) if value.is_product else value.capacity
         times = (value.target, value.interval) if value.kind == 'codel' else (None, None)
         return dict(zip(self.titles(), (limit, *times)))
 
@@ -83,11 +88,20 @@ class Pattern:
         """The names of all nodes, links or flows."""
         return [name for name, its in self.sorts.items() if its == sort]
 
+    def know(self, variants: Iterable[Pattern]) -> None:
+        """Takes the names of these for its own too."""
+        for each in variants:
+            self.sorts.update({name: sort for name, sort in each.sorts.items() if name not in self.sorts})
+
     def point(self, settings: Sequence[Setting], values: Sequence[object]) -> str:
         """The text with each setting's value. Queues come last: a bandwidth-delay product is that of the point."""
+        shaped = [(each, value) for each, value in zip(settings, values) if each.of_shape]
+        if shaped:
+            rest = [(each, value) for each, value in zip(settings, values) if not each.of_shape]
+            return self.shaped(shaped).point([each for each, _ in rest], [value for _, value in rest])
         lines, queues = list(self.lines), []
         for setting, value in zip(settings, values):
-            for name in setting.names:
+            for name in self.names_of(setting):
                 if setting.field == 'queue':
                     queues.append((name, value))
                 elif setting.field == 'lose':
@@ -97,9 +111,17 @@ class Pattern:
         packet = greatest_packet(lines) if any(each.field == 'mss' for each in settings) else self.packet
         for product in (False, True):           # the delays of all queues' links stand before a product is asked for
             for name, queue in queues:
-                limit = product_of(lines, name, packet) if product and queue.capacity is None else 1
+                limit = packets_of(queue.capacity, '\n'.join(lines), name, packet) if product and queue.is_product else 1
                 self._put(lines, name, 'queue', queue.words(packet, limit).split())
         return '\n'.join(lines)
+
+    def shaped(self, given: Sequence[tuple[Setting, object]]) -> Pattern:
+        """That of the text which tcpsim-net writes with these values of its options."""
+        return pattern_of(with_options('\n'.join(self.lines), tuple((each.of_shape.word, each.label(value)) for each, value in given)))
+
+    def names_of(self, setting: Setting) -> list[str]:
+        """Which links or flows a setting is of."""
+        return self.named(sort_of(setting.field)) if setting.key.startswith('*.') else setting.names
 
     def _put(self, lines, name, field, values):
         line = lines[self.places[name]]
@@ -113,6 +135,17 @@ class Pattern:
         else:
             words[at:at + 1] = values
         lines[self.places[name]] = ' '.join(words) + (f'  {sign}{comment}' if sign else '')
+
+
+@functools.lru_cache(maxsize=128)
+def pattern_of(text: str) -> Pattern:
+    """The pattern of a text."""
+    return Pattern(text)
+
+
+def sort_of(field: str) -> str | None:
+    """Of what a field is: a link, a flow or the run."""
+    return next((sort for sort, fields in WHERE.items() if field in fields), None)
 
 
 def lose(lines: list[str], name: str, numbers: Sequence[int]) -> None:
@@ -139,15 +172,15 @@ def greatest_packet(lines: list[str]) -> int:
     return max(sizes, default=1460) + HEADER_BYTES
 
 
-def product_of(lines: list[str], name: str, packet: int) -> int:
-    """The bandwidth-delay product of a link in packets; 1 in a text that has no ways."""
+def packets_of(products: Products, text: str, name: str, packet: int) -> int:
+    """What a capacity is in packets of so many bytes, at a link of a text; 1 in a text that has no ways."""
     try:
-        read = Scenario('\n'.join(lines))
+        read = Scenario(text)
     except Unreadable:
         return 1
     number = [link.name for link in read.links].index(name)
     trip = units.round_trip(number, read.ways, [link.delay for link in read.links])
-    return units.product(read.links[number].rate, trip, packet)
+    return products.packets(read.links[number].rate, trip, packet, units.flows_over(number, read.ways, read.flows))
 
 
 def setting(word: str, pattern: Pattern, option: str = '--set') -> Setting:
@@ -157,8 +190,8 @@ def setting(word: str, pattern: Pattern, option: str = '--set') -> Setting:
     if key == 'end':
         names, field = 'sim', 'end'
     elif not dot:
-        raise Wrong(f'{option} {word!r}: write LINK.FIELD=VALUE,.. or FLOW.FIELD=VALUE,.. or end=TIME,..')
-    sort = next((sort for sort, fields in WHERE.items() if field in fields), None)
+        return setting_of_shape(word, pattern, option)
+    sort = sort_of(field)
     if sort is None or (field == 'end') != (names == 'sim'):
         raise Wrong(f'{option} {word!r}: there is no field {field!r}; of a link there are {", ".join(WHERE["link"])}, of a '
                     f'flow {", ".join(WHERE["flow"])}')
@@ -171,7 +204,50 @@ def setting(word: str, pattern: Pattern, option: str = '--set') -> Setting:
             there = pattern.named(sort)
             shown = ', '.join(there[:12]) + ', ..' * (len(there) > 12)
             raise Wrong(f'{option} {word!r}: the scenario has no {sort} {name!r}' + f', only {shown}' * bool(there))
-    return Setting(key, listed, field, read, option)
+    return check_once(Setting(key, listed, field, read, option), word)
+
+
+def setting_of_shape(word: str, pattern: Pattern, option: str) -> Setting:
+    """What an option of tcpsim-net's is to be: rtt=20ms,50ms, in a scenario that tcpsim-net wrote."""
+    key, _, values = word.partition('=')
+    key = key.replace('_', '-')
+    try:
+        options = options_of('\n'.join(pattern.lines))
+    except Wrong as wrong:
+        raise Wrong(f'{option} {word!r}: write LINK.FIELD=VALUE,.. or FLOW.FIELD=VALUE,.. or end=TIME,..; options of tcpsim-net are '
+                    f'none here, as {wrong}') from None
+    if key not in options or not values:
+        raise Wrong(f'{option} {word!r}: write LINK.FIELD=VALUE,.. or FLOW.FIELD=VALUE,.. or end=TIME,.. or OPTION=VALUE,.., with an option '
+                    f'of this tcpsim-net: {", ".join(options)}')
+    of = options[key]
+    try:
+        if of.kind.read is units.queue:
+            read = units.queues(','.join(itertools.chain.from_iterable(spread(value, 'queue') for value in values.split(','))))
+        else:
+            read = list(itertools.chain.from_iterable(of_shape(value, of) for value in values.split(',')))
+        found = Setting(key, [SHAPE], key, read, option, of)
+        for value in read:
+            pattern.shaped([(found, value)])
+    except Wrong as wrong:
+        raise Wrong(f'{option} {word!r}: {wrong}') from None
+    return check_once(found, word)
+
+
+def of_shape(value: str, of: Option) -> list:
+    """The values of one word of an option of tcpsim-net's: one, those of a range, or one for several flows."""
+    if '..' in value:
+        return in_range(value, of.kind.read)
+    parts = [of.kind.read(part) for part in value.split('+')]
+    if len(parts) > 1 and not of.many:
+        raise Wrong(f'{value!r} has several values, and {of.word} takes one')
+    return parts if len(parts) == 1 else [tuple(parts)]
+
+
+def check_once(found: Setting, word: str) -> Setting:
+    """The setting, or Wrong where it has a value twice."""
+    if len(set(found.values)) < len(found.values):
+        raise Wrong(f'{found.option} {word!r}: a value stands there twice')
+    return found
 
 
 EXAMPLES = {'queue': 'droptail:10,50,codel:5ms:100ms', 'rate': '1M,10M', 'delay': '20ms,100ms',
@@ -189,8 +265,6 @@ def values_of(word: str, field: str, values: str, option: str = '--set') -> list
         read = units.queues(','.join(read)) if field == 'queue' else read
     except Wrong as wrong:
         raise Wrong(f'{option} {word!r}: {wrong}') from None
-    if len(set(read)) < len(read):
-        raise Wrong(f'{option} {word!r}: a value stands there twice')
     return read
 
 
@@ -228,9 +302,37 @@ def in_range(word: str, read: Callable[[str], int]) -> list[int]:
     return list(range(least, greatest + 1, by))
 
 
+def variants_of(pattern: Pattern, settings: Sequence[Setting]) -> dict[str, Pattern]:
+    """The patterns of all choices of the values of these options of tcpsim-net, by what is chosen."""
+    found = {}
+    for values in itertools.product(*(each.values for each in settings)) if settings else ():
+        words = ' '.join(f'{each.key}={each.label(value)}' for each, value in zip(settings, values))
+        try:
+            found[words] = pattern.shaped(list(zip(settings, values)))
+        except Wrong as wrong:
+            raise Wrong(f'{words}: {wrong}') from None
+    return found
+
+
+def is_of_shape(word: str) -> bool:
+    """Whether a word sets an option of tcpsim-net's."""
+    key = word.partition('=')[0]
+    return '.' not in key and key != 'end'
+
+
 def settings_of(words: Sequence[str], pattern: Pattern, over: Sequence[str] = ()) -> list[Setting]:
-    """All settings, those of --over last; none sets what another sets."""
-    settings, taken = [setting(word, pattern) for word in words] + [setting(word, pattern, '--over') for word in over], set()
+    """All settings, those of --over last; none sets what another sets. Where options of tcpsim-net are set, `pattern` knows the names
+    of every scenario that they give."""
+    given, taken = [('--set', word) for word in words] + [('--over', word) for word in over], set()
+    of_shape = [setting(word, pattern, option) for option, word in given if is_of_shape(word)]
+    variants = variants_of(pattern, of_shape)
+    pattern.know(variants.values())
+    settings = [of_shape.pop(0) if is_of_shape(word) else setting(word, pattern, option) for option, word in given]
+    for words, variant in variants.items():
+        for each in settings:
+            if not each.of_shape and not variant.places.keys() >= set(variant.names_of(each)):
+                lacks = next(name for name in each.names if name not in variant.places)
+                raise Wrong(f'{each.option} {each.key}: with {words} there is no {lacks}')
     for each in settings:
         for name in each.names:
             if (name, each.field) in taken:

@@ -219,7 +219,7 @@ class Grid:
 
     def name(self, number: int) -> str:
         """A file's name for the point."""
-        words = '_'.join(self.labels(number).values()).replace(':', '-')
+        words = re.sub('[:/()]+', '-', '_'.join(self.labels(number).values()))
         return f'{number + 1:0{len(str(len(self.points)))}}' + f'_{words}'[:80] * bool(words)
 
     def figures(self) -> list[str]:

@@ -52,7 +52,8 @@ def sizes_of(setting: Setting) -> dict[object, float]:
     if isinstance(setting.values[0], Queue):
         parts = {name: [getattr(value, name) for value in setting.values] for name in Queue._fields}
         varied = [name for name, its in parts.items() if len(set(its)) > 1]
-        if varied == ['kind'] or len(varied) > 1 or any(None in its and len(set(its)) > 1 for its in parts.values()):
+        if varied == ['kind'] or len(varied) > 1 or any(value.is_product for value in setting.values) or (
+                None in parts['maxpacket'] and varied == ['maxpacket']):
             raise Wrong(f'{word}: the values rise in one number, as droptail:1..200 or codel:1ms..50ms/1ms:100ms')
         return dict(zip(setting.values, parts[varied[0] if varied else 'capacity']))
     if not all(isinstance(value, int) for value in setting.values):

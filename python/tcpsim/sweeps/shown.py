@@ -38,10 +38,11 @@ def fixed_and_varied(grid: Grid, settings: Sequence[Setting], count: int) -> tup
 
 def heads(grid: Grid, links: set[str], compared: Iterable[object]) -> list[str]:
     """What else stands above a table: of which link figures are, and of how many flows Jain's index is."""
-    counts = sorted({float(count) for count in compared if count not in ('', None)})
+    counts, flows = sorted({float(count) for count in compared if count not in ('', None)}), len(grid.pattern.named('flow'))
+    of_all = '' if any(each.of_shape for each in grid.settings) else f'of {flows} '
     return ([f'figures of link {next(iter(links))}'] if grid.link() and len(links) == 1 else []) + (
-        [f'Jain\'s index of {" to ".join(f"{count:g}" for count in dict.fromkeys((counts[0], counts[-1])))} of '
-         f'{len(grid.pattern.named("flow"))} flows'] if counts and len(grid.pattern.named('flow')) > 1 else [])
+        [f'Jain\'s index of {" to ".join(f"{count:g}" for count in dict.fromkeys((counts[0], counts[-1])))} {of_all}flows']
+        if counts and flows > 1 else [])
 
 
 def table(grid: Grid, rows: list) -> list[str]:
