@@ -175,7 +175,7 @@ def test_queues():
 def test_product():
     # 8 Mbit/s times 40 ms are 40,000 bytes: 38 packets of 1,040 and 480 bytes
     assert units.queue('droptail:BDP').capacity.packets(8 * 10**6, 40 * MS, 1040, 2) == 38
-    assert units.product(1000, 1, 1500) == 1
+    assert units.queue('droptail:BDP').capacity.packets(1000, 1, 1500, 2) == 1
 
 
 # ---- what is written

@@ -28,6 +28,7 @@ def draw(search: Search) -> Figure:
         axes.set_ylabel(column.heading, fontsize=TITLE_SIZE)
         axes.grid(alpha=.3)
         axes.tick_params(labelsize=TICKS)
+        axes.margins(y=.1)
         sizes = list(sizes_of(search.varied).values())
         if sizes[0] > 0 and sizes[-1] > WIDE * sizes[0]:
             axes.set_xscale('log')
@@ -67,11 +68,11 @@ def draw_figure(axes: Axes, search: Search, column: ShownFigure, scale: float) -
         if quest.answer in means:
             at = sizes[quest.answer] / scale, means[quest.answer].mean / per
             axes.plot(*at, marker='o', ms=9, mew=1.6, mfc='none', ls='', color=look['color'])
-            labels.append(axes.annotate(search.label(quest.answer), at, textcoords='offset points', xytext=(0, 0), fontsize=KEY_SIZE,
+            labels.append(axes.annotate(search.label(quest.answer).partition(':')[2] or search.label(quest.answer), at, textcoords='offset points', xytext=(0, 0), fontsize=KEY_SIZE,
                                         color=look['color']))
     for each in search.asked.conditions:
         if each.column == column:
             axes.axhline(each.value / per, color='#444444', ls=(0, (5, 3)), lw=1)
-            axes.annotate(f'{each.sign} {each.word}', (1, each.value / per), xycoords=('axes fraction', 'data'), xytext=(-3, 2),
-                          textcoords='offset points', ha='right', fontsize=NOTE, color='#444444')
+            axes.annotate(f'{each.sign} {each.word}', (0, each.value / per), xycoords=('axes fraction', 'data'), xytext=(3, 2),
+                          textcoords='offset points', fontsize=NOTE, color='#444444')
     return labels

@@ -225,12 +225,9 @@ def setting_of_shape(word: str, pattern: Pattern, option: str) -> Setting:
             read = units.queues(','.join(itertools.chain.from_iterable(spread(value, 'queue') for value in values.split(','))))
         else:
             read = list(itertools.chain.from_iterable(of_shape(value, of) for value in values.split(',')))
-        found = Setting(key, [SHAPE], key, read, option, of)
-        for value in read:
-            pattern.shaped([(found, value)])
     except Wrong as wrong:
         raise Wrong(f'{option} {word!r}: {wrong}') from None
-    return check_once(found, word)
+    return check_once(Setting(key, [SHAPE], key, read, option, of), word)
 
 
 def of_shape(value: str, of: Option) -> list:
