@@ -332,3 +332,71 @@ def test_the_line_is_taken_away_where_a_queue_is_wrong(impatient, monkeypatch):
 
 if __name__ == '__main__':
     sys.exit(pytest.main([__file__, '-q', '-rs', *sys.argv[1:]]))
+
+
+# ---- sweeps over them
+
+
+class Fifo:
+    """Drop-tail of so many packets as the link has room for."""
+
+    def __init__(self, link):
+        self.packets, self.limit = deque(), link.capacity
+
+    def offer(self, packet, now, drop):
+        if len(self.packets) < self.limit:
+            self.packets.append(packet)
+        else:
+            drop(packet, 'full')
+
+    def take(self, now, drop):
+        return self.packets.popleft() if self.packets else None
+
+
+SWEPT = tcpsim.dumbbell(flows=2, rate='1M', rtt='40ms,70ms', queue='droptail:12', end='2s')
+
+
+@pytest.mark.parametrize('more', [{}, {'skip': '500ms'}, {'show': ['f0.goodput', 'pq.wait95', 'f1.share', 'pq.dropped']}, {'exact': True},
+                                  {'show': ['f0.rtt95'], 'skip': '500ms'}])
+def test_a_sweep_has_them_beside_others(more, capfd):
+    """A drop-tail queue in Python has the rows of drop-tail, but for the name."""
+    sweep = tcpsim.sweep(SWEPT, {'pq.queue': ['Fifo', 'codel:5ms:100ms', 'droptail:12', 'Red']}, over={'f1.start': '0..200ms/100ms'},
+                         queues={'pq': [Fifo, Red]}, jobs=2, **more)
+    assert capfd.readouterr().err == 'tcpsim: 6 of 12 runs are by the model, in some 1 s\n'
+    rows = [{name: value for name, value in row.items() if name not in ('pq.queue', 'pq.queue_packets', 'options', 'scenario_sha256')}
+            for row in sweep.rows]
+    assert rows[:3] == rows[6:9] and rows[9:] != rows[:3] and {row['status'] for row in sweep.rows} == {'done'}
+    assert [row['options'].partition('queues=')[2] for row in sweep.rows] == ['pq:Fifo'] * 3 + [''] * 6 + ['pq:Red'] * 3
+    assert [row['pq.queue_packets'] for row in sweep.rows] == [None] * 3 + [1_000] * 3 + [12] * 3 + [None] * 3
+    assert str(sweep).count('Fifo') >= 1
+
+
+def test_a_sweep_over_something_else_has_them_in_every_run():
+    settings = {'pq+qp.delay': ['5ms', '20ms']}
+    own = tcpsim.sweep(SWEPT, settings, queues={'pq': Fifo}, jobs=2)
+    assert [row['jain'] for row in own.rows] == [row['jain'] for row in tcpsim.sweep(SWEPT, settings, engine='model').rows]
+    assert {row['options'] for row in own.rows} == {'--link pq+qp queues=pq:Fifo'.replace('pq+qp ', 'pq ')}
+
+
+@pytest.mark.parametrize('more, why', [
+    ({'queues': {'pq': Fifo}}, 'give it a class'), ({'queues': {'nosuch': Fifo}}, 'names the link \'nosuch\''), ({'queues': [Fifo]}, 'is a mapping'),
+    ({'queues': {'pq': Fifo}, 'engine': 'program'}, 'is the model\'s'), ({'queues': {'pq': Fifo}, 'on': 'parallel'}, 'is the model\'s')])
+def test_a_sweep_refuses(more, why):
+    with pytest.raises(tcpsim.Wrong, match=why):
+        tcpsim.sweep(SWEPT, {'pq.queue': 'droptail:5,6'}, **more)
+
+
+def test_a_sweep_that_takes_long_by_the_model_is_refused_unasked():
+    with pytest.raises(tcpsim.Error, match='would take the model .* say engine="model"'):
+        tcpsim.sweep(tcpsim.dumbbell(flows=2, rate='100M', rtt='40ms', end='20s'), {'pq.queue': ['Fifo']}, queues={'pq': Fifo},
+                     over={'f1.start': '0..2s/100ms'})
+
+
+def test_what_a_queue_does_wrong_ends_the_sweep():
+    class Stubborn(Fifo):
+        def take(self, now, drop):
+            return 'nothing'
+    with pytest.raises(tcpsim.WrongQueue):
+        tcpsim.sweep(SWEPT, {'f1.start': '0,100ms'}, queues={'pq': Stubborn}, jobs=2)
+    rows = tcpsim.sweep(SWEPT, {'pq.rate': '0,1M'}, queues={'pq': Fifo}, jobs=2).rows
+    assert rows[0]['status'].startswith('refused E5 line ') and rows[1]['status'] == 'done'

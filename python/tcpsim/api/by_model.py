@@ -57,11 +57,11 @@ class OwnQueueRun:
                     progress.at(int(line.split(' ', 2)[1]))
                 yield line
 
-    def table(self) -> str:
-        """The table of figures; of these links it has rows for their own words too."""
+    def table(self, start: int = 0) -> str:
+        """The table of figures from a moment on (ns); of these links it has rows for their own words too."""
         with self._running() as progress:
-            net, sums = begun(self._scenario, 0), []
-            begin = min(flow.start for flow in net.flows)
+            net, sums = begun(self._scenario, start), []
+            begin = max(start, min(flow.start for flow in net.flows))
             while (due := net.due()) is not None:
                 if net.events % EVENTS == 0:
                     progress.at(due[0])

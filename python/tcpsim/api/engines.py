@@ -85,14 +85,14 @@ def check_queues(queues: object) -> bool:
     return bool(queues)
 
 
-def check_own(name: str | None, text: str) -> None:
-    """Raises where queues that are classes of Python's cannot run by the engine that is asked for."""
+def check_own(name: str | None, *texts: str) -> None:
+    """Raises where queues that are classes of Python's cannot run by the engine that is asked for, or long runs of these texts unasked."""
     if name not in (None, 'model'):
         raise Wrong('the program has no queues but drop-tail and CoDel: a run with `queues` is the model\'s, '
                     f'and not that of engine={name!r}')
     if name is None:
         try:
-            check_time([text])
+            check_time(texts)
         except NoProgram as wrong:
             long = str(wrong).partition(':')[0]
             raise Error(f'{long}, and queues of one\'s own run by the model alone: say engine="model", or take a shorter '

@@ -3,20 +3,24 @@ from __future__ import annotations
 
 import argparse
 import os
+import sys
 from collections.abc import Callable, Iterable, Mapping, Sequence
 from typing import TYPE_CHECKING, Union
 
 from tcpsim import output
-from tcpsim.api.engines import by_model, engine_of
+from tcpsim.api.engines import by_model, check_own, check_queues, engine_of
 from tcpsim.api.errors import as_api, wanted
 from tcpsim.api.results import html_table
 from tcpsim.api.scenarios import ScenarioText, as_word, scenario_of
-from tcpsim.api.shown import PlottedRun
+from tcpsim.api.shown import PlottedRun, notebook
 from tcpsim.api.simulation import moment
 from tcpsim.cli import sweep as command
-from tcpsim.program import NoProgram, check_time
+from tcpsim.command_line import Wrong, note
+from tcpsim.estimate import events_of
+from tcpsim.program import MODEL_SPEED, NoProgram, check_time
 from tcpsim.sweeps.files import csv_text
 from tcpsim.sweeps.means import PARTS, Averaged, averaged, pair_of, pairs, titles
+from tcpsim.sweeps.pattern import OwnQueue
 from tcpsim.sweeps.pool import Rows, run_all
 from tcpsim.sweeps.rows import QUESTION, Grid
 from tcpsim.sweeps.shown import mean_table, table
@@ -30,7 +34,8 @@ Values = Union[str, int, Sequence[Union[str, int]]]      # of a setting: a word 
 def sweep(scenario: ScenarioText | str | os.PathLike, settings: Mapping[str, Values] | None = None, *,
           over: Mapping[str, Values] | None = None, show: str | Sequence[str] | None = None, skip: str | int = 0,
           pair: Sequence[str] | str | None = None, link: str | None = None, exact: bool = False, engine: str | None = None,
-          on: str | None = None, jobs: int | None = None) -> Sweep:
+          on: str | None = None, jobs: int | None = None,
+          queues: Mapping[str, Callable | Sequence[Callable]] | None = None) -> Sweep:
     """Runs a scenario once for each choice of values, several runs side by side, and gives their figures.
 
     `settings` has the values of each NAME.FIELD, as {"pq.queue": ["droptail:50", "codel:5ms:100ms"]}; a value can be a range,
@@ -40,16 +45,48 @@ def sweep(scenario: ScenarioText | str | os.PathLike, settings: Mapping[str, Val
     `exact` takes all figures from traces. `engine` is 'program', 'model' or a program's path; `on` has others run it, as
     "dask:HOST:PORT", "slurm" or "parallel"; `jobs` runs go side by side.
 
+    `queues` gives links, by name, a class of Python's for their queue (docs/PYTHON.md), or a list of classes. A class's name is one of
+    the values of {"pq.queue": ["RED", "codel:5ms:100ms"]}; where the queue is not set every run has the class. The model runs
+    these, side by side, and standard error says how long that takes. NoProgram where it takes longer than a minute unasked.
+
     Wrong where a word is; a run that is refused, or that ends early, is a row whose status says so.
     """
     net = scenario_of(scenario)
     given = words_given(net, settings, over, show, skip, exact, on, jobs)
-    given.pair, given.link = as_word(pair) if pair else None, link
+    given.pair, given.link, given.queues = as_word(pair) if pair else None, link, own_queues(queues, engine, on)
     with as_api():
         grid = grid_to_run(engine, given, net.text, lambda plain: range(len(plain.points)))
-        rows = Rows(grid, command.engine_of(given), progress=False)
+        rows = Rows(grid, command.engine_of(given), progress=say_own(grid, engine, jobs))
         run_all(rows)
         return Sweep(grid, rows.in_order(), given.pair)
+
+
+def own_queues(queues: Mapping[str, Callable | Sequence[Callable]] | None, engine: str | None, on: str | None) -> dict[str, dict[str, Callable]]:
+    """Of each link the classes that can be its queue, by their names; Wrong where they are asked of another engine than the model."""
+    if not check_queues(queues):
+        return {}
+    if engine not in (None, 'model') or on:
+        check_own(engine or on, '')
+    found = {link: makers if isinstance(makers, (list, tuple)) else [makers] for link, makers in queues.items()}
+    return {link: {getattr(maker, '__name__', repr(maker)): maker for maker in makers} for link, makers in found.items()}
+
+
+def say_own(grid: Grid, engine: str | None, jobs: int | None) -> bool:
+    """Says how long the runs take that have queues of Python's classes; whether a terminal or a notebook shows how far they are. Wrong
+    where a class is asked for at no link, or where several are and no value says which."""
+    for link, makers in grid.pattern.own.items():
+        values = [value for each in grid.settings if each.field == 'queue' and link in each.names for value in each.values]
+        if link not in grid.pattern.named('link') or (len(makers) > 1 or values) and not any(isinstance(value, OwnQueue) for value in values):
+            raise Wrong(f'queues names the link {link!r}: give it a class, and where {link}.queue is set the class\'s name as a value, '
+                        f'as {{"{link}.queue": ["{next(iter(makers))}", "codel:5ms:100ms"]}}')
+    own = [number for number in range(len(grid.points)) if grid.queues(number)] if grid.pattern.own else []
+    if not own:
+        return False
+    if engine is None:
+        check_own(None, *(grid.text(number) for number in own))
+    seconds = sum(events_of(grid.text(number)) for number in own) / MODEL_SPEED / min(len(own), jobs or os.cpu_count() or 1)
+    note(f'tcpsim: {len(own)} of {len(grid.points)} runs are by the model, in some {max(1, seconds):.0f} s')
+    return notebook() is not None or sys.stderr is not None and sys.stderr.isatty()
 
 
 def words_given(net: ScenarioText, settings: Mapping[str, Values] | None, over: Mapping[str, Values] | None, show: str | Sequence[str] | None,

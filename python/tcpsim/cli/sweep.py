@@ -90,6 +90,7 @@ def grid_of(given: argparse.Namespace, text: str, program: str, number: int | No
     """The grid that the words ask for, by a program of this path, or Wrong. `number` is that of its format of figures; of None
     the program is asked, where that matters."""
     pattern = Pattern(text)
+    pattern.own = vars(given).get('queues') or {}
     if not pattern.named('link') or not pattern.named('flow'):
         raise Wrong(f'{given.scenario} is no scenario: it has no link or no flow')
     settings = settings_of(given.sets, pattern, given.over)

@@ -13,7 +13,7 @@ from tcpsim.plot.labels import place_labels
 from tcpsim.plot.style import BLUE, KEY_SIZE, RUST, TICKS, TITLE_SIZE, new_figure
 from tcpsim.scenario.units import spelled_time
 from tcpsim.sweeps.means import Mean, mean_of
-from tcpsim.sweeps.pattern import Setting, capacity_in
+from tcpsim.sweeps.pattern import OwnQueue, Setting, capacity_in
 from tcpsim.sweeps.rows import Grid
 from tcpsim.sweeps.shown import MS, along, columns
 
@@ -63,7 +63,7 @@ def panels_of(grid: Grid, rows: Sequence[dict]) -> dict[tuple[str, ...], dict[st
 
 def size_of(grid: Grid, number: int, at: int) -> tuple[int, ...]:
     """By what the points of a line are in order: a queue's capacity in packets, or target in ns; without a queue none."""
-    if not grid.chosen or grid.chosen[at].field != 'queue':
+    if not grid.chosen or grid.chosen[at].field != 'queue' or isinstance(grid.points[number][at], OwnQueue):
         return ()
     queue = grid.points[number][at]
     if queue.kind == 'codel':

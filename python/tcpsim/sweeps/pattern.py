@@ -55,6 +55,15 @@ class Setting(namedtuple('Setting', 'key names field values option of_shape', de
         return dict(zip(self.titles(), (limit, *times)))
 
 
+class OwnQueue(namedtuple('OwnQueue', 'kind')):
+    """A queue that is a class of Python's, by its name. The text keeps the link's own, which the class can read."""
+
+    is_product, capacity, target, interval = False, None, None, None
+
+    def __str__(self):
+        return self.kind
+
+
 def capacity_in(text: str, link: str) -> int:
     """The packets that a link's queue has room for, in a text."""
     return next(int(words[7]) for words in map(str.split, text.split('\n')) if words[:2] == ['link', link])
@@ -83,6 +92,7 @@ class Pattern:
             elif words and words[0] == 'sim':
                 self.places['sim'], self.sorts['sim'] = number, 'sim'
         self.packet = greatest_packet(self.lines)
+        self.own: dict[str, dict[str, Callable]] = {}       # of a link the classes that can be its queue, by their names
 
     def named(self, sort: str) -> list[str]:
         """The names of all nodes, links or flows."""
@@ -103,7 +113,7 @@ class Pattern:
         for setting, value in zip(settings, values):
             for name in self.names_of(setting):
                 if setting.field == 'queue':
-                    queues.append((name, value))
+                    queues += [] if isinstance(value, OwnQueue) else [(name, value)]
                 elif setting.field == 'lose':
                     lose(lines, name, value)
                 else:
@@ -197,7 +207,10 @@ def setting(word: str, pattern: Pattern, option: str = '--set') -> Setting:
                     f'flow {", ".join(WHERE["flow"])}')
     if not sign or not values:
         raise Wrong(f'{option} {word!r}: no value is given, as {key}={EXAMPLES[field]}')
-    read = values_of(word, field, values, option)
+    own = {name for link in names.split('+') for name in pattern.own.get(link, ())} if field == 'queue' else ()
+    read = []
+    for is_own, group in itertools.groupby(values.split(','), lambda value: value in own):
+        read += map(OwnQueue, group) if is_own else values_of(word, field, ','.join(group), option)
     listed = pattern.named(sort) if names == '*' else names.split('+')
     for name in listed:
         if pattern.sorts.get(name) != sort:

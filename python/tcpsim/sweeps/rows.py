@@ -10,7 +10,7 @@ import hashlib
 import itertools
 import re
 import subprocess
-from collections.abc import Iterable, Sequence
+from collections.abc import Callable, Iterable, Mapping, Sequence
 from typing import NamedTuple
 
 from tcpsim.command_line import Refused, Wrong
@@ -20,7 +20,7 @@ from tcpsim.program import is_model
 from tcpsim.scenario.text import Scenario, Unreadable
 from tcpsim.scenario.units import BITS_NS, spelled_time
 from tcpsim.sweeps.columns import FROM, LINK, RUN, ShownFigure, table_loss
-from tcpsim.sweeps.pattern import Pattern, Setting
+from tcpsim.sweeps.pattern import OwnQueue, Pattern, Setting
 from tcpsim.whole_trace import BLOCK, ProgramFailed, Rest, Running, blocks, running
 
 # The figures of a row where none are named. The first four are of one link, or of the whole run.
@@ -45,10 +45,12 @@ class AskedOfRun(NamedTuple):
     format: int = 1             # the number of the program's figures
     digest: str = ''            # of the program's file
     version: str | None = None
+    queues: Mapping[str, Callable] = {}         # of links by name, the classes of Python's that are their queues
 
     def options(self) -> str:
         """The options on which a row depends and of which no other column tells."""
-        return ' '.join([*(['--link', self.link] if self.link else []), *(['--exact'] if self.exact else [])])
+        return ' '.join([*(['--link', self.link] if self.link else []), *(['--exact'] if self.exact else []),
+                         *(f'queues={link}:{maker.__name__}' for link, maker in self.queues.items())])
 
     def is_elsewhere(self) -> bool:
         """Whether the program is another one on this machine than where the sweep began."""
@@ -128,6 +130,8 @@ class RunFrom(EngineRun):
 
 def row_of(text: str, asked: AskedOfRun) -> dict[str, object]:
     """The row of one run: its figures, or in `status` why there are none."""
+    if asked.queues:
+        return own_row(text, asked)
     try:
         if asked.is_elsewhere():
             return {'status': f'{asked.program} is another here: {version_of(asked.program) or "it says no version"!r} and not '
@@ -150,6 +154,24 @@ def row_of(text: str, asked: AskedOfRun) -> dict[str, object]:
         return {'status': 'no memory for its figures'}
     except OSError as wrong:
         return {'status': f'cannot be run: {wrong.strerror}'}
+
+
+def own_row(text: str, asked: AskedOfRun) -> dict[str, object]:
+    """The row of a run with queues that are classes of Python's, by the model in this process. What such a queue does wrong is raised."""
+    from tcpsim.api.by_model import OwnQueueRun
+    from tcpsim.api.errors import Refused as TextRefused
+    try:
+        run, scenario, row = OwnQueueRun(text, asked.queues), Scenario(text), {'status': 'done'}
+        scenario.replace_queues(run.names)
+        if asked.wants_table():
+            row.update(values_of(RunFrom(scenario, run.table(asked.skip), asked.skip), asked))
+        if asked.wants_trace():
+            row.update(values_of(Figures(scenario, (line.rstrip('\n') for line in run.pieces()), asked.skip or None), asked))
+        return row
+    except TextRefused as wrong:
+        return {'status': f'refused {wrong.code} line {wrong.line}'}
+    except Unreadable as wrong:
+        return {'status': str(wrong)}
 
 
 def trace_figures(text: str, process: Running, skip: int) -> Figures:
@@ -213,6 +235,28 @@ class Grid:
         """The scenario of a point."""
         return self.pattern.point(self.settings, self.points[number])
 
+    def queues(self, number: int) -> dict[str, Callable]:
+        """The links of a point whose queue is a class of Python's, with the class: of a link whose queue is set where that is the value."""
+        found = {link: next(iter(makers.values())) for link, makers in self.pattern.own.items()}
+        for each, value in zip(self.settings, self.points[number]):
+            for link in set(each.names) & set(found) if each.field == 'queue' else ():
+                if isinstance(value, OwnQueue):
+                    found[link] = self.pattern.own[link][value.kind]
+                else:
+                    del found[link]
+        return found
+
+    def asked_of(self, number: int) -> AskedOfRun:
+        """What is asked of the run of a point."""
+        return self.asked._replace(queues=self.queues(number)) if self.pattern.own else self.asked
+
+    def scenario(self, number: int) -> Scenario:
+        """The scenario of a point, read."""
+        read = Scenario(self.text(number))
+        names = [link.name for link in read.links]
+        read.replace_queues({names.index(link): maker.__name__ for link, maker in self.queues(number).items()})
+        return read
+
     def labels(self, number: int) -> dict[str, str]:
         """The values of a point in words, by the keys of the settings."""
         return {each.key: each.label(value) for each, value in zip(self.settings, self.points[number])}
@@ -245,12 +289,12 @@ class Grid:
         for each, value in zip(self.settings, self.points[number]):
             row[each.key] = each.label(value)
             row.update(each.numbers(value, text))
-        return {**row, **dict(zip(QUESTION, (self.asked.skip, digest(text.encode('latin-1')), self.asked.options(), self.asked.digest)))}
+        return {**row, **dict(zip(QUESTION, (self.asked.skip, digest(text.encode('latin-1')), self.asked_of(number).options(), self.asked.digest)))}
 
     def run(self, number: int) -> dict[str, object]:
         """The values of a point's row, with the figures of its run."""
         text = self.text(number)
-        return {**self.begin_of(number, text), **row_of(text, self.asked)}
+        return {**self.begin_of(number, text), **row_of(text, self.asked_of(number))}
 
     def row(self, number: int, figures: dict[str, object]) -> dict[str, str]:
         """A run's row, each value as CSV has it; `figures` have the other values too where it was run here."""

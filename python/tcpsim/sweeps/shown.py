@@ -5,7 +5,6 @@ from collections.abc import Iterable, Sequence
 
 from tcpsim.fairness import can_fill
 from tcpsim.output import aligned
-from tcpsim.scenario.text import Scenario
 from tcpsim.settled import advice, can_end, has_long_tooth, longest_tooth
 from tcpsim.sweeps.columns import SHOWN
 from tcpsim.sweeps.means import Averaged, Mean
@@ -65,7 +64,7 @@ def too_short(grid: Grid, numbers: Sequence[int] | None = None) -> list[str]:
     choices, or of those of these points. Of flows that can end in their run no teeth are told."""
     found, choices = [], range(0, len(grid.points), grid.replicates) if numbers is None else numbers
     for number in choices:
-        scenario = Scenario(grid.text(number))
+        scenario = grid.scenario(number)
         begin = max(grid.asked.skip, min(flow.start for flow in scenario.flows))
         on = [at for at, flow in enumerate(scenario.flows) if not can_end(scenario, at)]
         flows = can_fill(scenario, on)
