@@ -47,7 +47,7 @@ pub enum StallOf {
 }
 
 /// What an event can be asked to meet.
-#[derive(Clone, Copy, Debug, PartialEq, Eq)]
+#[derive(Clone, Copy)]
 pub enum Condition {
     /// The event is at the node of this number.
     Node(u16),
@@ -91,7 +91,7 @@ pub struct Break {
 }
 
 /// A breakpoint that matches, among those that are set.
-#[derive(Clone, Copy, Debug, PartialEq, Eq)]
+#[derive(Clone, Copy)]
 pub struct Hit {
     /// Its number: 1 for the first that was set.
     pub number: u64,
@@ -102,7 +102,7 @@ pub struct Hit {
 }
 
 /// Why a breakpoint was not set.
-#[derive(Clone, Copy, Debug, PartialEq, Eq)]
+#[derive(Clone, Copy, PartialEq, Eq)]
 pub enum BreakFault {
     /// As many are set as there may be.
     TooMany,
@@ -195,12 +195,7 @@ fn has_act_at(link: u16, acts: &[Act]) -> bool
 fn has_sent_of(flow: u16, acts: &[Act]) -> bool
     ensures { result ≡ list_any (is_sent_of flow) acts.now }
 {
-    for act in acts {
-        if is_sent_of(flow, act) {
-            return true;
-        }
-    }
-    false
+    acts.iter().any(|act| is_sent_of(flow, act))
 }
 
 /// Whether an act begins to send a packet of a flow.
@@ -436,37 +431,25 @@ fn one_stalls(number: u16, alloc: Global, net: &Net, line: &Line) -> Result<bool
     }
 }
 
-/// Whether two breakpoints ask for the same node, flow and link.
-fn is_same_place(a: &Break, b: &Break) -> bool
-    ensures { IsTrue result ↔ ((a.now.node ≡ b.now.node) × (a.now.flow ≡ b.now.flow) × (a.now.link ≡ b.now.link)) }
+/// Whether two breakpoints ask for the same of an event, values aside.
+fn ask_same_of_lines(a: &Break, b: &Break) -> bool
+    ensures { IsTrue result ↔ ((a.now.node ≡ b.now.node) × (a.now.flow ≡ b.now.flow) × (a.now.link ≡ b.now.link) × (a.now.kind ≡ b.now.kind) × (a.now.drops ≡ b.now.drops) × (a.now.byte ≡ b.now.byte) × (a.now.stall ≡ b.now.stall)) }
 {
-    a.node == b.node && a.flow == b.flow && a.link == b.link
-}
-
-/// Whether two breakpoints ask for the same kind of event, drop, byte and stall.
-fn is_same_event(a: &Break, b: &Break) -> bool
-    ensures { IsTrue result ↔ ((a.now.kind ≡ b.now.kind) × (a.now.drops ≡ b.now.drops) × (a.now.byte ≡ b.now.byte) × (a.now.stall ≡ b.now.stall)) }
-{
-    a.kind == b.kind && a.drops == b.drops && a.byte == b.byte && a.stall == b.stall
-}
-
-/// Whether they ask for the same of an event and of values.
-fn is_same_demand(a: &Break, b: &Break) -> bool
-    ensures { IsTrue result ↔ ((a.now.kind ≡ b.now.kind) × (a.now.drops ≡ b.now.drops) × (a.now.byte ≡ b.now.byte) × (a.now.stall ≡ b.now.stall) × (a.now.values ≡ b.now.values)) }
-{
-    if is_same_event(a, b) {
-        are_same_values(&a.values, &b.values)
-    } else {
-        false
-    }
+    a.node == b.node
+        && a.flow == b.flow
+        && a.link == b.link
+        && a.kind == b.kind
+        && a.drops == b.drops
+        && a.byte == b.byte
+        && a.stall == b.stall
 }
 
 /// Whether two breakpoints ask for the same.
 fn is_same(a: &Break, b: &Break) -> bool
     ensures { IsTrue result ↔ (a.now ≡ b.now) }
 {
-    if is_same_place(a, b) {
-        is_same_demand(a, b)
+    if ask_same_of_lines(a, b) {
+        are_same_values(&a.values, &b.values)
     } else {
         false
     }
@@ -579,21 +562,6 @@ impl Breaks {
         Breaks {
             items: Vec::new(alloc),
         }
-    }
-
-    /// How many are set.
-    pub fn len(&self) -> usize
-        ensures value { result ≡ length self.now }
-        ensures few { length self.now ≤ 64 }
-    {
-        self.items.len()
-    }
-
-    /// Whether none is set.
-    pub fn is_empty(&self) -> bool
-        ensures { IsTrue result ↔ (length self.now ≡ 0) }
-    {
-        self.items.is_empty()
     }
 
     /// Whether this one is set.

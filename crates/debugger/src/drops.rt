@@ -18,7 +18,7 @@ use std::alloc::AllocError;
 use std::snapshot::Snapshot;
 
 /// Packets of a flow whose drops are looked for.
-#[derive(Clone, Copy, Debug, PartialEq, Eq)]
+#[derive(Clone, Copy)]
 pub enum DropsOf {
     /// The copies of the segment that begins with a byte.
     Segment(u16, u64),
@@ -27,7 +27,7 @@ pub enum DropsOf {
 }
 
 /// A packet that a run has dropped.
-#[derive(Clone, Copy, Debug, PartialEq, Eq)]
+#[derive(Clone, Copy)]
 pub struct PastDrop {
     /// The number of the trace line that tells of it.
     pub line: u64,

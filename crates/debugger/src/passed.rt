@@ -25,7 +25,7 @@ use std::snapshot::Snapshot;
 use trace_text::line_text;
 
 /// In which order lines are told.
-#[derive(Clone, Copy, Debug, PartialEq, Eq)]
+#[derive(Clone, Copy)]
 pub enum LineOrder {
     /// As they came.
     Rising,
@@ -34,7 +34,7 @@ pub enum LineOrder {
 }
 
 /// Lines of a run that follow each other.
-#[derive(Clone, Copy, Debug, PartialEq, Eq)]
+#[derive(Clone, Copy)]
 pub struct Stretch {
     /// The position before the first of them.
     pub from: u64,
@@ -45,7 +45,7 @@ pub struct Stretch {
 }
 
 /// What the last event was.
-#[derive(Clone, Copy, Debug, PartialEq, Eq)]
+#[derive(Clone, Copy)]
 pub struct LastEvent {
     /// When it was, in nanoseconds.
     pub time: Time,

@@ -25,7 +25,7 @@ pub enum Readable {
 }
 
 /// What is read of a state.
-#[derive(Clone, Copy, Debug, PartialEq, Eq)]
+#[derive(Clone, Copy)]
 pub enum Reading {
     /// A number, in the value's unit.
     Number(u64),

@@ -20,7 +20,7 @@ use std::alloc::{AllocError, Global};
 use std::snapshot::Snapshot;
 
 /// What a breakpoint sees of a link that it asks for.
-#[derive(Clone, Copy, Debug, PartialEq, Eq)]
+#[derive(Clone, Copy)]
 pub struct SeenLink {
     /// The node that the link leaves: the number of the first. As many as there are nodes where it leaves none, or no link
     /// is asked for.
@@ -30,7 +30,7 @@ pub struct SeenLink {
 }
 
 /// What a breakpoint sees of a value whose change it asks for.
-#[derive(Clone, Copy, Debug, PartialEq, Eq)]
+#[derive(Clone, Copy)]
 pub struct SeenValue {
     /// The node whose sender or receiver keeps the value: the number of the first. As many as there are nodes where none
     /// does, or no value is asked for.
@@ -40,7 +40,7 @@ pub struct SeenValue {
 }
 
 /// What a breakpoint sees of a state, for the conditions that compare the state after an event with it.
-#[derive(Clone, Copy, Debug, PartialEq, Eq)]
+#[derive(Clone, Copy)]
 pub struct Seen {
     /// The link whose queue is asked for.
     pub queue: SeenLink,
@@ -53,7 +53,7 @@ pub struct Seen {
 }
 
 /// What a node can have that a breakpoint asks for.
-#[derive(Clone, Copy, Debug, PartialEq, Eq)]
+#[derive(Clone, Copy)]
 enum Asked {
     /// The link of this number, which leaves it.
     Link(u16),

@@ -21,7 +21,7 @@ use std::alloc::AllocError;
 use std::snapshot::Snapshot;
 
 /// Where a flow of a run becomes stalled.
-#[derive(Clone, Copy, Debug, PartialEq, Eq)]
+#[derive(Clone, Copy)]
 pub struct StallAt {
     /// The position behind the event by which it does.
     pub position: u64,

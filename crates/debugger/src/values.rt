@@ -53,7 +53,7 @@ pub struct LinkBound {
 }
 
 /// A value of a link.
-#[derive(Clone, Copy, Debug, PartialEq, Eq)]
+#[derive(Clone, Copy)]
 pub enum LinkValue {
     /// How many packets wait at it.
     Queue,
@@ -101,7 +101,7 @@ pub struct ValueOf {
 }
 
 /// What a value can be asked to be after an event.
-#[derive(Clone, Copy, Debug, PartialEq, Eq)]
+#[derive(Clone, Copy)]
 pub enum ValueCondition {
     /// The sender's congestion window, in bytes.
     Cwnd(Bound),
@@ -342,62 +342,38 @@ fn has_dups(asked: Option<Bound>, net: &Net, node: u16) -> bool
     }
 }
 
-/// Whether the same is asked of a sender's windows and phase.
-fn are_same_windows(a: &Values, b: &Values) -> bool
-    ensures { IsTrue result ↔ ((a.now.cwnd ≡ b.now.cwnd) × (a.now.flight ≡ b.now.flight) × (a.now.ssthresh ≡ b.now.ssthresh) × (a.now.phase ≡ b.now.phase)) }
+/// Whether the same is asked of a sender's windows, phase and bytes, and of a receiver's.
+fn ask_same_of_bytes(a: &Values, b: &Values) -> bool
+    ensures { IsTrue result ↔ ((a.now.cwnd ≡ b.now.cwnd) × (a.now.flight ≡ b.now.flight) × (a.now.ssthresh ≡ b.now.ssthresh) × (a.now.phase ≡ b.now.phase) × (a.now.una ≡ b.now.una) × (a.now.nxt ≡ b.now.nxt) × (a.now.next ≡ b.now.next)) }
 {
-    a.cwnd == b.cwnd && a.flight == b.flight && a.ssthresh == b.ssthresh && a.phase == b.phase
+    a.cwnd == b.cwnd
+        && a.flight == b.flight
+        && a.ssthresh == b.ssthresh
+        && a.phase == b.phase
+        && a.una == b.una
+        && a.nxt == b.nxt
+        && a.next == b.next
 }
 
-/// Whether the same is asked of bytes.
-fn are_same_bytes(a: &Values, b: &Values) -> bool
-    ensures { IsTrue result ↔ ((a.now.una ≡ b.now.una) × (a.now.nxt ≡ b.now.nxt) × (a.now.next ≡ b.now.next)) }
-{
-    a.una == b.una && a.nxt == b.nxt && a.next == b.next
-}
-
-/// Whether the same is asked of the timeout, of duplicate acknowledgements and of the moment.
-fn are_same_times(a: &Values, b: &Values) -> bool
-    ensures { IsTrue result ↔ ((a.now.rto ≡ b.now.rto) × (a.now.dups ≡ b.now.dups) × (a.now.time ≡ b.now.time)) }
-{
-    a.rto == b.rto && a.dups == b.dups && a.time == b.time
-}
-
-/// Whether the same is asked of links, and the same change.
-fn are_same_links(a: &Values, b: &Values) -> bool
-    ensures { IsTrue result ↔ ((a.now.queue ≡ b.now.queue) × (a.now.wait ≡ b.now.wait) × (a.now.count ≡ b.now.count) × (a.now.change ≡ b.now.change)) }
-{
-    a.queue == b.queue && a.wait == b.wait && a.count == b.count && a.change == b.change
-}
-
-/// Whether the same is asked of times and links.
-fn are_same_rest(a: &Values, b: &Values) -> bool
+/// Whether the same is asked of times, of duplicate acknowledgements and of links, and the same change.
+fn ask_same_of_links(a: &Values, b: &Values) -> bool
     ensures { IsTrue result ↔ ((a.now.rto ≡ b.now.rto) × (a.now.dups ≡ b.now.dups) × (a.now.time ≡ b.now.time) × (a.now.queue ≡ b.now.queue) × (a.now.wait ≡ b.now.wait) × (a.now.count ≡ b.now.count) × (a.now.change ≡ b.now.change)) }
 {
-    if are_same_times(a, b) {
-        are_same_links(a, b)
-    } else {
-        false
-    }
-}
-
-/// Whether the same is asked of all but windows and phase.
-fn are_same_others(a: &Values, b: &Values) -> bool
-    ensures { IsTrue result ↔ ((a.now.una ≡ b.now.una) × (a.now.nxt ≡ b.now.nxt) × (a.now.next ≡ b.now.next) × (a.now.rto ≡ b.now.rto) × (a.now.dups ≡ b.now.dups) × (a.now.time ≡ b.now.time) × (a.now.queue ≡ b.now.queue) × (a.now.wait ≡ b.now.wait) × (a.now.count ≡ b.now.count) × (a.now.change ≡ b.now.change)) }
-{
-    if are_same_bytes(a, b) {
-        are_same_rest(a, b)
-    } else {
-        false
-    }
+    a.rto == b.rto
+        && a.dups == b.dups
+        && a.time == b.time
+        && a.queue == b.queue
+        && a.wait == b.wait
+        && a.count == b.count
+        && a.change == b.change
 }
 
 /// Whether the same is asked of values.
 pub(crate) fn are_same_values(a: &Values, b: &Values) -> bool
     ensures { IsTrue result ↔ (a.now ≡ b.now) }
 {
-    if are_same_windows(a, b) {
-        are_same_others(a, b)
+    if ask_same_of_bytes(a, b) {
+        ask_same_of_links(a, b)
     } else {
         false
     }
