@@ -329,6 +329,21 @@ def test_a_word_that_is_refused_is_shown_with_what_to_write_instead(answer):
         expect_why(answer, ['asm'], given.encode(), code, f'{line}\n{carets}\n{sentence}\n')
 
 
+def test_a_micro_sign_is_shown_with_what_to_write_instead(answer):
+    """It is two bytes, neither of them printable, as each other letter with more than ASCII."""
+    for word, number in (('5\u00b5s', 5000), ('1.5\u03bcs', 1500), ('5\u00e9s', None), ('\u00b5s', None)):
+        sentence = f'DELAY is a whole number of nanoseconds, 1 to 10000000000: write {number}\n' if number else ''
+        for before, behind in (('link a s p 8000000 ', ' droptail 10'), ('   link  a s p 8000000 ', '# queue')):
+            place = len(f'{before}{word}'.rpartition(word.lstrip('0123456789.'))[0])
+            shown = re.sub('[^ -~]', '??', f'{before}{word}{behind}')
+            given = text_with(texts.ROUTED, texts.LOSSES, 5, f'{before}{word}{behind}')
+            expect_why(answer, ['asm'], given.encode(), 'E1', f'{shown}\n{" " * place}^\n{sentence}')
+    for line in ('link a s p 5\u00b5s 1000000 droptail 10', 'node 5\u00b5s sender', 'link a s p 8000000 # 5\u00b5s'):
+        place = len(line.partition('\u00b5')[0])
+        expect_why(answer, ['asm'], text_with(texts.ROUTED, texts.LOSSES, 5, line).encode(), 'E1',
+                   re.sub('[^ -~]', '??', line) + f'\n{" " * place}^\n')
+
+
 def test_a_refusal_of_an_image_is_shown_with_its_reason(answer):
     image = answer(['asm'], ''.join(f'{line}\n' for line in texts.ROUTED).encode())[2]
     assert len(image) == 232

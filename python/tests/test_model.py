@@ -58,7 +58,7 @@ def test_what_a_code_means_is_what_the_page_says():
 def test_what_is_meant_by_a_word():
     """The number is what exact arithmetic makes of digits, fraction and unit, where that is whole and in range."""
     pick = random.Random(1)
-    powers = {'nanoseconds': {'': 0, 'ns': 0, 'us': 3, 'ms': 6, 's': 9}, 'bits per second': {'': 0, 'bit': 0, 'kbit': 3, 'Mbps': 6, 'G': 9, 'tb/s': 12}}
+    powers = {'nanoseconds': {'': 0, 'ns': 0, 'us': 3, '\u00b5s': 3, 'ms': 6, 's': 9, 'e4': 4}, 'bits per second': {'': 0, 'bit': 0, 'E+05': 5, 'kbit': 3, 'Mbps': 6, 'G': 9, 'tb/s': 12}}
     found = set()
     for _ in range(3000):
         counted = pick.choice(list(powers))
@@ -73,7 +73,7 @@ def test_what_is_meant_by_a_word():
     assert MISTAKEN_MEANT == [word for word in MISTAKEN_MEANT if advice.meant(word, 'nanoseconds', 0, 10**15) is None]
 
 
-MISTAKEN_MEANT = [b'', b's', b'.5s', b'1e6', b'1,000', b'-1', b'+1s', b'10 s', b'1h', b'1..0', b'1.0.0', b'1m', b'1S', b'0x10', b'9' * 5000]
+MISTAKEN_MEANT = [b'', b's', b'.5s', b'1e-6', b'1e20', b'1e6s', b'1,000', b'-1', b'+1s', b'10 s', b'1h', b'1..0', b'1.0.0', b'1m', b'1S', b'0x10', b'9' * 5000]
 
 
 def positions(output):

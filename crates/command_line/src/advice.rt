@@ -49,6 +49,41 @@ const CHOSEN: [Chosen; 4] = [
     },
 ];
 
+/// How many words a statement has.
+#[derive(Clone, Copy)]
+struct Form {
+    statement: &'static str,
+    /// The beginning of a sentence with them.
+    sentence: &'static str,
+}
+
+const FORMS: [Form; 6] = [
+    Form {
+        statement: "sim",
+        sentence: "sim END is 2 words",
+    },
+    Form {
+        statement: "node",
+        sentence: "node NAME KIND is 3 words",
+    },
+    Form {
+        statement: "link",
+        sentence: "link NAME FROM TO RATE DELAY droptail CAP is 8 words, with codel CAP TARGET INTERVAL MAXPACKET 11",
+    },
+    Form {
+        statement: "flow",
+        sentence: "flow NAME SENDER RECEIVER MSS SEGMENTS START RWND DELACK is 9 words, with a variant 11",
+    },
+    Form {
+        statement: "route",
+        sentence: "route ROUTER DEST LINK is 4 words",
+    },
+    Form {
+        statement: "lose",
+        sentence: "lose LINK NUMBER is 3 words",
+    },
+];
+
 /// A word that is refused.
 #[derive(Clone, Copy)]
 struct Wrong<'a> {
@@ -57,6 +92,19 @@ struct Wrong<'a> {
     /// Which word it is, counted from 0.
     place: usize,
     word: &'a [u8],
+}
+
+/// A line without its comment.
+fn statement_in(line: &[u8]) -> &[u8] {
+    line.split(|byte| *byte == b'#').next().unwrap_or(line)
+}
+
+/// How many words these bytes have.
+fn count_words(bytes: &[u8]) -> usize {
+    bytes
+        .split(|byte| *byte == b' ')
+        .filter(|word| !word.is_empty())
+        .count()
 }
 
 /// The first word of a line.
@@ -74,6 +122,33 @@ fn wrong_word<'a>(line: &'a [u8], place: usize, start: usize, end: usize) -> Wro
         place,
         word: &line[start.min(last)..last],
     }
+}
+
+/// The word of a line in which this byte is; none in its comment.
+fn word_around(line: &[u8], at: usize) -> Option<Wrong<'_>> {
+    let mut start = 0usize;
+    let mut place = 0usize;
+    for word in statement_in(line).split(|byte| *byte == b' ') {
+        let end = start.saturating_add(word.len());
+        if start <= at && at < end {
+            return Some(wrong_word(line, place, start, end));
+        }
+        if !word.is_empty() {
+            place = place.saturating_add(1);
+        }
+        start = end.saturating_add(1);
+    }
+    None
+}
+
+/// The number that a word of this place has to be; none where it is another word.
+fn counted_at(wrong: &Wrong) -> Option<Counted> {
+    for row in &COUNTED {
+        if row.statement.as_bytes() == wrong.statement && row.place == wrong.place {
+            return Some(*row);
+        }
+    }
+    None
 }
 
 /// What to write instead of this byte, which is not printable.
@@ -125,11 +200,9 @@ fn push_number(shown: &mut String, row: &Counted, word: Option<&[u8]>) -> Result
 
 /// Adds what a word of this place is, of another form or out of its range.
 fn push_word(shown: &mut String, wrong: &Wrong, fault: Fault) -> Result<(), AllocError> {
-    for row in &COUNTED {
-        if row.statement.as_bytes() == wrong.statement && row.place == wrong.place {
-            let word = (fault == Fault::E4).then_some(wrong.word);
-            return push_number(shown, row, word);
-        }
+    if let Some(row) = counted_at(wrong) {
+        let word = (fault == Fault::E4).then_some(wrong.word);
+        return push_number(shown, &row, word);
     }
     for row in &CHOSEN {
         if row.statement.as_bytes() == wrong.statement && row.place == wrong.place {
@@ -137,6 +210,36 @@ fn push_word(shown: &mut String, wrong: &Wrong, fault: Fault) -> Result<(), Allo
         }
     }
     push_name(shown, wrong.word)
+}
+
+/// Adds what to write instead of a byte that is not printable, or of its word, where that means a number. Answers whether
+/// there is such a thing.
+fn push_byte(shown: &mut String, text: &[u8], line: &[u8], at: usize) -> Result<bool, AllocError> {
+    if let Some(sentence) = byte_sentence(text, line.get(at).copied().unwrap_or(0)) {
+        shown.push_str(sentence)?;
+        return Ok(true);
+    }
+    if let Some(wrong) = word_around(line, at) {
+        if let Some(row) = counted_at(&wrong) {
+            if meant(&row, wrong.word).is_some() {
+                push_number(shown, &row, Some(wrong.word))?;
+                return Ok(true);
+            }
+        }
+    }
+    Ok(false)
+}
+
+/// Adds how many words a line's statement has, and how many the line.
+fn push_form(shown: &mut String, line: &[u8]) -> Result<(), AllocError> {
+    let statement = statement_in(line);
+    for form in &FORMS {
+        if form.statement.as_bytes() == statement_of(statement) {
+            let (sentence, words) = (form.sentence, count_words(statement));
+            write!(shown, "{sentence}, and this line has {words}")?;
+        }
+    }
+    Ok(())
 }
 
 /// Adds a line that says what to write instead of what is wrong with a text's line, where that can be said of it alone.
@@ -147,12 +250,11 @@ pub(crate) fn push_advice(
 ) -> Result<(), AllocError> {
     match (place.fault, place.part) {
         (Fault::E1, Part::Byte(at)) => {
-            let byte = place.bytes.get(at).copied().unwrap_or(0);
-            let Some(sentence) = byte_sentence(text, byte) else {
+            if !push_byte(shown, text, place.bytes, at)? {
                 return Ok(());
-            };
-            shown.push_str(sentence)?;
+            }
         }
+        (Fault::E3, _) => push_form(shown, place.bytes)?,
         (Fault::E2, _) => shown.push_str("a statement is sim, node, link, flow, route or lose")?,
         (Fault::E4 | Fault::E5, Part::Word { number, start, end }) => {
             push_word(

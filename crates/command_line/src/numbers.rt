@@ -136,7 +136,7 @@ struct Spelled {
     power: u32,
 }
 
-const TIMES: [Spelled; 5] = [
+const TIMES: [Spelled; 7] = [
     Spelled { word: "", power: 0 },
     Spelled {
         word: "ns",
@@ -144,6 +144,15 @@ const TIMES: [Spelled; 5] = [
     },
     Spelled {
         word: "us",
+        power: 3,
+    },
+    // The micro sign, and the Greek letter.
+    Spelled {
+        word: "\u{b5}s",
+        power: 3,
+    },
+    Spelled {
+        word: "\u{3bc}s",
         power: 3,
     },
     Spelled {
@@ -222,6 +231,35 @@ fn power_of_time(unit: &[u8]) -> Option<u32> {
     None
 }
 
+/// The power of ten of an exponent: e9, E9 or e+09.
+fn power_of_exponent(unit: &[u8]) -> Option<u32> {
+    if !matches!(unit.first()?, b'e' | b'E') {
+        return None;
+    }
+    let behind = unit.get(1..)?;
+    let digits = behind.strip_prefix(b"+").unwrap_or(behind);
+    if !digits.iter().all(|byte| byte.is_ascii_digit()) {
+        return None;
+    }
+    let power = read_number(digits)?.digits;
+    if power < 20 {
+        Some(power as u32)
+    } else {
+        None
+    }
+}
+
+/// The power of ten of what is behind a number's digits.
+fn power_of(unit: Unit, behind: &[u8]) -> Option<u32> {
+    let spelled = match unit {
+        Unit::Nanoseconds => power_of_time(behind),
+        Unit::BitsPerSecond => power_with_prefix(behind, &RATES),
+        Unit::Bytes => power_with_prefix(behind, &SIZES),
+        Unit::Packets | Unit::Segments => power_with_prefix(behind, &[""]),
+    };
+    spelled.or_else(|| power_of_exponent(behind))
+}
+
 /// A number times a power of ten, where that is whole and small enough.
 fn scaled(number: &Written<'_>, power: u32) -> Option<u64> {
     let mut value = number.digits;
@@ -240,12 +278,6 @@ fn scaled(number: &Written<'_>, power: u32) -> Option<u64> {
 /// The number in its range that a word means, with a unit, a fraction or zeros in front.
 pub(crate) fn meant(row: &Counted, word: &[u8]) -> Option<u64> {
     let number = read_number(word)?;
-    let power = match row.unit {
-        Unit::Nanoseconds => power_of_time(number.unit)?,
-        Unit::BitsPerSecond => power_with_prefix(number.unit, &RATES)?,
-        Unit::Bytes => power_with_prefix(number.unit, &SIZES)?,
-        Unit::Packets | Unit::Segments => power_with_prefix(number.unit, &[""])?,
-    };
-    let value = scaled(&number, power)?;
+    let value = scaled(&number, power_of(row.unit, number.unit)?)?;
     (row.least <= value && value <= row.greatest).then_some(value)
 }
