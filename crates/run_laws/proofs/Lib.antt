@@ -20,3 +20,4 @@ pub mod Timing
 pub mod DropState
 pub mod Waits
 pub mod Setup
+pub mod Marks

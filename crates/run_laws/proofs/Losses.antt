@@ -22,13 +22,13 @@ use Rattle.run_laws.specs.Senders.{AtEachSender, IsNewAck, IsDuplicate, IsPastRe
 use Rattle.run_laws.proofs.Ports.{by_test}
 use Rattle.run_laws.proofs.Senders.{by_rows, arrive_not, same_packet}
 
-start_not : (a number : ℕ) → Start a ≢ Rto number
+pub start_not : (a number : ℕ) → Start a ≢ Rto number
 start_not a number e = cc
 
-start_brings_none : (a : ℕ) (x : Packet) → Start a ≢ Arrive x
+pub start_brings_none : (a : ℕ) (x : Packet) → Start a ≢ Arrive x
 start_brings_none a x e = cc
 
-rto_brings_none : (a : ℕ) (x : Packet) → Rto a ≢ Arrive x
+pub rto_brings_none : (a : ℕ) (x : Packet) → Rto a ≢ Arrive x
 rto_brings_none a x e = cc
 
 -- timeouts
@@ -42,10 +42,10 @@ timeouts_are_answered =
     (λ _ x _ _ _ is _ _ m e. absurd (arrive_not x m (sym is ∙ e))) (λ _ _ _ _ other m e. absurd (other.not_timeout m e))
 
 -- duplicates
-abbrev duplicate_row : SenderFields → ℕ → Planned
+abbrev pub duplicate_row : SenderFields → ℕ → Planned
 duplicate_row f now = cond f.recovery (further_duplicate f now) (cond (eqb f.dups 2) (third_duplicate f now) (cond (ltb f.dups 2) (early_duplicate f now) (repeated_duplicate f)))
 
-is_duplicate_row : (f : SenderFields) (now : ℕ) → f.una < f.nxt → acknowledged f f.una now ≡ duplicate_row f now
+pub is_duplicate_row : (f : SenderFields) (now : ℕ) → f.una < f.nxt → acknowledged f f.una now ≡ duplicate_row f now
 unfolding acknowledged
 is_duplicate_row f now flies = rw (le-ltb f.una f.una (omega arith), ne_eqb f.una f.nxt (λ same. omega (arith, same, flies))) refl
 
@@ -85,17 +85,17 @@ third_begins : (f : SenderFields) (now : ℕ) → f.recovery ≡ false → f.dup
 third_begins f now off two behind = rw (off, two, enters_past f behind) refl
 
 -- where an acknowledgement begins recovery, it is the third duplicate
-abbrev Begun : SenderFields → ℕ → ℕ → Planned → Type 0
+abbrev pub Begun : SenderFields → ℕ → ℕ → Planned → Type 0
 Begun f ack now q = q.fields.recovery ≡ true → (ack ≡ f.una) × (f.dups ≡ 2) × (f.una ≢ f.nxt) × (q ≡ fast_retransmit f now) × (enters f ≡ true)
 
-measured_recovery : (f : SenderFields) (ack now : ℕ) → (measured_by f.timing f ack now).recovery ≡ f.recovery
+pub measured_recovery : (f : SenderFields) (ack now : ℕ) → (measured_by f.timing f ack now).recovery ≡ f.recovery
 measured_recovery f ack now = by_sample (λ g. g.recovery ≡ f.recovery) f.timing f ack now refl (λ r. refl)
 
 -- a partial acknowledgement comes in recovery
-partial_in_recovery : (f : SenderFields) (ack : ℕ) → is_partial f ack ≡ true → f.recovery ≡ true
+pub partial_in_recovery : (f : SenderFields) (ack : ℕ) → is_partial f ack ≡ true → f.recovery ≡ true
 partial_in_recovery f ack part = (and_parts f.recovery (is_below ack f.recover) (and_parts (is_newreno f) (f.recovery && is_below ack f.recover) part).1).0
 
-partial_recovery : (f : SenderFields) (ack now : ℕ) → (partial_acknowledgement f ack now).fields.recovery ≡ f.recovery
+pub partial_recovery : (f : SenderFields) (ack now : ℕ) → (partial_acknowledgement f ack now).fields.recovery ≡ f.recovery
 partial_recovery f ack now =
     let h = partly f ack now in
     let same = measured_recovery f ack now in
@@ -122,12 +122,12 @@ rows_outside P f ack now off part new old fast unentered early repeated =
     (λ _. unentered))
     (λ _. by_test P (ltb f.dups 2) _ _ (λ _. early) (λ _. repeated)))))
 
-begins_at_third : (f : SenderFields) (ack now : ℕ) → f.recovery ≡ false → Begun f ack now (acknowledged f ack now)
+pub begins_at_third : (f : SenderFields) (ack now : ℕ) → f.recovery ≡ false → Begun f ack now (acknowledged f ack now)
 begins_at_third f ack now off =
     rows_outside (Begun f ack now) f ack now off (λ on. absurd (true≢false (sym on ∙ partial_recovery f ack now ∙ off))) (λ on. absurd (true≢false (sym on))) (λ on. absurd (true≢false (sym on ∙ off)))
     (λ at two apart entered _. (at, two, apart, refl, entered)) (λ on. absurd (true≢false (sym on ∙ off))) (λ on. absurd (true≢false (sym on ∙ early_recovery f now ∙ off))) (λ on. absurd (true≢false (sym on ∙ off)))
 
-its_number : (x : Packet) (v : Event) (f : SenderFields) (ack : ℕ) → v ≡ Arrive x → IsNewAck v f ack → x.number ≡ ack
+pub its_number : (x : Packet) (v : Event) (f : SenderFields) (ack : ℕ) → v ≡ Arrive x → IsNewAck v f ack → x.number ≡ ack
 its_number x v f ack is new = ap (λ (y : Packet). y.number) (same_packet x new.0 (sym is ∙ new.1)) ∙ new.3
 
 -- where a new acknowledgement leaves no recovery, duplicates are counted anew
@@ -162,11 +162,11 @@ ack_answers now x v f sound is kind_is = record {
 silent_answers : (now : ℕ) (v : Event) (f : SenderFields) (q : Planned) → ((x : Packet) → v ≡ Arrive x → x.kind ≢ Ack) → (f.recovery ≡ false → q.fields.recovery ≡ true → ⊥) → AnswersDuplicates now v f q
 silent_answers now v f q none never = record { anew = λ _ new. absurd (none new.0 new.1 new.2); counts = λ d. absurd (none d.0 d.1 d.2); begins = λ d. absurd (none d.0 d.1 d.2); so_alone = λ off on. absurd (never off on) }
 
-started_recovery : (f : SenderFields) (now : ℕ) → (started f now).fields.recovery ≡ f.recovery
+pub started_recovery : (f : SenderFields) (now : ℕ) → (started f now).fields.recovery ≡ f.recovery
 unfolding started
 started_recovery f now = refl
 
-timed_out_recovery : (f : SenderFields) (now : ℕ) → (timed_out f now).fields.recovery ≡ false
+pub timed_out_recovery : (f : SenderFields) (now : ℕ) → (timed_out f now).fields.recovery ≡ false
 unfolding timed_out
 timed_out_recovery f now = refl
 
@@ -193,7 +193,7 @@ outside_recovery : (newreno recovery below : Bool) → recovery ≡ false → (n
 outside_recovery true recovery below off = and_left recovery below off
 outside_recovery false recovery below off = refl
 
-is_new_row : (f : SenderFields) (ack now : ℕ) → f.una < ack → f.recovery ≡ false → acknowledged f ack now ≡ new_acknowledgement f ack now
+pub is_new_row : (f : SenderFields) (ack now : ℕ) → f.una < ack → f.recovery ≡ false → acknowledged f ack now ≡ new_acknowledgement f ack now
 unfolding acknowledged
 is_new_row f ack now new off = rw (lt-ltb f.una ack new, outside_recovery (is_newreno f) f.recovery (is_below ack f.recover) off) refl
 
@@ -255,7 +255,7 @@ sample_measures f g r srtt rttvar rto = record {
         by None = refl
         by (Some s) = refl
 
-is_sampled : (f : SenderFields) (ack now : ℕ) (t : Timing) → f.timing ≡ Some t → t.number ≤ ack → measured_by f.timing f ack now ≡ with_sample f (now - t.sent_at)
+pub is_sampled : (f : SenderFields) (ack now : ℕ) (t : Timing) → f.timing ≡ Some t → t.number ≤ ack → measured_by f.timing f ack now ≡ with_sample f (now - t.sent_at)
 is_sampled f ack now t timed upto = rw (timed, le-leb t.number ack upto) refl
 
 new_measures : (f : SenderFields) (ack now : ℕ) (t : Timing) → f.una < ack → f.timing ≡ Some t → t.number ≤ ack → Measured f (now - t.sent_at) (acknowledged f ack now)
@@ -291,7 +291,7 @@ and_none false b c none = refl
 and_none true false c none = refl
 and_none true true c none = none
 
-ends_recovery : (f : SenderFields) (ack now : ℕ) → f.una < ack → IsFalse (is_newreno f) ⊎ IfSome f.recover (λ r. r ≤ ack) → acknowledged f ack now ≡ new_acknowledgement f ack now
+pub ends_recovery : (f : SenderFields) (ack now : ℕ) → f.una < ack → IsFalse (is_newreno f) ⊎ IfSome f.recover (λ r. r ≤ ack) → acknowledged f ack now ≡ new_acknowledgement f ack now
 unfolding acknowledged
 ends_recovery f ack now new ends = rw (lt-ltb f.una ack new, whole) refl
   where
@@ -312,7 +312,7 @@ partial_row f ack now on =
     let still = measured_recovery f ack now ∙ on in
     by_test (InPart f ack) (may_send_new h (h.una + min h.cwnd h.rwnd)) _ _ (λ _. (refl, still, (0, omega arith, refl))) (λ _. (refl, still, (0, omega arith, refl)))
 
-goes_on_in_part : (f : SenderFields) (ack now r : ℕ) → f.una < ack → f.recovery ≡ true → is_newreno f ≡ true → f.recover ≡ Some r → ack < r → acknowledged f ack now ≡ partial_acknowledgement f ack now
+pub goes_on_in_part : (f : SenderFields) (ack now r : ℕ) → f.una < ack → f.recovery ≡ true → is_newreno f ≡ true → f.recover ≡ Some r → ack < r → acknowledged f ack now ≡ partial_acknowledgement f ack now
 unfolding acknowledged
 goes_on_in_part f ack now r new on newreno recover below = rw (lt-ltb f.una ack new, part) refl
   where
@@ -367,7 +367,7 @@ started_fills : (f : SenderFields) (now : ℕ) → IsSound f → let g = (starte
 unfolding started
 started_fills f now sound = filled f now sound.mss_least
 
-measured_mss : (f : SenderFields) (ack now : ℕ) → (measured_by f.timing f ack now).mss ≡ f.mss
+pub measured_mss : (f : SenderFields) (ack now : ℕ) → (measured_by f.timing f ack now).mss ≡ f.mss
 measured_mss f ack now = by_sample (λ g. g.mss ≡ f.mss) f.timing f ack now refl (λ r. refl)
 
 started_or_new : (v : Event) (f : SenderFields) → ((number : ℕ) → v ≢ Start number) → ((x : Packet) → v ≡ Arrive x → x.kind ≢ Ack) → StartsOrGoesOn v f → ⊥

@@ -37,7 +37,7 @@ filling_fits f h now high within =
     (λ (least : nxt ≤ h.high). inl (omega (arith, least, high)))
     (cases_lt h.high nxt)
 
-may_parts : (h : SenderFields) (end : ℕ) → may_send_new h end ≡ true → (h.nxt ≡ h.high) × (h.nxt + h.mss ≤ end)
+pub may_parts : (h : SenderFields) (end : ℕ) → may_send_new h end ≡ true → (h.nxt ≡ h.high) × (h.nxt + h.mss ≤ end)
 may_parts h end is =
     let first = and_parts (eqb h.nxt h.high) (ltb h.nxt (total h) && leb (h.nxt + h.mss) end) is in
     let second = and_parts (ltb h.nxt (total h)) (leb (h.nxt + h.mss) end) first.1 in

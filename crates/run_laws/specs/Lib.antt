@@ -5,3 +5,4 @@ pub mod Forwarding
 pub mod Timing
 pub mod Waits
 pub mod Setup
+pub mod Marks

@@ -4,6 +4,7 @@ ghost use Rattle.run_laws.specs.Laws.{AcknowledgedWasReceived, WindowsHold, Time
 ghost use Rattle.run_laws.specs.Links.{PacketsAreConserved, PacketsArriveOnce, RatesHold, AtEachLink, LeavesInTurn, TurnsAwayByRule, SendsAllThatEntered, SendsOneByOne, DropsForCause, DropsOnTime, KeepsDropState, CountsDrops};
 ghost use Rattle.run_laws.specs.Forwarding.{SendersOfferSegments, RoutersForward, ReceiversAcknowledge, DelayedAnswersAreDue};
 ghost use Rattle.run_laws.specs.Timing.{LinksTakeTheirTime};
+ghost use Rattle.run_laws.specs.Marks.{TakesAcknowledgements, SendsAtDuplicates, MarksLosses, TimesSegments};
 ghost use Rattle.run_laws.specs.Waits.{WaitsFromOffer};
 ghost use Rattle.run_laws.specs.Setup.{FlowsBeginAfresh, FlowsStayAsStated, LinksBeginIdle, LinksStayAsStated};
 ghost use Rattle.run_laws.specs.Senders.{AtEachSender, FitsWindows, IsSilentOnceComplete, EndsAfterRto, GoesByTimeouts, TimesNoneResent, SendersOfferWhatTheySend, AnswersTimeouts, AnswersDuplicates, ThresholdStaysWithoutLoss, GrowsByReno, KeepsRecovery, FillsWindows, RestartsTimer, MeasuresRoundTrips};
@@ -138,6 +139,32 @@ pub fn windows_grow_by_new_acknowledgements()
 /// is acknowledged, and rises by a segment (RFC 5681 section 3.2, RFC 6582 section 3.2).
 pub fn recovery_is_kept()
     ensures { AtEachSender KeepsRecovery }
+{}
+
+/// In every run a new acknowledgement moves una to what it acknowledges. Segments go from nxt on without a gap, unless a
+/// recovery goes on. An old acknowledgement does nothing (RFC 5681 section 3.1).
+pub fn acknowledgements_are_taken()
+    ensures { AtEachSender TakesAcknowledgements }
+{}
+
+/// In every run an early duplicate lets one new segment go within two more than cwnd, and it is counted (RFC 3042). In
+/// recovery a duplicate lets one go within both windows. Any other sends nothing, but for una as recovery begins. The
+/// timer stays (RFC 5681 section 3.2).
+pub fn duplicates_let_segments_go()
+    ensures { AtEachSender SendsAtDuplicates }
+{}
+
+/// In every run a timeout counts and times anew. NewReno's recover becomes high at a timeout and as recovery begins, and
+/// stays else. The first partial acknowledgement of a recovery sets the timer anew, and no further one does (RFC 6582
+/// section 3.2).
+pub fn losses_are_marked()
+    ensures { AtEachSender MarksLosses }
+{}
+
+/// In every run, where nothing is timed, a new segment that goes first is. SRTT and RTTVAR stay where nothing is
+/// measured (RFC 6298 section 3).
+pub fn segments_are_timed()
+    ensures { AtEachSender TimesSegments }
 {}
 
 /// In every run a start, or a new acknowledgement outside recovery, leaves nothing unsent that fits the flow and both
