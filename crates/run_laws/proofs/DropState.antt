@@ -1,6 +1,6 @@
 -- When CoDel's drop state begins and ends, and how its drops are counted.
-use Rattle.std.proofs.Common.{◌≡◌, ℕ, zero, suc, ◌+◌, ◌-◌, ◌*◌, ◌<◌, ◌≤◌, min, Bool, true, false, cond, ◌&&◌, ◌||◌, leb, ltb, List, [], ◌∷◌, length, map, take, drop, refl, sym, ap, subst, ◌∙◌, Option, Some, ◌⊎◌, ⊎_elim, arith, true≢false}
-use Rattle.std.specs.Prelude.{slice_get}
+use Rattle.std.proofs.Common.{◌≡◌, ℕ, zero, suc, ◌+◌, ◌-◌, ◌*◌, ◌<◌, ◌≤◌, min, Bool, true, false, cond, ◌&&◌, ◌||◌, leb, ltb, List, [], ◌∷◌, length, map, take, drop, refl, sym, ap, subst, ◌∙◌, Option, Some, None, ◌⊎◌, ⊎_elim, arith, true≢false}
+use Rattle.std.specs.Prelude.{slice_get, IsSomeAnd}
 use Rattle.std.proofs.lemmas.Bool.{and_left, and_right, or_left, or_right, lt-ltb, le-ltb, lt-leb, le-leb}
 use Rattle.sim_time.specs.ControlLaw.{gap_of}
 use Rattle.packet_chain.specs.declared.packet.Packet.{Packet}
@@ -18,7 +18,7 @@ use Rattle.port.specs.Port.{PortState, PortStep, taken, offered_all}
 use Rattle.port.specs.declared.acts.Act.{Act}
 use Rattle.tournament.proofs.Maps.{not_some, same_some}
 use Rattle.run_laws.specs.Laws.{IsKept}
-use Rattle.run_laws.specs.Links.{AtEachLink, IsAbove, IsBelow, DropsNothing, EntersDropState, KeepsDropState, BeginsDropState, CountsDrops}
+use Rattle.run_laws.specs.Links.{AtEachLink, IsAbove, IsBelow, DropsNothing, EntersDropState, KeepsDropState, BeginsDropState, AreAbove, CountsDrops}
 use Rattle.run_laws.proofs.Causes.{drops_in, due_is, take_drops, queue_after, Idle, idle, as_many_dropped, sends_where_empty}
 use Rattle.run_laws.proofs.Ports.{sends}
 use Rattle.run_laws.proofs.Touched.{Touches, by_offers, by_offer, by_take}
@@ -154,6 +154,18 @@ module _ (now : ℕ) (s q : CodelState) (is : q ≡ (codel_taken s now).queue) (
           let took : q ≡ after_one s now = is ∙ ap (λ (x : CodelTaken). x.queue) (taken_undropped s now off ok) in
           (ap (λ (x : CodelState). x.count) took, ap (λ (x : CodelState). x.lastcount) took, ap (λ (x : CodelState). x.drop_next) took)
 
+-- packets above target for an interval may be dropped, each behind the others
+judged_late : (s : CodelState) (now t behind : ℕ) (o : Option Stamped) (first_above : Option ℕ) → IsSomeAnd o (IsAbove s now behind) → first_above ≡ Some t → t ≤ now → judged s now o behind first_above ≡ record { first_above = Some t; ok = true }
+judged_late s now t behind None first_above above is upto = absurd above
+judged_late s now t behind (Some cell) first_above above is upto =
+    judged_above s now behind cell first_above above ∙ ap (above_target s.interval now) is ∙ ap (λ (b : Bool). record { first_above = Some t; ok = b }) (le-leb t now upto)
+
+late_at : (s : CodelState) (now t k : ℕ) → s.first_above ≡ Some t → t ≤ now → AreAbove s now k → judgement s now k ≡ record { first_above = Some t; ok = true }
+late_at s now t zero is upto above = judged_late s now t (bytes_of (drop 1 s.fifo.waiting)) (slice_get s.fifo.waiting 0) s.first_above (above 0 (omega arith)) is upto
+late_at s now t (suc j) is upto above =
+    judged_late s now t (bytes_of (drop (suc j + 1) s.fifo.waiting)) (slice_get s.fifo.waiting (suc j)) (judgement s now j).first_above (above (suc j) (omega arith))
+    (ap (λ (x : Judgement). x.first_above) (late_at s now t j is upto (λ i least. above i (omega (arith, least))))) upto
+
 take_counts : (now : ℕ) (old : PortState) → CountsDrops now old (taken now old).acts (taken now old).port
 take_counts now old = record {
   counts = λ s q head was is _ _ on.
@@ -165,6 +177,10 @@ take_counts now old = record {
             let not_ok : (judgement s now k).ok ≡ false = sym (ap (λ (x : CodelState). x.dropping) both.1) ∙ over in
             ap (λ (x : CodelState). x.drop_next) both.1 ∙ ap (λ b. drop_due s (cond b k (k - 1))) not_ok ∙ ap (λ n. drop_due s (n - 1)) (sym both.0) ∙ sym (due_is s (length (drops_in (taken now old).acts) - 1)),
       );
+  lasts = λ s q head t was is _ _ on first upto above.
+      let both = in_drop_state now old s q was is on in
+      let here : judgement s now (drops s now) ≡ record { first_above = Some t; ok = true } = late_at s now t (drops s now) first upto (subst (AreAbove s now) both.0 above) in
+      (ap (λ (x : CodelState). x.dropping) both.1 ∙ ap (λ (x : Judgement). x.ok) here, ap (λ (x : CodelState). x.first_above) both.1 ∙ ap (λ (x : Judgement). x.first_above) here);
   begins = λ s q head was is _ _ off on. begins_drop_state now s q (queue_is now old s q was is) off on;
   outside = λ s q head was is _ _ off still. stays_outside now s q (queue_is now old s q was is) off still;
 }
@@ -172,6 +188,7 @@ take_counts now old = record {
 offers_count : (now : ℕ) (old : PortState) (packets : List Packet) → Idle old → CountsDrops now old (offered_all now old packets).acts (offered_all now old packets).port
 offers_count now old packets kept = record {
   counts = λ s _ head was _ one first _. absurd (nobody now old packets kept s head was one first);
+  lasts = λ s _ head _ was _ one first _ _ _ _. absurd (nobody now old packets kept s head was one first);
   begins = λ s _ head was _ one first _ _. absurd (nobody now old packets kept s head was one first);
   outside = λ s _ head was _ one first _ _. absurd (nobody now old packets kept s head was one first);
 }
@@ -184,4 +201,4 @@ touched_counts now old step kept (by_take free is) = subst (λ (x : PortStep). C
 
 pub codel_counts_its_drops : AtEachLink CountsDrops
 codel_counts_its_drops =
-    at_each_link CountsDrops (λ now port. record { counts = λ _ _ _ _ _ one. absurd (omega (arith, one)); begins = λ _ _ _ _ _ one. absurd (omega (arith, one)); outside = λ _ _ _ _ _ one. absurd (omega (arith, one)) }) touched_counts
+    at_each_link CountsDrops (λ now port. record { counts = λ _ _ _ _ _ one. absurd (omega (arith, one)); lasts = λ _ _ _ _ _ _ one. absurd (omega (arith, one)); begins = λ _ _ _ _ _ one. absurd (omega (arith, one)); outside = λ _ _ _ _ _ one. absurd (omega (arith, one)) }) touched_counts

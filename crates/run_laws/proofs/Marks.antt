@@ -20,7 +20,7 @@ use Rattle.reno_sender.proofs.Samples.{by_sample}
 use Rattle.node_core.specs.declared.event.Event.{Event}
 use Rattle.node_core.specs.declared.event.Event.TheVariants.{Start, Rto, Arrive}
 use Rattle.run_laws.specs.Senders.{AtEachSender, IsNewAck, IsDuplicate}
-use Rattle.run_laws.specs.Marks.{MaySendNew, LetsOneGo, SendsAtDuplicates, from_on, GoesInTurn, TakesAcknowledgements, MarksLosses, IsUntimed, TimesSegments}
+use Rattle.run_laws.specs.Marks.{MaySendNew, LetsOneGo, SendsAtDuplicates, from_on, GoesInTurn, ResendsOne, TakesAcknowledgements, MarksLosses, IsUntimed, TimesSegments}
 use Rattle.run_laws.proofs.Losses.{start_brings_none, rto_brings_none, duplicate_row, is_duplicate_row, its_number, goes_on_in_part, measured_mss, is_sampled, partial_in_recovery, partial_recovery, begins_at_third, started_recovery, timed_out_recovery}
 use Rattle.run_laws.proofs.Ports.{by_test}
 use Rattle.run_laws.proofs.Senders.{by_rows, same_packet}
@@ -146,10 +146,35 @@ new_in_turn f ack now new =
     new_rows P f ack now new (λ _. subst (λ m. GoesInTurn (max f.nxt ack) m (new_acknowledgement f ack now)) (measured_mss f ack now) (filled_in_turn (advanced f ack now) now))
     (λ part ended. absurd (true≢false (sym (partial_in_recovery f ack part) ∙ sym (partial_recovery f ack now) ∙ ended)))
 
+measured_high : (f : SenderFields) (ack now : ℕ) → (measured_by f.timing f ack now).high ≡ f.high
+measured_high f ack now = by_sample (λ g. g.high ≡ f.high) f.timing f ack now refl (λ r. refl)
+
+-- a partial acknowledgement: with a sample or without, as much may go
+one_behind : (f g : SenderFields) (ack c : ℕ) → g.mss ≡ f.mss → g.segments ≡ f.segments → g.high ≡ f.high → g.rwnd ≡ f.rwnd → let h = record g { nxt = max f.nxt ack } in let f' = record f { nxt = max f.nxt ack } in
+    may_send_new h (ack + min c g.rwnd) ≡ may_send_new f' (ack + min c f.rwnd)
+one_behind f g ack c mss segments high rwnd = λ i. may_send_new (record f { nxt = max f.nxt ack; mss = mss i; segments = segments i; high = high i }) (ack + min c (rwnd i))
+
+part_resends : (f : SenderFields) (ack now : ℕ) → let q = partial_acknowledgement f ack now in ResendsOne (record f { nxt = max f.nxt ack }) ack (ack + min q.fields.cwnd f.rwnd) q.sent
+part_resends f ack now =
+    let h = partly f ack now in
+    let g = measured_by f.timing f ack now in
+    let f' = record f { nxt = max f.nxt ack } in
+    let P : Planned → Type 0 = λ q. ResendsOne f' ack (ack + min q.fields.cwnd f.rwnd) q.sent in
+    let same = one_behind f g ack h.cwnd (measured_mss f ack now) (by_sample (λ (x : SenderFields). x.segments ≡ f.segments) f.timing f ack now refl (λ r. refl)) (measured_high f ack now) (by_sample (λ (x : SenderFields). x.rwnd ≡ f.rwnd) f.timing f ack now refl (λ r. refl)) in
+    by_test P (may_send_new h (h.una + min h.cwnd h.rwnd)) (sending h (h.una ∷ h.nxt ∷ []) (h.nxt + h.mss) now) (sending h (h.una ∷ []) h.nxt now)
+    (λ may. record { rest = h.nxt ∷ []; again = refl; one = one_goes f' (ack + min h.cwnd f.rwnd) (sym same ∙ may) })
+    (λ not. record { rest = []; again = refl; one = none_goes f' (ack + min h.cwnd f.rwnd) (sym same ∙ not) })
+
+new_resends : (f : SenderFields) (ack now : ℕ) → f.una < ack → let q = acknowledged f ack now in q.fields.recovery ≡ true → ResendsOne (record f { nxt = max f.nxt ack }) ack (ack + min q.fields.cwnd f.rwnd) q.sent
+new_resends f ack now new =
+    let P : Planned → Type 0 = λ q. q.fields.recovery ≡ true → ResendsOne (record f { nxt = max f.nxt ack }) ack (ack + min q.fields.cwnd f.rwnd) q.sent in
+    new_rows P f ack now new (λ on. absurd (true≢false (sym on))) (λ _ _. part_resends f ack now)
+
 no_ack_taken : (now : ℕ) (v : Event) (f : SenderFields) (q : Planned) → ((x : Packet) → v ≡ Arrive x → x.kind ≢ Ack) → ((number : ℕ) → v ≡ Start number → GoesInTurn f.nxt f.mss q) → TakesAcknowledgements now v f q
 no_ack_taken now v f q none start = record {
   moves = λ _ new. absurd (none new.0 new.1 new.2);
   in_turn = λ _ new. absurd (none new.0 new.1 new.2);
+  partly = λ _ new. absurd (none new.0 new.1 new.2);
   old = λ x e kind _. absurd (none x e kind);
   start = start;
 }
@@ -158,6 +183,7 @@ ack_taken : (now : ℕ) (x : Packet) (v : Event) (f : SenderFields) → v ≡ Ar
 ack_taken now x v f is = record {
   moves = λ ack new. subst (λ n. let q = acknowledged f n now in (q.fields.una ≡ ack) × (q.fields.lt ≡ 0) × (q.fields.resent ≡ false)) (sym (its_number x v f ack is new)) (moved f ack now new.4);
   in_turn = λ ack new. subst (λ n. let q = acknowledged f n now in q.fields.recovery ≡ false → GoesInTurn (max f.nxt ack) f.mss q) (sym (its_number x v f ack is new)) (new_in_turn f ack now new.4);
+  partly = λ ack new. subst (λ n. let q = acknowledged f n now in q.fields.recovery ≡ true → ResendsOne (record f { nxt = max f.nxt ack }) ack (ack + min q.fields.cwnd f.rwnd) q.sent) (sym (its_number x v f ack is new)) (new_resends f ack now new.4);
   old = λ y e _ which. ap (λ (z : Packet). acknowledged f z.number now) (same_packet x y (sym is ∙ e)) ∙ old_row f y.number now which;
   start = λ n e. absurd (start_brings_none n x (sym e ∙ is));
 }
@@ -266,9 +292,6 @@ no_segment x rest e = cc
 
 abbrev Begins : ℕ → SenderFields → Planned → Type 0
 Begins now f q = (rest : List ℕ) → q.sent ≡ f.high ∷ rest → q.fields.timing ≡ Some (timing_of (f.high + f.mss) now)
-
-measured_high : (f : SenderFields) (ack now : ℕ) → (measured_by f.timing f ack now).high ≡ f.high
-measured_high f ack now = by_sample (λ g. g.high ≡ f.high) f.timing f ack now refl (λ r. refl)
 
 -- a row that sends from fields in which nothing is timed
 sends_timed : (now : ℕ) (f h : SenderFields) (sent : List ℕ) → h.timing ≡ None → h.high ≡ f.high → h.mss ≡ f.mss → (rest : List ℕ) → sent ≡ f.high ∷ rest → timing_after h sent now ≡ Some (timing_of (f.high + f.mss) now)

@@ -145,10 +145,15 @@ pub record BeginsDropState (now : ℕ) (s q : CodelState) : Type 0 where
   pub lastcount : q.lastcount ≡ q.count
   pub next : q.drop_next ≡ now + gap_of s.interval q.count
 
--- how CoDel counts its drops, where a link takes and sends: in drop state by one for each, up to 2^32 - 1, and where it ends the moment stays at which the last drop was due; outside it nothing changes before the next begins
+-- the packets up to a place are above target, each with those behind it
+abbrev pub AreAbove : CodelState → ℕ → ℕ → Type 0
+AreAbove s now k = (j : ℕ) → j ≤ k → IsSomeAnd (slice_get s.fifo.waiting j) (IsAbove s now (bytes_of (drop (j + 1) s.fifo.waiting)))
+
+-- how CoDel counts its drops, where a link takes and sends: in drop state by one for each, up to 2^32 - 1; it lasts while packets are above target, and where it ends the moment stays at which the last drop was due; outside it nothing changes before the next begins
 pub record CountsDrops (now : ℕ) (old : PortState) (acts : List Act) (new : PortState) : Type 0 where
   pub counts : (s q : CodelState) (head : Stamped) → old.queue ≡ Codel s → new.queue ≡ Codel q → 1 ≤ count_by is_sent acts → slice_get s.fifo.waiting 0 ≡ Some head → s.dropping ≡ true
       → let k = length (filter_map queue_drop_in acts) in (q.count ≡ min (s.count + k) 4294967295) × (q.lastcount ≡ s.lastcount) × (q.dropping ≡ false → q.drop_next ≡ due_behind s (k - 1))
+  pub lasts : (s q : CodelState) (head : Stamped) (t : ℕ) → old.queue ≡ Codel s → new.queue ≡ Codel q → 1 ≤ count_by is_sent acts → slice_get s.fifo.waiting 0 ≡ Some head → s.dropping ≡ true → s.first_above ≡ Some t → t ≤ now → AreAbove s now (length (filter_map queue_drop_in acts)) → (q.dropping ≡ true) × (q.first_above ≡ Some t)
   pub begins : (s q : CodelState) (head : Stamped) → old.queue ≡ Codel s → new.queue ≡ Codel q → 1 ≤ count_by is_sent acts → slice_get s.fifo.waiting 0 ≡ Some head → s.dropping ≡ false → q.dropping ≡ true → BeginsDropState now s q
   pub outside : (s q : CodelState) (head : Stamped) → old.queue ≡ Codel s → new.queue ≡ Codel q → 1 ≤ count_by is_sent acts → slice_get s.fifo.waiting 0 ≡ Some head → s.dropping ≡ false → q.dropping ≡ false
       → (q.count ≡ s.count) × (q.lastcount ≡ s.lastcount) × (q.drop_next ≡ s.drop_next)

@@ -39,10 +39,17 @@ pub record GoesInTurn (first mss : ℕ) (q : Planned) : Type 0 where
   pub sent : q.sent ≡ from_on first mss (length q.sent)
   pub nxt : q.fields.nxt ≡ first + length q.sent * mss
 
--- a new acknowledgement moves una to what it acknowledges, and segments go from nxt on unless a recovery goes on; an old one does nothing
+-- a segment is sent again, and behind it one new segment goes where it may
+pub record ResendsOne (f : SenderFields) (first end : ℕ) (sent : List ℕ) : Type 0 where
+  pub rest : List ℕ
+  pub again : sent ≡ first ∷ rest
+  pub one : LetsOneGo f end rest
+
+-- a new acknowledgement moves una to what it acknowledges, and segments go from nxt on; where a recovery goes on, una is sent again, and behind it one new segment where it may go; an old one does nothing
 pub record TakesAcknowledgements (now : ℕ) (v : Event) (f : SenderFields) (q : Planned) : Type 0 where
   pub moves : (ack : ℕ) → IsNewAck v f ack → (q.fields.una ≡ ack) × (q.fields.lt ≡ 0) × (q.fields.resent ≡ false)
   pub in_turn : (ack : ℕ) → IsNewAck v f ack → q.fields.recovery ≡ false → GoesInTurn (max f.nxt ack) f.mss q
+  pub partly : (ack : ℕ) → IsNewAck v f ack → q.fields.recovery ≡ true → ResendsOne (record f { nxt = max f.nxt ack }) ack (ack + min q.fields.cwnd f.rwnd) q.sent
   pub old : (x : Packet) → v ≡ Arrive x → x.kind ≡ Ack → (x.number < f.una) ⊎ ((x.number ≡ f.una) × (f.una ≡ f.nxt)) → q ≡ nothing_sent f
   pub start : (number : ℕ) → v ≡ Start number → GoesInTurn f.nxt f.mss q
 

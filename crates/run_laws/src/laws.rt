@@ -141,8 +141,9 @@ pub fn recovery_is_kept()
     ensures { AtEachSender KeepsRecovery }
 {}
 
-/// In every run a new acknowledgement moves una to what it acknowledges. Segments go from nxt on without a gap, unless a
-/// recovery goes on. An old acknowledgement does nothing (RFC 5681 section 3.1).
+/// In every run a new acknowledgement moves una to what it acknowledges. Segments go from nxt on without a gap. Where a
+/// recovery goes on, una is sent again, and one new segment that fits (RFC 6582 section 3.2). An old acknowledgement
+/// does nothing (RFC 5681 section 3.1).
 pub fn acknowledgements_are_taken()
     ensures { AtEachSender TakesAcknowledgements }
 {}
@@ -278,9 +279,10 @@ pub fn codel_drops_once_the_interval_is_over()
     ensures { AtEachLink KeepsDropState }
 {}
 
-/// In every run CoDel counts the drops of its drop state. A drop state begins with a count of one, or with what the one
-/// before dropped after its first. The latter is so where that is more than one, and less than 16 intervals passed since
-/// the next was due. The next drop is due a gap of the control law later (RFC 8289 sections 5.4 and 5.5).
+/// In every run CoDel counts the drops of its drop state, which lasts while packets are above target. It begins with a
+/// count of one, or with what the one before dropped after its first. The latter is so where that is more than one, and
+/// less than 16 intervals passed since the next was due. The next drop is due a gap of the control law later (RFC 8289
+/// sections 5.4 and 5.5).
 pub fn codel_counts_its_drops()
     ensures { AtEachLink CountsDrops }
 {}
