@@ -295,6 +295,61 @@ def round_trips_are_measured(e, f, g):
     return (g.srtt, g.rttvar) == (srtt, rttvar) and g.rto == min(max(srtt + max(1, 4 * rttvar), SECOND), 60 * SECOND)
 
 
+def let_go(f, first, end):
+    """The new segment that may go, if one may."""
+    return [first] if first == f.high and first < f.total and first + f.mss <= end else []
+
+
+def goes_in_turn(first, e, g):
+    return e.sent == [first + i * g.mss for i in range(len(e.sent))] and g.nxt == first + len(e.sent) * g.mss
+
+
+@of_sender
+def acknowledgements_are_taken(e, f, g):
+    if e.kind == 'start':
+        return goes_in_turn(f.nxt, e, g)
+    if e.kind != 'ack' or is_duplicate(e):
+        return True
+    if not is_new(e):
+        return not e.sent and vars(f) == vars(g)
+    ack = e.packet.number
+    first = max(f.nxt, ack)
+    right = e.sent == [ack, *let_go(f, first, ack + min(g.cwnd, f.rwnd))] if g.recovery else goes_in_turn(first, e, g)
+    return (g.una, g.lt, g.resent) == (ack, 0, False) and right
+
+
+@of_sender
+def duplicates_let_segments_go(e, f, g):
+    if not is_duplicate(e):
+        return True
+    if f.recovery:
+        right = e.sent == let_go(f, f.nxt, f.una + min(g.cwnd, f.rwnd))
+    elif f.dups < 2:
+        right = e.sent == let_go(f, f.nxt, f.una + min(f.cwnd + 2 * f.mss, f.rwnd)) and g.lt == f.lt + len(e.sent) * f.mss
+    else:
+        right = g.recovery or not e.sent
+    return right and g.deadline == f.deadline
+
+
+@of_sender
+def losses_are_marked(e, f, g):
+    if e.kind == 'rto':
+        return (g.dups, g.lt, g.timing, g.deadline) == (0, 0, None, e.now + g.rto) and g.recover == (f.high if f.newreno else f.recover)
+    if not f.recovery and g.recovery:
+        return not f.newreno or (g.recover == f.high and not g.partial)
+    if f.recovery and is_new(e) and f.newreno and f.recover is not None and e.packet.number < f.recover:
+        return g.partial and g.deadline == (f.deadline if f.partial else e.now + g.rto) and g.recover == f.recover
+    return g.recover == f.recover
+
+
+@of_sender
+def segments_are_timed(e, f, g):
+    measured = is_new(e) and f.timing is not None and f.timing[0] <= e.packet.number
+    if e.sent[:1] == [f.high] and (f.timing is None or measured) and g.timing != (f.high + f.mss, e.now):
+        return False
+    return measured or (g.srtt, g.rttvar) == (f.srtt, f.rttvar)
+
+
 # ---- what nodes offer
 
 def is_offered(packets, old, new, told):
@@ -484,6 +539,9 @@ def codel_drops_once_the_interval_is_over(now, drops, cells, s, q):
 def codel_counts_its_drops(now, drops, cells, s, q):
     k = len(drops)
     if s.dropping:
+        if s.first_above is not None and s.first_above <= now and k < len(cells) and all(is_above(s, now, cells, j) for j in range(k + 1)):
+            if not q.dropping or q.first_above != s.first_above:
+                return False
         return (q.count, q.lastcount) == (min(s.count + k, MOST_COUNT), s.lastcount) and (q.dropping or q.drop_next == due_behind(s, max(k - 1, 0)))
     if not q.dropping:
         return (q.count, q.lastcount, q.drop_next) == (s.count, s.lastcount, s.drop_next)
