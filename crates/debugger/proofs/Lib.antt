@@ -2,6 +2,7 @@ pub mod Walks
 pub mod Watched
 pub mod Thinned
 pub mod Shown
+pub mod Kept
 pub mod Faults
 pub mod Batches
 pub mod Aims

@@ -1,26 +1,17 @@
-use Rattle.std.proofs.Common.{◌≡◌, ◌++◌, ◌∙◌, Some, ⊎_elim, sym, subst, length}
+use Rattle.std.proofs.Common.{◌≡◌, ◌++◌, sym, subst}
 use Rattle.std.specs.Result.{OnOk}
-use Rattle.table_run.specs.State.{State}
-use Rattle.debugger.specs.Moves.{Passes, HasPosition}
+use Rattle.debugger.specs.Moves.{HasPosition}
 use Rattle.debugger.specs.Drops.{past_drops}
 use Rattle.debugger.specs.Debugging.{Debugging}
-use Rattle.debugger.specs.DebuggerOf.{IsDebugger}
+use Rattle.debugger.proofs.Kept.{value_kept, moves_kept, nodes_kept, near_passes}
 use Rattle.debugger.proofs.moves.Debugger.append_drops.Goals as goal
 
 pub append_drops-requires-clause-on_run : goal.append_drops-requires-clause-on_run
-append_drops-requires-clause-on_run c =
-    ⊎_elim
-    (λ (e : c.nearer-near.result.now ≡ c.self.inside.net). subst (Passes c.self.inside.checkpoints) (sym e) c.self.invariant.moves.shown)
-    (λ (e : c.self.inside.left ≡ Some c.nearer-near.result.now). c.self.invariant.moves.left c.nearer-near.result.now e)
-    c.nearer-near.ensures
+append_drops-requires-clause-on_run c = near_passes c.self.inside c.nearer-near.result.now c.self.invariant c.nearer-near.ensures
 
 pub invariant_of-self : goal.invariant_of-self
 invariant_of-self c =
-    let same = c.append_drops.ensures.same in
-    record {
-      moves = subst (λ (s : State). IsDebugger (record { start = s; shown = c.self.inside.net; left = c.self.inside.left; breaks = c.self.inside.breaks; workers = c.self.inside.window_settings.workers })) (sym same) c.self.invariant.moves;
-      nodes = subst (λ (s : State). length c.self.inside.window_settings.partition ≡ length s.parts) (sym same) c.self.invariant.nodes;
-    }
+    record { moves = moves_kept c.self.inside _ c.append_drops.ensures.same c.self.invariant; nodes = nodes_kept c.self.inside _ c.append_drops.ensures.same c.self.invariant }
 
 pub append_drops-requires-clause-upto : goal.append_drops-requires-clause-upto
 append_drops-requires-clause-upto c =
@@ -35,6 +26,4 @@ pub returns-clause-err : goal.returns-clause-err
 returns-clause-err c = c.append_drops.ensures.err
 
 pub returns-clause-same : goal.returns-clause-same
-returns-clause-same c =
-    let same = c.append_drops.ensures.same in
-    (λ i. record { start = same i; shown = c.self.inside.net; left = c.self.inside.left; breaks = c.self.inside.breaks; workers = c.self.inside.window_settings.workers }) ∙ c.self.view_is
+returns-clause-same c = value_kept c.self.inside _ c.append_drops.ensures.same _ c.self.view_is
