@@ -448,12 +448,13 @@ def test_two_runs_in_a_lecture(calm):
         first = browser.json('Math.min(...simulator.compare.records.flatMap(it => it.drops.map(drop => drop.time)))')
         assert browser.value('simulator.compare.clock.time') == first
         readable_both(browser, size)
-        assert browser.json('["both-windows", "both-lengths"].map(id => document.getElementById(id).checkVisibility({visibilityProperty: true}))') == [True, False]
-        look(browser, f'lecture_both_{size[0]}')
-        browser.press('p')
+        # The lesson is carried by the delay at a link: of two runs, by their queues.
         assert browser.json('["both-windows", "both-lengths"].map(id => document.getElementById(id).checkVisibility({visibilityProperty: true}))') == [False, True]
         look(browser, f'lecture_both_queues_{size[0]}')
-        browser.press('p')
+        press(browser, 'p', 'p')
+        assert browser.json('["both-windows", "both-lengths"].map(id => document.getElementById(id).checkVisibility({visibilityProperty: true}))') == [True, False]
+        look(browser, f'lecture_both_{size[0]}')
+        press(browser, 'p', 'p')
         assert browser.value('document.querySelectorAll("#both-figures tbody tr").length') > 5
         seen = '[...document.querySelectorAll("#both-figures tr")].map(row => row.getBoundingClientRect())'
         assert browser.value(f'Math.max(...{seen}.map(it => it.right)) <= innerWidth')

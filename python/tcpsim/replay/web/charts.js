@@ -10,7 +10,7 @@ const DASHES = ['', '7 3', '2 3', '9 3 2 3'];
 const LEAST_LANE = 40, LANE_GAP = 5;    // pixels: of a lane's height, and between two
 const OWN_SCALE = 5;                    // a lane with values smaller than the others' by this has an axis of its own
 const TOGETHER = 4;                     // marks of a kind that are no further apart are one
-const MARK = 4;                         // half of a mark's width
+const MARK = 4, KEY_SIGN = 26;          // half of a mark's width; what the key's signs take beside their words
 const SIGNS = {full: 'm-4-4l8 8m0-8l-8 8', codel: 'm-4-4h8l-4 8z', lost: 'm-5 0h10m-5-5v10', timeout: ''};
 const GREY = 'var(--line)';
 
@@ -88,11 +88,17 @@ class Chart {
   }
   // The title as high as its letters are, and what is below it further down.
   layTitle(titles) {
-    const node = this.title.attr('x', 4).attr('y', 0).node(), room = this.wide - 6;
-    this.title.text(titles.find(words => { this.title.text(words); return node.getComputedTextLength() <= room; }) || '');
-    const {y, height} = node.getBBox();
+    const node = this.title.attr('x', 4).attr('y', 0).text(titles[0]).node(), {y, height} = node.getBBox();
+    this.titles = titles.map(words => { this.title.text(words); return [words, node.getComputedTextLength()]; });
+    this.chooseTitle(0);
     this.title.attr('y', -y);
     this.top = height + 2;
+  }
+  // The longest that leaves so much room beside it, or else the longest that has room alone.
+  chooseTitle(beside) {
+    const fits = room => this.titles.find(([, wide]) => wide <= room), room = this.wide - 6, [words, wide] = fits(room - beside) || fits(room) || ['', 0];
+    this.title.text(words);
+    this.titleWide = wide;
   }
   // The axis of time from `left` on: as many ticks as have room for their labels, the first and the last whole.
   layTime(left) {
@@ -207,18 +213,19 @@ class Chart {
     if (words === this.keyed) return;           // as it was
     this.keyed = words;
     this.key.selectAll('*').remove();
+    const y = this.top - 5, texts = key.map(([, words]) => this.key.append('text').attr('class', 'key').attr('y', y).text(words));
+    const widths = texts.map(text => text.node().getComputedTextLength());
+    this.chooseTitle(key.length ? d3.sum(widths, wide => wide + KEY_SIGN) + CHART.right + CHART.apart : 0);
     let x = this.wide - CHART.right;
-    const least = 4 + this.title.node().getComputedTextLength() + 12, y = this.top - 5;
-    for (const [kind, words, colour] of key) {
-      const text = this.key.append('text').attr('class', 'key').attr('y', y).text(words), wide = text.node().getComputedTextLength();
-      if (x - wide - 16 < least) { text.remove(); return; }
-      text.attr('x', x - wide);
-      const at = x - wide - 9;
+    key.forEach(([kind, , colour], k) => {
+      const at = x - widths[k] - 9;
+      if (at - 8 < this.titleWide + CHART.apart) { texts.splice(k).forEach(text => text.remove()); x = -Infinity; return; }
+      texts[k].attr('x', x - widths[k]);
       if (['stall', 'recovery', 'flow'].includes(kind)) this.key.append('rect').attr('class', kind).attr('fill', colour || null).attr('x', at - 4).attr('y', y - 9).attr('width', 10).attr('height', 10);
       else if (kind === 'again') this.key.append('circle').attr('class', kind).attr('cx', at).attr('cy', y - 4).attr('r', MARK).attr('fill', 'none');
       else this.key.append('path').attr('class', kind).attr('d', kind === 'timeout' ? `M${at} ${y - 10}v11` : `M${at} ${y - 4}${SIGNS[kind] || SIGNS.full}`);
-      x -= wide + 26;
-    }
+      x -= widths[k] + KEY_SIGN;
+    });
   }
   mark(time) {
     this.time = time;

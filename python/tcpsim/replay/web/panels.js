@@ -77,7 +77,8 @@ function stacked(record, l, x) {
     peak = -1;
   };
   for (let entry = 0, out = 0; out < left.length;) {
-    const enters = entry < left.length && track.entered(entry) <= left[out], time = enters ? track.entered(entry) : left[out];
+    // At the same moment one leaves before another enters, but for one that does not wait.
+    const enters = entry < left.length && (entry === out || track.entered(entry) < left[out]), time = enters ? track.entered(entry) : left[out];
     if (time > end) break;
     const next = Math.floor(from + (time - begin) * across), f = track.flow[enters ? entry++ : out++];
     if (next !== column) close(next);
@@ -111,7 +112,7 @@ const PANELS = {
   delays: {says: 'delay', of: 'links', whole: false, titles: [`${LOOKS.panels.delay}, ms`, 'delay of each packet, ms', 'delay, ms'], lanes: (record, links) => links.map(l => {
     const track = record.tracks[l], of = record.facts.flows.map(() => ({times: [], values: []}));
     track.sent.forEach((entry, k) => { const one = of[track.flow[entry]]; one.times.push(track.entered(entry)); one.values.push((track.begun(k) - track.entered(entry)) / 1e6); });
-    return {name: record.facts.links[l].name, colour: linkColourOf(l), series: of.map((dots, f) => ({dots, curve: dots, flow: f, colour: colourOf(f),
+    return {name: record.facts.links[l].name, colour: linkColourOf(l), marks: dropMarks(record, ({link}) => link === l), series: of.map((dots, f) => ({dots, curve: dots, flow: f, colour: colourOf(f),
       name: `delay of packets of ${flowName(record, f)} at ${record.facts.links[l].name}`})).filter(({dots}) => dots.times.length)};
   })},
   sequence: {says: 'sequence numbers', of: 'flows', titles: [`${LOOKS.panels.sequence}: sent (dots), acknowledged (line), bytes`, `${LOOKS.panels.sequence}, bytes`], lanes: (record, flows) => flows.map(f => {
