@@ -806,7 +806,7 @@ class TestLiberationAlone(OneFont, WithBrowser):
 def draw_pictures():
     """A picture of each compared example, and of its page at 1,000 by 640, in 1.4 times as many pixels: letters can be read."""
     folder = tempfile.mkdtemp(prefix='replay')
-    browser = Browser(os.path.join(folder, 'profile'))
+    browser = Browser(folder)
     browser.call('Emulation.setDeviceMetricsOverride', width=1000, height=640, deviceScaleFactor=1.4, mobile=False)
     try:
         for name, event in PICTURED.items():
