@@ -17,6 +17,7 @@ LEAST = 16              # and slow start's window has so many segments
 ABOVE = .3              # how high the part above the break is drawn, as a part of what is below it,
 GAP = .07               # and the break
 CLEAR = .93             # up to which part of what is below it there are ticks
+BETWEEN = .18           # two ticks above it are this part of what is below it apart
 STROKE = {'marker': (2, 2, -60), 'ms': 13, 'mew': 1.4, 'color': '#000000'}      # through the side of a frame
 ROOM = 1.12             # how much higher than the greatest value an axis goes
 
@@ -79,7 +80,7 @@ def set_heights(axes: Axes, axis: Axis, scale: int, most: int, low: float | None
     axes.set_ylim(low, 1.06 * top)
     over = knee + GAP * knee / rest
     ticks = [tick for tick in locator.tick_values(0, axis.knee / scale) if 0 <= tick <= CLEAR * knee]
-    ticks += [tick for tick in (axis.calm / scale,) if over < tick and (top - tick) * rest > .1 * knee] + [top]
+    ticks += [tick for tick in (axis.calm / scale,) if over < tick and (top - tick) * rest > BETWEEN * knee] + [top]
     axes.yaxis.set_major_locator(FixedLocator(ticks))
     axes.yaxis.set_major_formatter(FixedFormatter([f'{tick:,.3g}' for tick in ticks]))
     draw_break(axes, knee, over)

@@ -192,16 +192,17 @@ def delay_panel(picture: Picture, axes: Axes, links: Sequence[LinkView], width: 
         if len(times):
             axes.plot(picture.clock.x(times), values / scale, marker='.', ms=6 if few else 3,
                       rasterized=len(times) > 400, clip_on=False, **{**picture.look_of(view), 'ls': 'none'})
-    for target in {view.run.link.target for view in links if view.run.link.queue == 'codel'}:
+    top = (1.5 if picture.log else 1.12) * greatest
+    for target in {view.run.link.target for view in links if view.run.link.queue == 'codel' and view.run.link.target <= top}:
         axes.axhline(target / scale, color='#000000', lw=.8, ls=':')
-        axes.annotate('target', (1, target / scale), xycoords=('axes fraction', 'data'),
-                      xytext=(2, 0), textcoords='offset points', va='center', fontsize=NOTE)
+        axes.annotate('target', (1, target / scale), xycoords=('axes fraction', 'data'), xytext=(2, 0), textcoords='offset points',
+                      va='top' if target > .9 * top else 'center', fontsize=NOTE)
     if picture.log:
         log_axis(axes.set_yscale, axes.yaxis, greatest / scale)
-        axes.set_ylim(-.3, 1.5 * greatest / scale)
+        axes.set_ylim(-.3, top / scale)
         draw_break(axes, *BREAK)
     else:
-        axes.set_ylim(-.04 * greatest / scale, 1.12 * greatest / scale)
+        axes.set_ylim(-.04 * greatest / scale, top / scale)
     axes.set_ylabel(f'{unit}, logarithmic' if picture.log else unit)
     dotted = [Line2D([], [], label=view.name, marker='.', ms=9, **{**picture.look_of(view), 'ls': 'none'}) for view in links]
     key_above(axes, PANELS['delay'], dotted if named else [], width,
