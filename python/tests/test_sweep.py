@@ -26,8 +26,9 @@ from clone import BIN, PROGRAM, TOP, paths, read, read_text
 from tcpsim.cli import net as command
 from tcpsim.sweeps import pattern as sweep
 from tcpsim.sweeps import pool
-from tcpsim.sweeps.columns import FROM
+from tcpsim.sweeps.columns import FROM, columns_of
 from tcpsim.sweeps.files import FIRST_LINE
+from tcpsim.sweeps.look import look_of
 from tcpsim.sweeps.rows import AskedOfRun, Grid, format_of
 
 SWEEP = os.path.join(BIN, 'tcpsim-sweep')
@@ -76,6 +77,7 @@ def flows_figures(text, *options):
 
 FOUR = command.scenario(['dumbbell', '--flows', '4', '--rate', '2M', '--rtt', '40ms,70ms', '--start', '0,300ms', '--segments',
                      '1000', '--rwnd', '60000', '--end', '4s'])
+NET = command.scenario(['dumbbell', '--flows', '2', '--rate=2M', '--rtt', '40ms', '--end', '2s'])
 
 
 # ---- the rows' figures
@@ -426,8 +428,8 @@ class TestPictures:
         panels = {others: {kind: [(point.label, point.x.mean, point.tail, point.y.mean) for point in points]
                            for kind, points in lines.items()} for others, lines in plot_sweep().panels_of(grid, rows).items()}
         assert panels == {
-            ('end = 1s',): {'droptail': [('5', 1, 2, 10)], 'codel': [('1ms', 7, 14, 70), ('5ms', 5, 10, 50)]},
-            ('end = 2s',): {'droptail': [('5', 2, 4, 20), ('BDP', 4, 8, 40)],
+            ((), ('end = 1s',)): {'droptail': [('5', 1, 2, 10)], 'codel': [('1ms', 7, 14, 70), ('5ms', 5, 10, 50)]},
+            ((), ('end = 2s',)): {'droptail': [('5', 2, 4, 20), ('BDP', 4, 8, 40)],
                             'codel': [('1ms', 8, 16, 80), ('5ms', 6, 12, 60)]}}
         axes = plot_sweep().draw(grid, rows).axes
         assert [each.get_title() for each in axes] == ['end = 1s', 'end = 2s']
@@ -443,8 +445,81 @@ class TestPictures:
         for lines in plot_sweep().panels_of(grid, rows).values():
             assert [point.label for point in lines['droptail']] == ['5', 'BDP', '80']
             assert [point.label for point in lines['codel']] == ['1ms', '5ms']
-        axes = plot_sweep().draw(grid, rows).axes         # three above, one below
-        assert [any(label.get_visible() for label in each.get_xticklabels()) for each in axes] == [False, True, True, True]
+        axes = plot_sweep().draw(grid, rows).axes
+        assert [any(label.get_visible() for label in each.get_xticklabels()) for each in axes] == [True] * 4
+
+    @staticmethod
+    def drawn(sets, look='', over=(), show=''):
+        """A grid's picture, of rows that are made up: utilization falls, and waits rise, with each."""
+        pattern = sweep.Pattern(NET)
+        grid = Grid(pattern, sweep.settings_of(sets, pattern, over), AskedOfRun('', 'pq', 0, tuple(columns_of(show, pattern)) if show else ()))
+        rows = []
+        for number in range(len(grid.points)):
+            row = grid.begin_of(number, grid.text(number))
+            figures = {'link': 'pq', 'wait_median_ns': (number + 1) * 10**6, 'wait_p99_ns': (number + 2) * 10**6, 'utilization': 1 / (number + 2)}
+            rows.append({name: str(value) for name, value in {**row, 'status': 'done', **figures, **{
+                name: number + 1 for name in grid.figures() if name not in figures}}.items() if value is not None})
+        return grid, plot_sweep().draw(grid, rows, look_of(*({'x': None, 'log': None, 'share': False, 'size': None, 'kind': None, **look}).values())
+                                       if look else look_of(None, None, False, None, None))
+
+    def test_rows_are_the_first_setting_and_columns_the_second(self):
+        """Each panel has axes of its own, or with `share` all the same."""
+        sets = ['rate=1M,2M,3M', 'rtt=10ms,20ms', 'pq.queue=droptail:5,9']
+        _, figure = self.drawn(sets)
+        assert [each.get_title() for each in figure.axes] == ['rtt = 10ms', 'rtt = 20ms', '', '', '', '']
+        assert [[text.get_text() for text in each.texts if 'rate' in text.get_text()] for each in figure.axes] == [
+            [], ['rate = 1M'], [], ['rate = 2M'], [], ['rate = 3M']]
+        assert len({each.get_xlim() for each in figure.axes}) == 6 and len(figure.legends) == 1
+        _, figure = self.drawn(sets, {'share': True})
+        assert len({(each.get_xlim(), each.get_ylim()) for each in figure.axes}) == 1
+
+    def test_any_setting_is_across(self):
+        """Of pq+qp.delay it is pq.delay; a line has a queue."""
+        sets = ['pq+qp.delay=10ms,20ms,40ms', 'pq.queue=droptail:5,9', 'rate=1M,2M']
+        _, figure = self.drawn(sets, {'x': 'pq.delay', 'log': 'xy'})
+        assert [each.get_title() for each in figure.axes] == ['rate = 1M', 'rate = 2M']
+        assert [list(line.get_xdata()) for line in figure.axes[0].lines] == [[10, 20, 40]] * 2
+        assert [(each.get_xscale(), each.get_yscale()) for each in figure.axes] == [('log', 'log')] * 2
+        assert [text.get_text() for text in figure.legends[0].texts] == ['droptail:5', 'droptail:9']
+        assert figure.get_supxlabel() if hasattr(figure, 'get_supxlabel') else figure._supxlabel.get_text() == 'pq+qp.delay, ms'
+
+    @pytest.mark.parametrize('kind', ['cdf', 'box'])
+    def test_distributions_of_replicates(self, kind):
+        _, figure = self.drawn(['pq.queue=droptail:5,codel:5ms:100ms'], {'kind': kind}, ['spread=1..4'], 'f0.goodput')
+        axes, = figure.axes
+        if kind == 'cdf':
+            assert [list(line.get_xdata()) for line in axes.lines] == [[n / 1e6 for n in (1, 1, 2, 3, 4)], [n / 1e6 for n in (5, 5, 6, 7, 8)]]
+            assert [list(line.get_ydata()) for line in axes.lines] == [[0, .25, .5, .75, 1]] * 2
+            assert [text.get_text() for text in figure.legends[0].texts] == ['droptail:5', 'codel:5ms:100ms']
+        else:
+            medians = [line.get_ydata()[0] for line in axes.lines if line.get_color() == '#9C4A1A']
+            assert medians == [pytest.approx(2.5e-6), pytest.approx(6.5e-6)]
+            assert [label.get_text() for label in axes.get_xticklabels()] == ['droptail:5', 'codel:5ms:100ms']
+
+    def test_a_size_in_print(self):
+        """Sixteen panels on 180 mm: letters of 7 points, no two texts of the figure's on each other, none beyond its rim."""
+        _, figure = self.drawn(['rate=1M,2M,4M,8M', 'rtt=10ms,20ms,40ms,80ms', 'pq.queue=droptail:5,9,20,codel:5ms:100ms'], {'size': '180mm'})
+        assert abs(figure.get_size_inches()[0] * 25.4 - 180) < .1 and len(figure.axes) == 16
+        figure.draw_without_rendering()
+        texts = [text for text in figure.findobj(lambda it: hasattr(it, 'get_fontsize') and it.get_visible() and it.get_text())]
+        assert {text.get_fontsize() for text in texts} == {7}
+        own = [*figure.texts, *figure.legends[0].texts, *(text for axes in figure.axes for text in (*axes.texts, axes.title))]
+        boxes = [text.get_window_extent() for text in texts if text in own]
+        assert not [(a, b) for n, a in enumerate(boxes) for b in boxes[:n] if a.overlaps(b)]
+        assert all(box.x0 >= -1 and box.y0 >= -1 and box.x1 <= figure.bbox.x1 + 1 and box.y1 <= figure.bbox.y1 + 1 for box in boxes)
+
+    @pytest.mark.parametrize('words, why', [
+        (['--size', '85'], 'write 85mm or 180x120mm'), (['--size', '9999mm'], 'from 30 to 1,000 mm'), (['--log', 'z'], 'write x, y or xy'),
+        (['--kind', 'pie'], 'write mean, cdf, box'), (['--kind', 'cdf'], 'give some by --over'), (['--x', 'nosuch'], 'there is no such --set')])
+    def test_wrong_words_of_a_picture(self, words, why):
+        for more in (['--plot', path('s.svg')], []):
+            done = tool(path('hand.txt', BY_HAND), '--set', 'a.queue=droptail:1,2', *words, *more)
+            assert (done.returncode, done.stdout, len(done.stderr.splitlines())) == (2, '', 1)
+            assert (why if more else 'are of --plot') in done.stderr
+
+    def test_letters_in_pdf_are_embedded(self):
+        tool(path('hand.txt', BY_HAND), '--set', 'a.queue=droptail:1,2', '--plot', path('s.pdf'), '--size', '85mm')
+        assert b'/FontFile2' in read(path('s.pdf')) and b'/Type3' not in read(path('s.pdf'))
 
     def test_labels_do_not_collide(self):
         """Six points in nearly one place."""
@@ -466,12 +541,9 @@ class TestPictures:
         assert 'figures of link a' in done.stdout
         assert '/nowhere/s.svg' in done.stderr.splitlines()[-1]
         done = tool(path('hand.txt', BY_HAND), '--plot', path('s.svg'), '--set', 'a.queue=droptail:1,2', '--set',
-                    'b.delay=' + ','.join(f'{n}ms' for n in range(1, 20)))
+                    'b.delay=' + ','.join(f'{n}ms' for n in range(1, 40)))
         assert (done.returncode, len(done.stderr.splitlines())) == (2, 1)
-        assert '19 panels' in done.stderr
-
-
-NET = command.scenario(['dumbbell', '--flows', '2', '--rate=2M', '--rtt', '40ms', '--end', '2s'])
+        assert '39 panels' in done.stderr
 
 
 def test_options_of_the_shape_are_set():

@@ -19,6 +19,7 @@ from tcpsim.command_line import Wrong, note
 from tcpsim.estimate import events_of
 from tcpsim.program import MODEL_SPEED, NoProgram, check_time
 from tcpsim.sweeps.files import csv_text
+from tcpsim.sweeps.look import look_of
 from tcpsim.sweeps.means import PARTS, Averaged, averaged, pair_of, pairs, titles
 from tcpsim.sweeps.pattern import OwnQueue
 from tcpsim.sweeps.pool import Rows, run_all
@@ -163,14 +164,15 @@ class Sweep:
         with output.written(os.fspath(path)) as file:
             file.write(csv_text(self._rows, self._grid.columns()))
 
-    def plot(self) -> PlottedRun:
+    def plot(self, x: str | None = None, log: str = '', share: bool = False, size: str | None = None, kind: str = 'mean') -> PlottedRun:
         """A picture of wait against utilization, or of the second figure that is shown against the first, which a notebook shows.
-        Wants matplotlib."""
+        Options are those of `tcpsim-sweep --plot`. Wants matplotlib."""
         wanted('matplotlib')
         from tcpsim.plot.sweep import draw
         with as_api():
-            command.check_panels(self._grid)
-            return PlottedRun(draw(self._grid, self._rows))
+            look = look_of(x, log, share, size, kind)
+            command.check_look(self._grid, look)
+            return PlottedRun(draw(self._grid, self._rows, look))
 
     def _lines(self) -> list[str]:
         if self._grid.over:

@@ -21,17 +21,18 @@ from tcpsim.scenario import units
 from tcpsim.sweeps import jobs
 from tcpsim.sweeps.columns import columns_of
 from tcpsim.sweeps.files import csv_text, has_rows, is_answered, journal_of, rows_there
+from tcpsim.sweeps.look import Look, look_of, panel_count
 from tcpsim.sweeps.means import Averaged, averaged, pair_of, pairs, titles
 from tcpsim.sweeps.pattern import WHERE, Pattern, settings_of
 from tcpsim.sweeps.pool import Rows, Runner, here, run_all
 from tcpsim.sweeps.rows import AskedOfRun, Grid, digest_of, format_of, version_of
-from tcpsim.sweeps.shown import along, mean_table, table
+from tcpsim.sweeps.shown import mean_table, table
 from tcpsim.whole_trace import IMAGE_BEGINS, ProgramFailed, inputs_of, scenario_bytes, scenario_text
 
 if TYPE_CHECKING:
     from matplotlib.figure import Figure
 
-MOST_PANELS = 12
+MOST_PANELS = 36
 FIELDS = ('FIELD is of a link queue, rate, delay, lose; of a flow mss, segments, start, rwnd, delack, variant, iw. '
           'a+b.FIELD sets both, *.FIELD all links or all flows; end=TIME sets the end. A VALUE can be a range, A..B/STEP.')
 
@@ -48,6 +49,11 @@ def command_line() -> Words:
     words.add_argument('--link', metavar='LINK', help='whose figures are told: else the first that is set, else the busiest')
     add_common(words, 'CSV on standard output too, in the place of the table', 'a picture (.svg, .png, .pdf): wait against utilization, or '
                'the second that is shown against the first')
+    words.add_argument('--x', metavar='NAME.FIELD', help='in the picture, the values of this --set are across')
+    words.add_argument('--log', metavar='AXES', help='in the picture, x, y or xy go by powers of ten')
+    words.add_argument('--share', action='store_true', help='in the picture, the same axes in each panel')
+    words.add_argument('--size', metavar='MM', help='of the picture, as 85mm or 180x120mm, with letters of 7 points')
+    words.add_argument('--kind', metavar='KIND', help='what the picture has of replicates: mean, cdf or box')
     words.add_argument('--print', metavar='DIR', dest='print', help='write scenarios and a list of jobs, run nothing')
     words.add_argument('--gather', metavar='DIR', help='the rows of the jobs of --print')
     words.add_argument('--expect', help=argparse.SUPPRESS)      # the version that the program has to be of: jobs say it
@@ -135,6 +141,8 @@ def check_common(given: argparse.Namespace) -> None:
         raise Wrong('--folder is of --on slurm and --on parallel, as --on slurm --folder jobs.d')
     if given.jobs is not None and not 1 <= given.jobs <= 1_024:
         raise Wrong(f'-j {given.jobs} is out of range: from 1 to 1,024')
+    if any(vars(given).get(word) for word in ('x', 'log', 'share', 'size', 'kind')) and not given.plot:
+        raise Wrong('--x, --log, --share, --size and --kind are of --plot: name a picture')
     if given.plot and not given.plot.endswith(('.svg', '.png', '.pdf')):
         raise Wrong(f'--plot {given.plot}: the name ends with .svg, .png or .pdf')
 
@@ -267,19 +275,23 @@ def show_and_draw(show: Callable[[], None], draw: Callable[[], Figure] | None, p
         raise closed
 
 
-def check_panels(grid: Grid) -> None:
-    """Refuses a picture with too many panels."""
-    panels = len(grid.points) // grid.replicates // len(grid.chosen[along(grid.chosen)].values) if grid.chosen else 1
+def check_look(grid: Grid, look: Look) -> None:
+    """Refuses a picture with too many panels, or whose words do not fit the sweep."""
+    look.place_of_x(grid.chosen)
+    if look.kind != 'mean' and not grid.over:
+        raise Wrong(f'--kind {look.kind} draws replicates: give some by --over')
+    panels = panel_count(grid.chosen, look)
     if panels > MOST_PANELS:
         raise Wrong(f'--plot would have {panels} panels, and {MOST_PANELS} is the most: leave values out, or average over them by --over')
 
 
 def drawing_of(grid: Grid, given: argparse.Namespace, inputs: list[str]) -> Callable:
     """What draws a sweep, where the picture can be drawn."""
-    check_panels(grid)
+    look = look_of(given.x, given.log, given.share, given.size, given.kind)
     check_plot(given, inputs)
+    check_look(grid, look)
     from tcpsim.plot.sweep import draw
-    return draw
+    return lambda grid, rows: draw(grid, rows, look)
 
 
 def check_plot(given: argparse.Namespace, inputs: list[str]) -> None:

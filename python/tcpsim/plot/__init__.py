@@ -5,7 +5,7 @@ Wants matplotlib, and leaves pyplot and its backend, which are the caller's, as 
 `choice` reads the words and picks what is shown, `clock` is the axis of time, `points` thins curves out. `flow_panels`,
 `timers` and `link_panels` draw the panels; `spans` has the bands and timeouts, `losses` the signs that several of them have.
 `broken` finds how high the axis of windows goes, `labels` finds where names stand, `layout` puts all together, `slide` draws
-one panel for a lecture, `drawn` says what a picture shows, `files` writes it, `sweep` draws a sweep, and
+one panel for a lecture, `drawn` says what a picture shows, `files` writes it, `sweep` draws a sweep, `search` a search, and
 `bars` where the time of flows went.
 """
 from __future__ import annotations

@@ -28,7 +28,7 @@ def content_of(figure: Figure, path: str) -> bytes:
     content, wide = io.BytesIO(), figure.get_size_inches()[0]
     if ending == '.svg':
         plain['Description'] = '\n'.join(drawn(figure))
-    with matplotlib.rc_context({'svg.hashsalt': 'tcpsim'}):
+    with matplotlib.rc_context({'svg.hashsalt': 'tcpsim', 'pdf.fonttype': 42}):       # letters as TrueType, embedded
         figure.savefig(content, format=ending[1:], dpi=WIDTH.get(wide, 100 * wide) / wide, metadata=plain)
     content = content.getvalue()
     if ending == '.svg':
