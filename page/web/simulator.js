@@ -29,7 +29,7 @@ class Simulator {
     this.examples = dataOf('examples');
     this.lessons = new Lessons(byId('lesson'), dataOf('lessons'), name => this.openExample(name), event => this.goFromLesson(event));
     this.editor = new Editor(byId('editor'), dataOf('grammar'), null);
-    this.editor.changed = origin => { this.note(); if (this.explored && /^(undo|redo)$/.test(origin)) this.explore().then(() => this.rest()); };
+    this.editor.changed = origin => { this.markOld(); this.note(); if (this.explored && /^(undo|redo)$/.test(origin)) this.explore().then(() => this.rest()); };
     this.drag = new Drag(byId('editor'), this.editor.box, dataOf('templates').ranges, said => this.explore(said), () => this.rest());
     this.title = 'scenario';
     this.typed = [];                    // at the debugger's prompt
@@ -221,6 +221,8 @@ class Simulator {
     if (this.run === mine) this.showRun(record, title);
   }
 
+  // Says above the net if it is of another text than the editor's.
+  markOld() { byId('run-side').classList.toggle('old', !!this.page && this.run.text !== this.editor.text); }
   // Whether the text is a lesson's or an example's, as it was.
   get isPlain() { return this.examples[this.title] === this.editor.text; }
   // Runs the scenario: its trace, and its figures beside it. Where it `plays`, the net moves from its first event on.
@@ -232,7 +234,7 @@ class Simulator {
     const mine = this.run = {text, title, begun: performance.now()};
     const wanted = () => this.run === mine;
     this.enable(true);
-    this.say(trace ? 'running' : 'counting');
+    this.say(byId('nothing').textContent = trace ? 'running' : 'counting');
     const figures = this.countFigures(input, mine);
     const said = trace ? await this.keepTrace(input, mine, most, wanted) : '';
     if (!wanted()) return;
@@ -241,7 +243,7 @@ class Simulator {
     const counted = await figures;
     if (!wanted()) return;
     this.enable(false);
-    if (counted.why || counted.status) this.say(said || this.reason(counted));
+    if (counted.why || counted.status) this.say(byId('nothing').textContent = said || this.reason(counted));
     else this.say(said || `done in ${((performance.now() - mine.begun) / 1000).toFixed(2)} s`);
     document.documentElement.dataset.run = +(document.documentElement.dataset.run || 0) + 1;
   }
@@ -367,7 +369,7 @@ class Simulator {
     }
     if (this.exploring !== mine) return;        // another scenario was opened, or is run
     const run = this.run = {text, title, begun: mine.begun, csv: await new Blob(parts).text(), record: this.isLong || read.why || read.status ? null : record};
-    if (run.record) this.replaceRun(run.record);
+    if (run.record) { this.replaceRun(run.record); this.markOld(); }
     this.drawFigures(run);
     byId('save-figures').disabled = false;
     this.say(`${this.explored}${this.isLong ? ': figures alone, until the hand rests' : ''}`);
@@ -419,6 +421,7 @@ class Simulator {
     this.page = window.page = new Page(record, {told: () => this.note(), causes: 'the tab stalls says why', openTime: () => this.openTime()});
     this.showPanels();
     this.lecture.arrange();
+    this.markOld();
     this.showParts(record);
     // Where all stands below each other, the run is brought into view.
     if (document.documentElement.dataset.ready && isNarrow()) byId('run-side').scrollIntoView();
