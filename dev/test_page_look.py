@@ -171,9 +171,10 @@ def test_in_firefox_too(opened):
     browser.size(1280, 800)
 
 
-def test_focus_is_seen_everywhere(sized):
-    """Each stop of the Tab key has an outline of two pixels or more, within the window."""
-    browser = sized
+def test_focus_is_seen_everywhere(chromium):
+    """Each stop of the Tab key has an outline of two pixels or more. (A headless Firefox's window has no focus.)"""
+    browser = chromium
+    browser.size(1400, 900)
     choose(browser, 'lesson 10')
     run(browser)
     browser.value('document.activeElement.blur()')
