@@ -6,6 +6,8 @@ use Rattle.std.specs.Option.{option_map, unwrap_or}
 use Rattle.std.proofs.lemmas.Option.{slice_get-map, slice_get_within, slice_get-get_or, get_or_from_slice_get}
 use Rattle.sim_time.specs.declared.queue_kind.QueueKind.{QueueKind}
 use Rattle.sim_time.specs.declared.queue_kind.QueueKind.TheVariants.{DropTail as DropTailKind, Codel as CodelKind}
+use Rattle.packet_chain.specs.declared.packet.Kind.{Kind}
+use Rattle.packet_chain.specs.declared.packet.Kind.TheVariants.{Data, Ack}
 use Rattle.sim_time.specs.declared.variant.Iw.{Iw}
 use Rattle.sim_time.specs.declared.variant.Iw.TheVariants.{Iw3, Iw10}
 use Rattle.sim_time.specs.InitialWindow.{initial_window_of}
@@ -14,6 +16,7 @@ use Rattle.scenario_image.specs.declared.parts.LinkPart.{LinkPart}
 use Rattle.scenario_image.specs.declared.parts.NodeKind.TheVariants.{Sender, Receiver, Router}
 use Rattle.scenario_image.specs.declared.parts.ScenarioParts.{ScenarioParts}
 use Rattle.scenario_image.specs.Kinds.{HasFlowItsKinds}
+use Rattle.scenario_image.specs.Paths.{route_link}
 use Rattle.scenario_image.specs.Scenario.{IsScenario}
 use Rattle.scenario_image.specs.Settings.{sender_settings}
 use Rattle.scenario_image.proofs.Arrivals.{ends_have_one_flow}
@@ -26,16 +29,19 @@ use Rattle.aqm.specs.declared.queue.Queue.TheVariants.{DropTail, Codel}
 use Rattle.aqm.specs.Codel.{CodelState}
 use Rattle.aqm.specs.Queue.{fifo_of, waiting_in, initial_queue, emptied}
 use Rattle.node_core.specs.declared.role.Role.TheVariants.{Sends, Receives}
-use Rattle.node_core.specs.Initial.{leaving_links, initial_link, initial_links, initial_part, no_flow, sends, receives}
+use Rattle.node_core.specs.Initial.{leaving_links, initial_link, initial_links, initial_part, no_flow, sends, receives, exits_of}
 use Rattle.node_core.specs.Part.{LinkState, PartState, link_at, no_link}
 use Rattle.table_run.specs.State.{initial, part_at}
+use Rattle.table_run.specs.Flow.{path_of}
 use Rattle.table_run.specs.Sound.{afresh}
 use Rattle.table_run.proofs.Initial.{find_only, opened_part}
 use Rattle.table_run.proofs.Lists.{IsAt, all_here, all_numbered}
+use Rattle.table_run.proofs.Exits.{exit_by_table}
+use Rattle.table_run.proofs.Links.{exit_is}
 use Rattle.table_run.proofs.Moved.{node_there}
 use Rattle.table_run.proofs.RowLinks.{flow_limits}
 use Rattle.table_run.proofs.RunLaws.{sound_run}
-use Rattle.run_laws.specs.Setup.{first_window, FlowsBeginAfresh, FlowsStayAsStated, BeginsIdle, LinksBeginIdle, IsOfKind, IsLinkAsStated, LinksStayAsStated}
+use Rattle.run_laws.specs.Setup.{first_window, FlowsBeginAfresh, FlowsStayAsStated, BeginsIdle, LinksBeginIdle, IsOfKind, IsLinkAsStated, LinksStayAsStated, end_of, RoutersStayAsStated}
 
 pub flows_stay_as_stated : FlowsStayAsStated
 flows_stay_as_stated p n lines s is_scenario e number flow its =
@@ -203,3 +209,15 @@ links_stay_as_stated p n lines s is_scenario e node index within =
     let sound = (sound_run p n lines s is_scenario e).sound in
     let nodes : node < length p.nodes = subst (λ m. node < m) sound.nodes_are (node_there s node index within) in
     link_stated p node (part_at s node).links (sound.each_node node nodes).its_links index within
+
+-- routes
+same_end : (kind : Kind) (flow : FlowPart) → end_of kind flow ≡ (path_of kind flow).end
+same_end Data flow = refl
+same_end Ack flow = refl
+
+pub routers_stay_as_stated : RoutersStayAsStated
+routers_stay_as_stated p n lines s is_scenario e node next flow x router its route leaves =
+    let sound = (sound_run p n lines s is_scenario e).sound in
+    let nodes = slice_get_within p.nodes node Router router in
+    let (index, exit, within, number) = exit_is p node (part_at s node).links (sound.each_node node nodes).its_links (path_of x.kind flow).end next (ap (route_link p.routes node) (sym (same_end x.kind flow)) ∙ route) leaves in
+    record { table = map (exits_of p node) p.flows; role = sound.each_router node router; index = index; exit = exit_by_table p node x flow its ∙ exit; within = within; link = number }

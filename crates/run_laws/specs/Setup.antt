@@ -1,13 +1,19 @@
 -- What each run begins with, and what of its scenario stays.
-use Rattle.std.specs.Prelude.{◌≡◌, ℕ, ◌*◌, ◌<◌, min, max, nat_lt, if◌then◌else◌, false, [], length, None, Some}
+use Rattle.std.specs.Prelude.{◌≡◌, ℕ, ◌*◌, ◌<◌, min, max, nat_lt, if◌then◌else◌, false, List, [], length, None, Some}
 use Rattle.std.specs.List.{slice_get}
 use Rattle.sim_time.specs.declared.queue_kind.QueueKind.{QueueKind}
 use Rattle.sim_time.specs.declared.queue_kind.QueueKind.TheVariants.{DropTail as DropTailKind, Codel as CodelKind}
+use Rattle.packet_chain.specs.declared.packet.Packet.{Packet}
+use Rattle.packet_chain.specs.declared.packet.Kind.{Kind}
+use Rattle.packet_chain.specs.declared.packet.Kind.TheVariants.{Data, Ack}
 use Rattle.sim_time.specs.declared.variant.Iw.{Iw}
 use Rattle.sim_time.specs.declared.variant.Iw.TheVariants.{Iw3, Iw10}
 use Rattle.scenario_image.specs.declared.parts.FlowPart.{FlowPart}
 use Rattle.scenario_image.specs.declared.parts.LinkPart.{LinkPart}
 use Rattle.scenario_image.specs.declared.parts.ScenarioParts.{ScenarioParts}
+use Rattle.scenario_image.specs.declared.parts.NodeKind.TheVariants.{Router}
+use Rattle.scenario_image.specs.Kinds.{link_source}
+use Rattle.scenario_image.specs.Paths.{route_link}
 use Rattle.scenario_image.specs.Scenario.{IsScenario}
 use Rattle.reno_sender.specs.declared.fields.SenderFields.{SenderFields}
 use Rattle.reno_receiver.specs.Received.{ReceiverState, IsReceived}
@@ -16,8 +22,11 @@ use Rattle.aqm.specs.declared.queue.Queue.TheVariants.{DropTail, Codel}
 use Rattle.aqm.specs.Codel.{CodelState}
 use Rattle.aqm.specs.Queue.{fifo_of, waiting_in}
 use Rattle.port.specs.Port.{PortState}
+use Rattle.node_core.specs.declared.role.Role.TheVariants.{Routes}
+use Rattle.node_core.specs.declared.routes.FlowExits.{FlowExits}
+use Rattle.node_core.specs.RouteTable.{exit_for}
 use Rattle.node_core.specs.Part.{LinkState, link_at}
-use Rattle.table_run.specs.State.{initial, part_at}
+use Rattle.table_run.specs.State.{State, initial, part_at}
 use Rattle.run_laws.specs.Laws.{InEveryState, OfEachFlow}
 use Rattle.run_laws.specs.Links.{port_of_link}
 
@@ -91,3 +100,21 @@ pub record IsLinkAsStated (p : ScenarioParts) (node : ℕ) (link : LinkState) : 
 
 abbrev pub LinksStayAsStated : Type 0
 LinksStayAsStated = InEveryState (λ p _ s. (node index : ℕ) → index < length (part_at s node).links → IsLinkAsStated p node (link_at (part_at s node).links index))
+
+-- the node that a flow's packets of a kind go to
+abbrev pub end_of : Kind → FlowPart → ℕ
+end_of Data flow = flow.receiver
+end_of Ack flow = flow.sender
+
+-- a router's table leads a packet over the link of this number
+pub record LeadsOver (s : State) (node next : ℕ) (x : Packet) : Type 0 where
+  pub table : List FlowExits
+  pub role : (part_at s node).role ≡ Routes table
+  pub index : ℕ
+  pub exit : exit_for table x ≡ Some index
+  pub within : index < length (part_at s node).links
+  pub link : (port_of_link s node index).link ≡ next
+
+-- a router leads each packet of a flow over the link of its route for the end of the packet's path
+abbrev pub RoutersStayAsStated : Type 0
+RoutersStayAsStated = InEveryState (λ p _ s. (node next : ℕ) (flow : FlowPart) (x : Packet) → slice_get p.nodes node ≡ Some Router → slice_get p.flows x.flow ≡ Some flow → route_link p.routes node (end_of x.kind flow) ≡ Some next → link_source p.links next ≡ Some node → LeadsOver s node next x)

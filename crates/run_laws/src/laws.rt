@@ -6,7 +6,7 @@ ghost use Rattle.run_laws.specs.Forwarding.{SendersOfferSegments, RoutersForward
 ghost use Rattle.run_laws.specs.Timing.{LinksTakeTheirTime};
 ghost use Rattle.run_laws.specs.Marks.{TakesAcknowledgements, SendsAtDuplicates, MarksLosses, TimesSegments};
 ghost use Rattle.run_laws.specs.Waits.{WaitsFromOffer};
-ghost use Rattle.run_laws.specs.Setup.{FlowsBeginAfresh, FlowsStayAsStated, LinksBeginIdle, LinksStayAsStated};
+ghost use Rattle.run_laws.specs.Setup.{FlowsBeginAfresh, FlowsStayAsStated, LinksBeginIdle, LinksStayAsStated, RoutersStayAsStated};
 ghost use Rattle.run_laws.specs.Senders.{AtEachSender, FitsWindows, IsSilentOnceComplete, EndsAfterRto, GoesByTimeouts, TimesNoneResent, SendersOfferWhatTheySend, AnswersTimeouts, AnswersDuplicates, ThresholdStaysWithoutLoss, GrowsByReno, KeepsRecovery, FillsWindows, RestartsTimer, MeasuresRoundTrips};
 
 /// Each run begins with nothing sent and nothing received. Cwnd is the flow's initial window, of RFC 5681 section 3.1
@@ -31,6 +31,11 @@ pub fn links_begin_idle()
 /// queue is of the scenario's kind, with its capacity and CoDel's parameters.
 pub fn links_stay_as_stated()
     ensures { LinksStayAsStated }
+{}
+
+/// In every state of every run a router leads a flow's packets over the link of its route for the end of their path.
+pub fn routers_stay_as_stated()
+    ensures { RoutersStayAsStated }
 {}
 
 /// In every state of every run una <= nxt <= high <= the flow's bytes at each sender. Its receiver has what it knows to
