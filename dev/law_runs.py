@@ -371,13 +371,20 @@ def senders_offer_their_segments(e):
     return is_offered([e.Packet(e.flow, False, x, e.net.scenario.flows[e.flow].mss + 40) for x in e.sent], *e.ports[0])
 
 
+def exit_link(e):
+    """The link of a router's route for the packet that came."""
+    flow = e.net.scenario.flows[e.packet.flow]
+    return {(router, to): link for router, to, link in e.net.scenario.routes}[e.node, flow.sender if e.packet.is_ack else flow.receiver]
+
+
 @law
 def routers_forward_what_comes(e):
-    if not e.is_router or not e.source:
-        return True
-    flow = e.net.scenario.flows[e.packet.flow]
-    exit_link = {(router, to): link for router, to, link in e.net.scenario.routes}[e.node, flow.sender if e.packet.is_ack else flow.receiver]
-    return all(is_offered([e.packet] if it[0].number == exit_link else [], *it) for it in e.ports)
+    return not e.is_router or not e.source or all(is_offered([e.packet] if it[0].number == exit_link(e) else [], *it) for it in e.ports)
+
+
+@law
+def routers_stay_as_stated(e):
+    return not e.is_router or not e.source or all(new.offered == old.offered + (old.number == exit_link(e)) for old, new, _ in e.ports)
 
 
 def is_received(r, seq):
