@@ -11,7 +11,7 @@ use sim_time::Time;
 use trace_text::DumpPart;
 
 /// What is asked of a session.
-#[derive(Clone, Copy, Debug, PartialEq, Eq)]
+#[derive(Clone, Copy)]
 pub enum Command {
     /// So many events on.
     Step(u64),
@@ -30,7 +30,7 @@ pub enum Command {
 }
 
 /// What is asked of a session at a prompt.
-#[derive(Clone, Copy, Debug, PartialEq, Eq)]
+#[derive(Clone, Copy)]
 pub enum Typed {
     /// What a session whose lines are all there from the start is asked too.
     Plain(Command),
@@ -63,7 +63,7 @@ pub enum Typed {
 }
 
 /// What a line that is typed asks for.
-#[derive(Clone, Copy, Debug, PartialEq, Eq)]
+#[derive(Clone, Copy)]
 pub enum Request {
     /// A command to the debugger.
     Command(Typed),
@@ -72,7 +72,7 @@ pub enum Request {
 }
 
 /// The numbers of a scenario's nodes, links and flows are below these.
-#[derive(Clone, Copy, Debug, PartialEq, Eq)]
+#[derive(Clone, Copy)]
 pub struct Limits {
     /// How many nodes there are.
     pub nodes: u16,

@@ -14,7 +14,7 @@ use debugger::{LinkValue, Readable, ValueOf};
 pub(crate) const MOST_DISPLAYS: usize = 64;
 
 /// What can be displayed.
-#[derive(Clone, Copy, Debug, PartialEq, Eq)]
+#[derive(Clone, Copy, PartialEq, Eq)]
 pub enum DisplayItem {
     /// All values of the flow of this number.
     Flow(u16),
@@ -25,7 +25,7 @@ pub enum DisplayItem {
 }
 
 /// What is asked of the displays of a session.
-#[derive(Clone, Copy, Debug, PartialEq, Eq)]
+#[derive(Clone, Copy)]
 pub enum DisplayCommand {
     /// Nothing but to see them.
     All,

@@ -8,7 +8,7 @@ use crate::refusal::Refusal;
 use crate::signs::next_part;
 
 /// What is expected at a place behind `break`.
-#[derive(Clone, Copy, Debug, PartialEq, Eq)]
+#[derive(Clone, Copy)]
 pub enum Expected {
     /// A sort of condition.
     Sort,

@@ -7,7 +7,7 @@ use crate::command::Typed;
 use debugger::Debugger;
 
 /// How far a run is known to go.
-#[derive(Clone, Copy, Debug, PartialEq, Eq)]
+#[derive(Clone, Copy)]
 pub struct Extent {
     /// The greatest position that the session is known to have been at.
     pub upto: u64,
@@ -16,7 +16,7 @@ pub struct Extent {
 }
 
 /// What a session at a prompt keeps in mind from line to line.
-#[derive(Clone, Copy, Debug, PartialEq, Eq)]
+#[derive(Clone, Copy)]
 pub struct Memo {
     /// The last move that was asked for, which an empty line asks for again.
     pub last: Option<Typed>,

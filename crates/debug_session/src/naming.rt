@@ -12,7 +12,7 @@ use scenario_asm::NamedParts;
 use std::alloc::{AllocError, Global};
 
 /// A sort of the parts of a scenario that have names.
-#[derive(Clone, Copy, Debug, PartialEq, Eq)]
+#[derive(Clone, Copy)]
 pub enum PartSort {
     /// The nodes.
     Node,

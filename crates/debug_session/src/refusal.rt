@@ -1,7 +1,7 @@
 //! Why a command is refused.
 
 /// Why a command is refused: the first of these that holds. A refused command changes nothing.
-#[derive(Clone, Copy, Debug, PartialEq, Eq)]
+#[derive(Clone, Copy)]
 pub enum Refusal {
     /// No command or no sort of breakpoint has this name.
     B1,

@@ -2,7 +2,7 @@
 use sim_time::Time;
 
 /// How a move is told.
-#[derive(Clone, Copy, Debug, PartialEq, Eq)]
+#[derive(Clone, Copy)]
 pub struct Report {
     /// The position past which the breakpoint is told that stops the move, and its line too.
     pub bound: u64,

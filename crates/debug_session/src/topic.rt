@@ -9,7 +9,7 @@ use crate::name::{CommandName, begins, name_of};
 use std::alloc::AllocError;
 
 /// What help is told of.
-#[derive(Clone, Copy, Debug, PartialEq, Eq)]
+#[derive(Clone, Copy)]
 pub enum Topic {
     /// How a command is used.
     Command(CommandName),
