@@ -1,12 +1,13 @@
 -- What follows where a line that is typed was read.
-use Rattle.std.proofs.Common.{◌≡◌, [], List, ℕ, Option, Some, None, Ok, Err, refl, sym, subst}
+use Rattle.std.proofs.Common.{◌≡◌, [], List, ℕ, Bool, true, false, MatchBool, Option, Some, None, Ok, Err, refl, sym, subst}
 use Rattle.table_run.specs.State.{State}
 use Rattle.debug_session.specs.declared.command.Request.{Request}
 use Rattle.debug_session.specs.declared.command.Typed.{Typed}
 use Rattle.debug_session.specs.declared.naming.Naming.{Naming}
 use Rattle.debug_session.specs.declared.refusal.Refusal.{Refusal}
+use Rattle.debug_session.specs.declared.refusal.Refusal.TheVariants.{B2}
 use Rattle.debug_session.specs.Answers.{refusal_line}
-use Rattle.debug_session.specs.Prompt.{AtPrompt, ObeysAtPrompt, ObeysRequest, MovesAgain, FollowsTyped, AnswersTyped}
+use Rattle.debug_session.specs.Prompt.{AtPrompt, Rests, ObeysAtPrompt, ObeysRequest, MovesAgain, FollowsTyped, AnswersTyped, TypedAnswers, is_long, is_quit}
 use Rattle.debug_session.specs.TypedGrammar.{TypedReading, typed_reading}
 
 pub nothing_again : (naming : Naming) (start : State) (old : AtPrompt) (out : List ℕ) → old.memo.last ≡ None → out ≡ [] → MovesAgain naming start old.memo.last old old out
@@ -25,3 +26,17 @@ module _ (naming : Naming) (start : State) (line : List ℕ) (old new : AtPrompt
 pub is_refused : (naming : Naming) (start : State) (line : List ℕ) (old : AtPrompt) (out : List ℕ) (refusal : Refusal) → Some (Err refusal) ≡ typed_reading naming line → out ≡ refusal_line refusal
     → AnswersTyped naming start line old old out
 is_refused naming start line old out refusal read reported = subst (λ (r : Option TypedReading). FollowsTyped naming start r old old out) read (record { same = refl; reported = reported })
+
+module _ (naming : Naming) (start : State) (line : List ℕ) (old new : AtPrompt) (out : List ℕ) where
+  abbrev Short : Type 0
+  Short = MatchBool (is_quit line) (Rests old new out []) (AnswersTyped naming start line old new out)
+
+  -- a line that is too long is refused
+  pub long_refused : is_long line ≡ true → Rests old new out (refusal_line B2) → TypedAnswers naming start line old new out
+  long_refused long rests = subst (λ (b : Bool). MatchBool b (Rests old new out (refusal_line B2)) Short) (sym long) rests
+
+  -- any other that doesn't end the session is followed
+  pub short_followed : is_long line ≡ false → is_quit line ≡ false → AnswersTyped naming start line old new out → TypedAnswers naming start line old new out
+  short_followed short goes_on follows =
+      let here : Short = subst (λ (b : Bool). MatchBool b (Rests old new out []) (AnswersTyped naming start line old new out)) (sym goes_on) follows in
+      subst (λ (b : Bool). MatchBool b (Rests old new out (refusal_line B2)) Short) (sym short) here

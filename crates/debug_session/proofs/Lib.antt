@@ -15,4 +15,3 @@ pub mod Meanings
 pub mod Opened
 pub mod Displayed
 pub mod Showing
-pub mod Left

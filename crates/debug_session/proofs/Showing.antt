@@ -1,19 +1,16 @@
 -- What is displayed behind the answer to a move.
 use Rattle.std.proofs.Common.{◌≡◌, ◌∙◌, ◌⊎◌, ℕ, List, [], ◌++◌, ◌&&◌, Bool, true, false, not, MatchBool, Option, Some, None, if◌then◌else◌, inr, ⊎_elim, refl, sym, ap, subst, append-nil}
 use Rattle.std.proofs.lemmas.Bool.{false≢true}
-use Rattle.std.specs.Prelude.{MatchOption}
 use Rattle.table_run.specs.State.{State}
 use Rattle.net_machine.specs.Run.{Reached}
 use Rattle.debugger.specs.Debugging.{Debugging}
 use Rattle.debugger.specs.Reads.{read_left_in}
 use Rattle.debug_session.specs.declared.command.Command.TheVariants as plain
 use Rattle.debug_session.specs.declared.command.Typed.{Typed}
-use Rattle.debug_session.specs.declared.command.Typed.TheVariants.{Plain, Reverse, Goto, Moment, Part, Why, Stalls, Breaks, Delete, Lines, Where, Names, Help, HelpOn}
+use Rattle.debug_session.specs.declared.command.Typed.TheVariants.{Plain, Part, Why, Stalls, Breaks, Delete, Lines, Where, Names, Help, HelpOn}
 use Rattle.debug_session.specs.declared.display.DisplayItem.{DisplayItem}
 use Rattle.debug_session.specs.declared.naming.Naming.{Naming}
 use Rattle.debug_session.specs.declared.refusal.Refusal.TheVariants.{M}
-use Rattle.debug_session.specs.declared.window_move.TypedWindowMove.{TypedWindowMove}
-use Rattle.debug_session.specs.WindowMoves.{IsTyped}
 use Rattle.debug_session.specs.Answers.{SessionState, session_state, refusal_line}
 use Rattle.debug_session.specs.Displays.{displays_from}
 use Rattle.debug_session.specs.Prompt.{is_refusal, read_at, told_behind, ObeysShowing}
@@ -24,16 +21,10 @@ use Rattle.debug_session.specs.TypedMoves.{present_time}
 
 -- a move can be refused for want of memory
 move_refused : (asked : Typed) (old : SessionState) → is_move asked ≡ true → TypedCanBeRefused asked old
-move_refused (Plain (plain.Step count)) old moves = tt
-move_refused (Plain (plain.Back count)) old moves = tt
-move_refused (Plain (plain.Until time)) old moves = tt
-move_refused (Plain plain.Run) old moves = tt
+move_refused (Plain (plain.Go move)) old moves = tt
 move_refused (Plain plain.State) old moves = absurd (false≢true moves)
 move_refused (Plain (plain.SetBreak b)) old moves = absurd (false≢true moves)
 move_refused (Plain plain.Clear) old moves = absurd (false≢true moves)
-move_refused Reverse old moves = tt
-move_refused (Goto target) old moves = tt
-move_refused (Moment time) old moves = tt
 move_refused (Part part) old moves = absurd (false≢true moves)
 move_refused (Why flow) old moves = absurd (false≢true moves)
 move_refused Stalls old moves = absurd (false≢true moves)
@@ -153,12 +144,6 @@ move_shown_from naming displays asked old here between new before said out same 
     (subst (λ (d : Debugging). ObeysTyped naming d.start asked (session_state d) (session_state between) said) same obeys) shows
 
 -- what tells no display is obeyed alone
-pub obeyed_alone : (naming : Naming) (displays : List DisplayItem) (asked : Typed) (old new : Debugging) (r : Option TypedWindowMove) (out : List ℕ) → (displays ≡ []) ⊎ (is_move asked ≡ false)
-    → MatchOption r (ObeysTyped naming old.start asked (session_state old) (session_state new) out) (IsTyped asked old new)
-    → MatchOption r (ObeysShowing naming displays old.start asked (session_state old) (session_state new) out) (IsTyped asked old new)
-obeyed_alone naming displays asked old new None out bare obeys =
-    ⊎_elim
-    (λ (t : displays ≡ []). none_shown naming displays old.start asked (session_state old) (session_state new) out t obeys)
-    (λ (t : is_move asked ≡ false). not_moved naming displays old.start asked (session_state old) (session_state new) out t obeys)
-    bare
-obeyed_alone naming displays asked old new (Some left) out bare obeys = obeys
+pub obeyed_alone : (naming : Naming) (displays : List DisplayItem) (start : State) (asked : Typed) (old new : SessionState) (out : List ℕ) → (displays ≡ []) ⊎ (is_move asked ≡ false) → ObeysTyped naming start asked old new out → ObeysShowing naming displays start asked old new out
+obeyed_alone naming displays start asked old new out bare obeys =
+    ⊎_elim (λ (t : displays ≡ []). none_shown naming displays start asked old new out t obeys) (λ (t : is_move asked ≡ false). not_moved naming displays start asked old new out t obeys) bare

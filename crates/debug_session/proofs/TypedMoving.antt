@@ -25,8 +25,8 @@ use Rattle.debug_session.specs.declared.naming.Naming.{Naming}
 use Rattle.debug_session.specs.declared.refusal.Refusal.TheVariants.{M}
 use Rattle.debug_session.specs.declared.report.Report.{Report}
 use Rattle.debug_session.specs.Answers.{SessionState, session_state, Stays, refusal_line}
-use Rattle.debug_session.specs.Reported.{GoesBack, CanBeUndone, ReportedPast, ReportedMove, AddsPlace, AddsMove, passed_count, reported_hit, reported_origin, shown_stretch}
-use Rattle.debug_session.specs.TypedMoves.{lowest, passed, more_line, last_ten, passed_lines, last_time, place_line, where_line, origin_text, origin_line, hit_line, onwards, next_text, known_line, where_text, TellsPast, MovesPast}
+use Rattle.debug_session.specs.Reported.{GoesBack, CanBeUndone, ReportedPast, AddsPlace, AddsMove, passed_count, reported_hit, reported_origin, shown_stretch}
+use Rattle.debug_session.specs.TypedMoves.{lowest, passed, more_line, last_ten, passed_lines, last_time, place_line, where_line, origin_text, origin_line, hit_line, next_text, known_line, where_text, TellsPast, MovesPast}
 use Rattle.debug_session.proofs.Moved.{left_of, start_of, breaks_of}
 
 -- where the lines of a move backwards begin
@@ -197,10 +197,6 @@ pub record GonePast (naming : Naming) (report : Report) (goes : ℕ → Type 0) 
   pub went : WentPast naming old.start report goes (session_state old) (session_state new) out
   pub left : CanBeUndone old new out
 
--- so a move that a breakpoint stops forwards alone
-abbrev pub GoneOn : Naming → (ℕ → Type 0) → Debugging → Debugging → List ℕ → Type 0
-GoneOn naming goes old new out = GonePast naming (onwards old.shown.position) goes old new out
-
 -- where a move began the run has a position
 pub has_from : (old between : Debugging) (moved : Result ℕ MoveFault) (m : ℕ) → m ≡ old.shown.position → Passes old.start old.shown → IfOk moved (HasMoved old between) → OnErr moved (between ≡ old) → HasPosition between.start m
 has_from old between (Ok p) m is here has err = subst (λ (s : State). HasPosition s m) (sym (start_of old between p has)) (subst (HasPosition old.start) (sym is) (old.shown.state, here))
@@ -245,11 +241,6 @@ gone_past naming report goes old between new m w (Ok p) out is report_is has the
 gone_past naming report goes old between new m w (Err fault) out is report_is has there err reported refused =
     let same = refused.0 ∙ err in
     record { start = ap (λ (d : Debugging). d.start) same; went = inr (tt, record { same = ap session_state same; reported = refused.1 }); left = inl refused.1 }
-
-pub gone_on : (naming : Naming) (goes : ℕ → Type 0) (old between new : Debugging) (m : ℕ) (moved : Result ℕ MoveFault) (out : List ℕ) → m ≡ old.shown.position
-    → IfOk moved (HasMoved old between) → IfOk moved goes → OnErr moved (between ≡ old)
-    → IfOk moved (λ _. ReportedMove naming m between new out) → OnErr moved ((new ≡ between) × (out ≡ refusal_line M)) → GoneOn naming goes old new out
-gone_on naming goes old between new m moved out is has there err reported refused = gone_past naming (onwards old.shown.position) goes old between new m (onwards m) moved out is (ap onwards is) has there err reported refused
 
 -- `where`: behind the place, where no breakpoint is told, the next event and how far the run is known to go
 pub where_reported : (naming : Naming) (start : State) (at : SessionState) (known : Extent) (out made all : List ℕ) → AddsPlace naming start at.shown.position at out made → all ≡ made ++ (next_text start at.shown ++ known_line known) → all ≡ out ++ where_text start at.shown known

@@ -5,11 +5,13 @@ use Rattle.net_machine.specs.Run.{Reached}
 use Rattle.trace_text.specs.Words.{line_of_words}
 use Rattle.trace_text.specs.Dump.{dump_bytes}
 use Rattle.debugger.specs.declared.breaks.Break.{Break}
-use Rattle.debugger.specs.Moves.{Passes, StepGoesTo, RunGoesTo, UntilGoesTo}
+use Rattle.debugger.specs.Moves.{Passes, StepGoesTo, RunGoesTo, ReverseGoesTo, UntilGoesTo}
 use Rattle.debugger.specs.Debugging.{Debugging}
 use Rattle.debug_session.specs.declared.command.Command.{Command}
-use Rattle.debug_session.specs.declared.command.Command.TheVariants.{Step, Back, Until, Run, State, SetBreak, Clear}
+use Rattle.debug_session.specs.declared.command.Command.TheVariants.{Go, State, SetBreak, Clear}
 use Rattle.debug_session.specs.declared.command.Limits.{Limits}
+use Rattle.debug_session.specs.declared.command.Move.{Move}
+use Rattle.debug_session.specs.declared.command.Move.TheVariants.{Step, Back, Run, Reverse, Until, Goto, Moment}
 use Rattle.debug_session.specs.declared.refusal.Refusal.{Refusal}
 use Rattle.debug_session.specs.declared.refusal.Refusal.TheVariants.{B1, B2, B3, B4, B5, M}
 use Rattle.debug_session.specs.Grammar.{Reading, reading}
@@ -49,6 +51,16 @@ pub record Stays (old new : SessionState) (out said : List ℕ) : Type 0 where
   pub same : new ≡ old
   pub reported : out ≡ said
 
+-- where a move goes, from where a session stands: `goto` where `step` goes from the beginning, or `until`
+abbrev pub GoesTo : Move → NetState → SessionState → ℕ → Type 0
+GoesTo (Step count) start at = StepGoesTo start at.shown.position count
+GoesTo (Back count) start at = λ p. p ≡ at.shown.position - count
+GoesTo Run start at = RunGoesTo start at.breaks at.shown.position
+GoesTo Reverse start at = ReverseGoesTo start at.breaks at.shown.position
+GoesTo (Until time) start at = UntilGoesTo start time at.shown.position
+GoesTo (Goto target) start at = StepGoesTo start 0 target
+GoesTo (Moment time) start at = UntilGoesTo start time 0
+
 -- the state at a position that the move goes to is shown, and its dump is answered
 pub record Shows (start : NetState) (goes : ℕ → Type 0) (old new : SessionState) (out : List ℕ) : Type 0 where
   pub at : goes new.shown.position
@@ -77,10 +89,7 @@ pub record Clears (old new : SessionState) (out : List ℕ) : Type 0 where
 
 -- a command is done
 abbrev pub Does : NetState → Command → SessionState → SessionState → List ℕ → Type 0
-Does start (Step count) old new out = Shows start (StepGoesTo start old.shown.position count) old new out
-Does start (Back count) old new out = Shows start (λ p. p ≡ old.shown.position - count) old new out
-Does start (Until time) old new out = Shows start (UntilGoesTo start time old.shown.position) old new out
-Does start Run old new out = Shows start (RunGoesTo start old.breaks old.shown.position) old new out
+Does start (Go move) old new out = Shows start (GoesTo move start old) old new out
 Does start State old new out = Shows start (λ p. p ≡ old.shown.position) old new out
 Does start (SetBreak b) old new out = Sets b old new out
 Does start Clear old new out = Clears old new out
@@ -89,10 +98,7 @@ Does start Clear old new out = Clears old new out
 abbrev pub CanBeRefused : Command → SessionState → Type 0
 CanBeRefused (SetBreak b) old = ¬ Contains old.breaks b × (length old.breaks < 64)
 CanBeRefused Clear old = ⊥
-CanBeRefused (Step count) old = Unit {0}
-CanBeRefused (Back count) old = Unit {0}
-CanBeRefused (Until time) old = Unit {0}
-CanBeRefused Run old = Unit {0}
+CanBeRefused (Go move) old = Unit {0}
 CanBeRefused State old = Unit {0}
 
 -- a command is done, or refused for want of memory or of workers

@@ -8,8 +8,9 @@ use Rattle.debugger.specs.declared.breaks.Condition.{Condition}
 use Rattle.debugger.specs.declared.breaks.Condition.TheVariants.{Node, Flow, Kind, Drop}
 use Rattle.debugger.specs.Breaks.{asking, asks_nothing}
 use Rattle.debug_session.specs.declared.command.Command.{Command}
-use Rattle.debug_session.specs.declared.command.Command.TheVariants.{Step, Back, Until, Run, State, SetBreak, Clear}
+use Rattle.debug_session.specs.declared.command.Command.TheVariants.{Go, State, SetBreak, Clear}
 use Rattle.debug_session.specs.declared.command.Limits.{Limits}
+use Rattle.debug_session.specs.declared.command.Move.TheVariants.{Step, Back, Run, Until}
 use Rattle.debug_session.specs.declared.refusal.Refusal.{Refusal}
 use Rattle.debug_session.specs.declared.refusal.Refusal.TheVariants.{B1, B2, B3}
 use Rattle.debug_session.specs.Input.{words_in}
@@ -83,10 +84,10 @@ breakpoint limits (sort ∷ words) =
 -- a command by its name and the words behind it
 abbrev pub command_named : Limits → Word → List Word → Reading
 command_named limits name words =
-    if bytes_eq name (codes "step") then amount Step words
-    else (if bytes_eq name (codes "back") then amount Back words
-    else (if bytes_eq name (codes "until") then amount Until words
-    else (if bytes_eq name (codes "run") then no_word_left Run words
+    if bytes_eq name (codes "step") then amount (λ n. Go (Step n)) words
+    else (if bytes_eq name (codes "back") then amount (λ n. Go (Back n)) words
+    else (if bytes_eq name (codes "until") then amount (λ n. Go (Until n)) words
+    else (if bytes_eq name (codes "run") then no_word_left (Go Run) words
     else (if bytes_eq name (codes "state") then no_word_left State words
     else (if bytes_eq name (codes "break") then breakpoint limits words
     else (if bytes_eq name (codes "clear") then no_word_left Clear words

@@ -25,4 +25,3 @@ pub mod Help
 pub mod TypedMoves
 pub mod TypedAnswers
 pub mod Prompt
-pub mod WindowMoves

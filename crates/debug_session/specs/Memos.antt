@@ -2,7 +2,7 @@
 use Rattle.std.specs.Prelude.{max, false, ◌||◌, is_none, None}
 use Rattle.table_run.specs.State.{due}
 use Rattle.debug_session.specs.declared.command.Typed.{Typed}
-use Rattle.debug_session.specs.declared.command.Typed.TheVariants.{Plain, Reverse, Goto, Moment, Part, Why, Stalls, Breaks, Delete, Lines, Where, Names, Help, HelpOn}
+use Rattle.debug_session.specs.declared.command.Typed.TheVariants.{Where}
 use Rattle.debug_session.specs.declared.memo.Extent.{Extent}
 use Rattle.debug_session.specs.declared.memo.Memo.{Memo}
 use Rattle.debug_session.specs.Answers.{SessionState}
@@ -21,17 +21,5 @@ no_memo = record { last = None; known = nothing_known }
 
 -- `where` is asked with what is known
 abbrev pub knowing : Extent → Typed → Typed
-knowing known (Plain asked) = Plain asked
-knowing known Reverse = Reverse
-knowing known (Goto target) = Goto target
-knowing known (Moment time) = Moment time
-knowing known (Part part) = Part part
-knowing known (Why flow) = Why flow
-knowing known Stalls = Stalls
-knowing known Breaks = Breaks
-knowing known (Delete i) = Delete i
-knowing known (Lines count) = Lines count
 knowing known (Where before) = Where known
-knowing known Names = Names
-knowing known Help = Help
-knowing known (HelpOn topic) = HelpOn topic
+knowing known asked = asked

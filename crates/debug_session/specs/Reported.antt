@@ -12,7 +12,7 @@ use Rattle.debug_session.specs.declared.naming.Naming.{Naming}
 use Rattle.debug_session.specs.declared.refusal.Refusal.TheVariants.{M}
 use Rattle.debug_session.specs.declared.report.Report.{Report}
 use Rattle.debug_session.specs.Answers.{SessionState, session_state, refusal_line}
-use Rattle.debug_session.specs.TypedMoves.{origin_text, where_line, onwards, TellsMatch, TellsPast}
+use Rattle.debug_session.specs.TypedMoves.{origin_text, where_line, TellsMatch, TellsPast}
 
 -- the state that the last move left is shown again
 abbrev pub GoesBack : Debugging → Debugging → Type 0
@@ -29,10 +29,6 @@ Reported old new out = ((new ≡ old) × (out ≡ dump_bytes old.shown)) ⊎ (Go
 -- a move from a position is told with a breakpoint past a bound, or that memory was refused, and then it is undone
 abbrev pub ReportedPast : Naming → ℕ → Report → Debugging → Debugging → List ℕ → Type 0
 ReportedPast naming m report old new out = ((new ≡ old) × TellsPast naming old.start m report (session_state old) out) ⊎ (GoesBack old new × (out ≡ refusal_line M))
-
--- and so one that a breakpoint stops forwards alone
-abbrev pub ReportedMove : Naming → ℕ → Debugging → Debugging → List ℕ → Type 0
-ReportedMove naming m old new out = ReportedPast naming m (onwards m) old new out
 
 -- past a bound where the last line comes from, where a session stands after a move, and past that bound which breakpoint stopped it, behind other bytes
 abbrev pub AddsPlace : Naming → NetState → ℕ → SessionState → List ℕ → List ℕ → Type 0

@@ -5,18 +5,17 @@ use Rattle.trace_text.specs.DumpParts.{part_bytes}
 use Rattle.debug_session.specs.Missing.{why_text}
 use Rattle.debugger.specs.declared.breaks.Break.{Break}
 use Rattle.debugger.specs.Breaks.{IsTakenOut}
-use Rattle.debugger.specs.Moves.{StepGoesTo, RunGoesTo, ReverseGoesTo, UntilGoesTo}
-use Rattle.debug_session.specs.declared.command.Command.TheVariants.{Step, Back, Until, Run, State, SetBreak, Clear}
+use Rattle.debug_session.specs.declared.command.Command.TheVariants.{Go, State, SetBreak, Clear}
 use Rattle.debug_session.specs.declared.command.Typed.{Typed}
-use Rattle.debug_session.specs.declared.command.Typed.TheVariants.{Plain, Reverse, Goto, Moment, Part, Why, Stalls, Breaks, Delete, Lines, Where, Names, Help, HelpOn}
+use Rattle.debug_session.specs.declared.command.Typed.TheVariants.{Plain, Part, Why, Stalls, Breaks, Delete, Lines, Where, Names, Help, HelpOn}
 use Rattle.debug_session.specs.declared.naming.Naming.{Naming}
 use Rattle.debug_session.specs.declared.refusal.Refusal.TheVariants.{B4, B5, M}
-use Rattle.debug_session.specs.Answers.{SessionState, Stays, Does, CanBeRefused, refusal_line}
+use Rattle.debug_session.specs.Answers.{SessionState, GoesTo, Stays, Does, CanBeRefused, refusal_line}
 use Rattle.debug_session.specs.Help.{help_text, help_on}
 use Rattle.debug_session.specs.NamesReported.{names_text}
 use Rattle.debug_session.specs.StallLists.{TellsStalls}
 use Rattle.debug_session.specs.Numbered.{IsNumber, HasNumber, set_line, deleted_line, listing}
-use Rattle.debug_session.specs.TypedMoves.{MovesPast, Moves, back_to_break, until_report, last_lines, where_text}
+use Rattle.debug_session.specs.TypedMoves.{MovesPast, report_of, last_lines, where_text}
 
 -- a breakpoint that is not set yet joins the others, as the last of them
 pub record JoinsLast (naming : Naming) (b : Break) (old new : SessionState) (out : List ℕ) : Type 0 where
@@ -44,18 +43,12 @@ pub record TakesAway (naming : Naming) (i : ℕ) (old new : SessionState) (out :
 abbrev pub Deletes : Naming → ℕ → SessionState → SessionState → List ℕ → Type 0
 Deletes naming i old new out = TakesAway naming i old new out ⊎ (¬ HasNumber old.breaks i × Stays old new out (refusal_line B5))
 
--- a command is done, where the nodes, links and flows are called so: moves go where they go in a session whose lines are all there, `goto` where `step` goes from the beginning, or `until`, and `state` and `clear` are answered as there
+-- a command is done, where the nodes, links and flows are called so: moves go where they go in a session whose lines are all there, and `state` and `clear` are answered as there
 abbrev pub DoesTyped : Naming → NetState → Typed → SessionState → SessionState → List ℕ → Type 0
-DoesTyped naming start (Plain (Step count)) old new out = Moves naming start (StepGoesTo start old.shown.position count) old new out
-DoesTyped naming start (Plain (Back count)) old new out = Moves naming start (λ p. p ≡ old.shown.position - count) old new out
-DoesTyped naming start (Plain (Until time)) old new out = MovesPast naming start (until_report time old.shown.position) (UntilGoesTo start time old.shown.position) old new out
-DoesTyped naming start (Plain Run) old new out = Moves naming start (RunGoesTo start old.breaks old.shown.position) old new out
+DoesTyped naming start (Plain (Go move)) old new out = MovesPast naming start (report_of move old.shown.position) (GoesTo move start old) old new out
 DoesTyped naming start (Plain State) old new out = Does start State old new out
 DoesTyped naming start (Plain (SetBreak b)) old new out = SetsNumbered naming b old new out
 DoesTyped naming start (Plain Clear) old new out = Does start Clear old new out
-DoesTyped naming start Reverse old new out = MovesPast naming start back_to_break (ReverseGoesTo start old.breaks old.shown.position) old new out
-DoesTyped naming start (Goto target) old new out = Moves naming start (StepGoesTo start 0 target) old new out
-DoesTyped naming start (Moment time) old new out = Moves naming start (UntilGoesTo start time 0) old new out
 DoesTyped naming start (Part part) old new out = Stays old new out (part_bytes part old.shown)
 DoesTyped naming start (Why flow) old new out = Stays old new out (why_text naming.names flow start old.shown)
 DoesTyped naming start Stalls old new out = (new ≡ old) × TellsStalls naming.names.flows start out
@@ -71,19 +64,9 @@ DoesTyped naming start (HelpOn topic) old new out = Stays old new out (help_on t
 abbrev pub TypedCanBeRefused : Typed → SessionState → Type 0
 TypedCanBeRefused (Plain (SetBreak b)) old = Contains old.breaks b ⊎ (length old.breaks < 64)
 TypedCanBeRefused (Plain asked) old = CanBeRefused asked old
-TypedCanBeRefused Reverse old = Unit {0}
-TypedCanBeRefused (Goto target) old = Unit {0}
-TypedCanBeRefused (Moment time) old = Unit {0}
-TypedCanBeRefused (Part part) old = Unit {0}
-TypedCanBeRefused (Why flow) old = Unit {0}
-TypedCanBeRefused Stalls old = Unit {0}
 TypedCanBeRefused (Delete i) old = HasNumber old.breaks i
 TypedCanBeRefused Breaks old = 0 < length old.breaks
-TypedCanBeRefused (Lines count) old = Unit {0}
-TypedCanBeRefused (Where known) old = Unit {0}
-TypedCanBeRefused Names old = Unit {0}
-TypedCanBeRefused Help old = Unit {0}
-TypedCanBeRefused (HelpOn topic) old = Unit {0}
+TypedCanBeRefused asked old = Unit {0}
 
 -- a command is done, or refused for want of memory or of workers
 abbrev pub ObeysTyped : Naming → NetState → Typed → SessionState → SessionState → List ℕ → Type 0
@@ -91,26 +74,8 @@ ObeysTyped naming start asked old new out = DoesTyped naming start asked old new
 
 -- the last move, once a command was read
 abbrev pub last_after : Typed → Option Typed → Option Typed
-last_after (Plain (Step count)) last = Some (Plain (Step count))
-last_after (Plain (Back count)) last = Some (Plain (Back count))
-last_after (Plain (Until time)) last = Some (Plain (Until time))
-last_after (Plain Run) last = Some (Plain Run)
-last_after (Plain State) last = last
-last_after (Plain (SetBreak b)) last = last
-last_after (Plain Clear) last = last
-last_after Reverse last = Some Reverse
-last_after (Goto target) last = Some (Goto target)
-last_after (Moment time) last = Some (Moment time)
-last_after (Part part) last = last
-last_after (Why flow) last = last
-last_after Stalls last = last
-last_after Breaks last = last
-last_after (Delete i) last = last
-last_after (Lines count) last = last
-last_after (Where known) last = last
-last_after Names last = last
-last_after Help last = last
-last_after (HelpOn name) last = last
+last_after (Plain (Go move)) last = Some (Plain (Go move))
+last_after asked last = last
 
 -- a command is a move, which an empty line does again
 abbrev pub is_move : Typed → Bool

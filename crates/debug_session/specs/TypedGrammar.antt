@@ -4,11 +4,12 @@ use Rattle.std.specs.Str.{bytes_eq}
 use Rattle.scenario_asm.specs.Numbers.{is_numeral}
 use Rattle.trace_text.specs.declared.dump.DumpPart.{DumpPart}
 use Rattle.trace_text.specs.declared.dump.DumpPart.TheVariants as part
-use Rattle.debug_session.specs.declared.command.Command.TheVariants.{Step, Back, Until, Run, State, Clear}
+use Rattle.debug_session.specs.declared.command.Command.TheVariants.{Go, State, Clear}
+use Rattle.debug_session.specs.declared.command.Move.TheVariants.{Step, Back, Run, Reverse, Until, Goto, Moment}
 use Rattle.debug_session.specs.declared.command.Request.{Request}
 use Rattle.debug_session.specs.declared.command.Request.TheVariants.{Command, Display}
 use Rattle.debug_session.specs.declared.command.Typed.{Typed}
-use Rattle.debug_session.specs.declared.command.Typed.TheVariants.{Plain, Reverse, Goto, Moment, Part, Why, Stalls, Breaks, Delete, Lines, Where, Names, Help, HelpOn}
+use Rattle.debug_session.specs.declared.command.Typed.TheVariants.{Plain, Part, Why, Stalls, Breaks, Delete, Lines, Where, Names, Help, HelpOn}
 use Rattle.debug_session.specs.declared.name.CommandName.{CommandName}
 use Rattle.debug_session.specs.declared.name.CommandName.TheVariants as name
 use Rattle.debug_session.specs.declared.naming.Naming.{Naming}
@@ -93,12 +94,12 @@ lists (Err refusal) = Err refusal
 
 -- of `goto`: the position
 abbrev pub goes_to : Option ℕ → TypedReading
-goes_to (Some target) = Ok (Command (Goto target))
+goes_to (Some target) = Ok (Command (Plain (Go (Goto target))))
 goes_to None = Err B3
 
 -- of `goto`: the moment
 abbrev pub goes_to_moment : Option ℕ → TypedReading
-goes_to_moment (Some time) = Ok (Command (Moment time))
+goes_to_moment (Some time) = Ok (Command (Plain (Go (Moment time))))
 goes_to_moment None = Err B3
 
 -- a numeral is a position, at most 10^15, and any other word a moment with a unit
@@ -133,13 +134,13 @@ on_displays (Err refusal) = Err refusal
 -- a command by its name and the words behind it: `quit` has none where it ends the session
 abbrev pub command_typed : Naming → Option CommandName → List Word → TypedReading
 command_typed naming None words = Err B1
-command_typed naming (Some name.Step) words = plain (with_number Step (number_or 1 1000000000000001 words))
-command_typed naming (Some name.Back) words = plain (with_number Back (number_or 1 1000000000000001 words))
+command_typed naming (Some name.Step) words = plain (with_number (λ n. Go (Step n)) (number_or 1 1000000000000001 words))
+command_typed naming (Some name.Back) words = plain (with_number (λ n. Go (Back n)) (number_or 1 1000000000000001 words))
 command_typed naming (Some name.Break) words = plain (break_asked naming (parts_in words))
 command_typed naming (Some name.Breaks) words = typed_alone Breaks words
-command_typed naming (Some name.Run) words = plain (no_word_left Run words)
-command_typed naming (Some name.Reverse) words = typed_alone Reverse words
-command_typed naming (Some name.Until) words = plain (with_number Until (one_moment words))
+command_typed naming (Some name.Run) words = plain (no_word_left (Go Run) words)
+command_typed naming (Some name.Reverse) words = plain (no_word_left (Go Reverse) words)
+command_typed naming (Some name.Until) words = plain (with_number (λ n. Go (Until n)) (one_moment words))
 command_typed naming (Some name.State) words = state_asked naming words
 command_typed naming (Some name.Lines) words = lists (number_or 10 1001 words)
 command_typed naming (Some name.Delete) words = deletes (one_break_number words)

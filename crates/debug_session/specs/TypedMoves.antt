@@ -12,6 +12,8 @@ use Rattle.debugger.specs.Breaks.{flow_of, IsFirstHit}
 use Rattle.debugger.specs.LastEvents.{freed_link}
 use Rattle.debugger.specs.Moves.{Passes, GivesAt}
 use Rattle.debugger.specs.Passed.{lines_between, texts_between}
+use Rattle.debug_session.specs.declared.command.Move.{Move}
+use Rattle.debug_session.specs.declared.command.Move.TheVariants.{Step, Back, Run, Reverse, Until, Goto, Moment}
 use Rattle.debug_session.specs.declared.memo.Extent.{Extent}
 use Rattle.debug_session.specs.declared.naming.Naming.{Naming}
 use Rattle.debug_session.specs.declared.report.Report.{Report}
@@ -123,8 +125,15 @@ until_report time m = record { bound = m; until = Some time }
 abbrev pub back_to_break : Report
 back_to_break = record { bound = 0; until = None }
 
-abbrev pub Moves : Naming → NetState → (ℕ → Type 0) → SessionState → SessionState → List ℕ → Type 0
-Moves naming start goes old new out = MovesPast naming start (onwards old.shown.position) goes old new out
+-- how a move from a position is told
+abbrev pub report_of : Move → ℕ → Report
+report_of (Step count) m = onwards m
+report_of (Back count) m = onwards m
+report_of Run m = onwards m
+report_of Reverse m = back_to_break
+report_of (Until time) m = until_report time m
+report_of (Goto target) m = onwards m
+report_of (Moment time) m = onwards m
 
 -- the line that the next event gives, where one is due
 abbrev pub next_text : NetState → Reached → List ℕ

@@ -10,17 +10,30 @@ use scenario_image::Scenario;
 use sim_time::Time;
 use trace_text::DumpPart;
 
-/// What is asked of a session.
+/// A move through the run.
 #[derive(Clone, Copy)]
-pub enum Command {
+pub enum Move {
     /// So many events on.
     Step(u64),
     /// So many events back.
     Back(u64),
-    /// On until all events before a moment are run, in nanoseconds.
-    Until(Time),
     /// On until a breakpoint matches.
     Run,
+    /// Back until a breakpoint matches.
+    Reverse,
+    /// On until all events before a moment are run, in nanoseconds.
+    Until(Time),
+    /// To this position.
+    Goto(u64),
+    /// To where all events before a moment are run, in nanoseconds.
+    Moment(Time),
+}
+
+/// What is asked of a session.
+#[derive(Clone, Copy)]
+pub enum Command {
+    /// A move.
+    Go(Move),
     /// Nothing but to see the state.
     State,
     /// To stop there too.
@@ -32,14 +45,8 @@ pub enum Command {
 /// What is asked of a session at a prompt.
 #[derive(Clone, Copy)]
 pub enum Typed {
-    /// What a session whose lines are all there from the start is asked too.
+    /// A move, or what a session whose lines are all there from the start is asked too.
     Plain(Command),
-    /// Back until a breakpoint matches.
-    Reverse,
-    /// To this position.
-    Goto(u64),
-    /// To where all events before a moment are run, in nanoseconds.
-    Moment(Time),
     /// Nothing but to see a part of the state.
     Part(DumpPart),
     /// Nothing but to see what a flow waits for.

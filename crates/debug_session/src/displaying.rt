@@ -1,70 +1,20 @@
 //! Displays that are set, taken away and shown.
-ghost use Rattle.std.specs.Prelude.{◌≡◌, ◌<◌, ◌≤◌, ◌⊎◌, ◌++◌, Contains, MatchBool, length};
-ghost use Rattle.debug_session.specs.Answers.{refusal_line};
-ghost use Rattle.debug_session.specs.Displays.{Reads, present_line, display_listing, ObeysDisplays};
+ghost use Rattle.std.specs.Prelude.{◌≡◌, ◌<◌, ◌≤◌, Contains, MatchBool, length};
+ghost use Rattle.debug_session.specs.Displays.{Reads, ObeysDisplays};
 ghost use Rattle.debug_session.specs.Numbered.{HasNumber};
 ghost use Rattle.debug_session.specs.Prompt.{at_prompt, ObeysDisplay};
-ghost use Rattle.debug_session.specs.Readouts.{present, ShowsBehind, TellsBehind};
+ghost use Rattle.debug_session.specs.Readouts.{present, ShowsBehind};
 
 use crate::dialogue::Dialogue;
 use crate::display::{DisplayCommand, DisplayItem, MOST_DISPLAYS, item_at, number_of_display};
 use crate::naming::Naming;
 use crate::numbered::has_number;
-use crate::readout::Readout;
 use crate::refusal::Refusal;
 use crate::said::Said;
 use crate::typed_move::present_time;
 use debugger::Debugger;
 use flow_waits::ScenarioNames;
 use sim_time::Time;
-
-/// Tells all displays, with the values that they have at a moment.
-#[tactic(none)]
-fn tell_displays(
-    debugger: &Debugger,
-    names: &ScenarioNames,
-    time: Time,
-    displays: &[DisplayItem],
-    said: &mut Said,
-)
-    ensures { (said.new ≡ display_listing names.now (present debugger.now time) displays.now) ⊎ (said.new ≡ refusal_line Refusal.M) }
-{
-    let readout = Readout {
-        debugger,
-        left: None,
-        time,
-    };
-    match said.say_displays(names, &readout, displays) {
-        Ok(()) => {}
-        Err(_) => said.say_refused(Refusal::M),
-    }
-}
-
-/// Tells the display of a number, with the values that it has at a moment. The answer is whether there was memory for it.
-#[tactic(none)]
-fn tell_display(
-    debugger: &Debugger,
-    names: &ScenarioNames,
-    time: Time,
-    number: u64,
-    item: DisplayItem,
-    said: &mut Said,
-) -> bool
-    ensures { MatchBool result (said.new ≡ present_line names.now (present debugger.now time) number item) (said.new ≡ refusal_line Refusal.M) }
-{
-    let readout = Readout {
-        debugger,
-        left: None,
-        time,
-    };
-    match said.say_display(names, &readout, number, item) {
-        Ok(()) => true,
-        Err(_) => {
-            said.say_refused(Refusal::M);
-            false
-        }
-    }
-}
 
 /// Displays something that is not displayed yet, where there is room for it.
 #[tactic(none)]
@@ -81,7 +31,7 @@ fn add_display(
     ensures { ObeysDisplays names.now (present debugger.now time) (DisplayCommand.Add item) displays.old.items displays.new.items said.new }
 {
     let number = displays.as_slice().len() as u64 + 1;
-    if tell_display(debugger, names, time, number, item, said) {
+    if said.say_display(debugger, names, time, number, item) {
         match displays.push(item) {
             Ok(()) => {}
             Err(_) => said.say_refused(Refusal::M),
@@ -111,7 +61,7 @@ fn set_display(
     let set = displays.as_slice();
     match number_of_display(set, item) {
         Some(number) => {
-            let _is_told = tell_display(debugger, names, time, number, item, said);
+            let _is_told = said.say_display(debugger, names, time, number, item);
         }
         None => {
             if has_room(set) {
@@ -170,7 +120,7 @@ fn change_displays(
 {
     match asked {
         DisplayCommand::All => {
-            tell_displays(debugger, names, time, displays.as_slice(), said);
+            said.say_displays(debugger, names, time, displays.as_slice());
         }
         DisplayCommand::Add(item) => set_display(debugger, names, time, item, displays, said),
         DisplayCommand::TakeAway(number) => undisplay(names, number, displays, said),
@@ -201,27 +151,6 @@ pub(crate) fn obey_display(
     }
 }
 
-/// Tells displays behind the answer to a move from a moment. The answer is whether they could be told.
-#[tactic(none)]
-fn tell_behind(
-    debugger: &mut Debugger,
-    names: &ScenarioNames,
-    displays: &[DisplayItem],
-    before: Time,
-    said: &mut Said,
-) -> bool
-    ensures told { MatchBool result (TellsBehind names.now displays.now before debugger.old said.old said.new) (said.new ≡ refusal_line Refusal.M) }
-    ensures same { debugger.new ≡ debugger.old }
-{
-    match said.say_behind(debugger, names, displays, before) {
-        Ok(()) => true,
-        Err(_) => {
-            said.say_refused(Refusal::M);
-            false
-        }
-    }
-}
-
 /// Tells displays behind the answer to a move from a moment. Where they cannot be told, the move is undone.
 #[tactic(none)]
 pub(crate) fn show_behind(
@@ -233,7 +162,7 @@ pub(crate) fn show_behind(
 )
     ensures { ShowsBehind names.now displays.now before debugger.old debugger.new said.old said.new }
 {
-    if !tell_behind(debugger, names, displays, before, said) {
+    if !said.say_behind(debugger, names, displays, before) {
         let _undone = debugger.undo_move();
     }
 }

@@ -7,7 +7,7 @@ ghost use Rattle.scenario_asm.specs.Numbers.{is_numeral, is_digit};
 ghost use Rattle.debug_session.specs.Input.{words_in};
 ghost use Rattle.debug_session.specs.Grammar.{number_below, one_number, no_word_left, kind_named, sets, one_kind, breakpoint, command_named, reading};
 
-use crate::command::{Command, Limits};
+use crate::command::{Command, Limits, Move};
 use crate::cut::next_word;
 use crate::refusal::Refusal;
 use debugger::{Break, Condition, EventKind};
@@ -175,13 +175,13 @@ fn command_named(limits: Limits, name: &[u8], rest: &[u8]) -> Result<Command, Re
     ensures { result ≡ command_named limits name.now (words_in rest.now) }
 {
     if is(name, b"step") {
-        Ok(Command::Step(one_number(rest, AMOUNTS)?))
+        Ok(Command::Go(Move::Step(one_number(rest, AMOUNTS)?)))
     } else if is(name, b"back") {
-        Ok(Command::Back(one_number(rest, AMOUNTS)?))
+        Ok(Command::Go(Move::Back(one_number(rest, AMOUNTS)?)))
     } else if is(name, b"until") {
-        Ok(Command::Until(one_number(rest, AMOUNTS)?))
+        Ok(Command::Go(Move::Until(one_number(rest, AMOUNTS)?)))
     } else if is(name, b"run") {
-        alone(Command::Run, rest)
+        alone(Command::Go(Move::Run), rest)
     } else if is(name, b"state") {
         alone(Command::State, rest)
     } else if is(name, b"break") {

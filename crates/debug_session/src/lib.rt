@@ -17,6 +17,7 @@ pub mod memo;
 pub mod misnamed;
 mod missing;
 mod moment;
+mod moves;
 pub mod name;
 mod names_reported;
 pub mod naming;
@@ -35,9 +36,8 @@ pub mod topic;
 mod typed_move;
 mod typed_reply;
 mod value_texts;
-mod window_move;
 
-pub use command::{Command, Limits, Request, Typed};
+pub use command::{Command, Limits, Move, Request, Typed};
 pub use dialogue::Dialogue;
 pub use display::{DisplayCommand, DisplayItem};
 pub use expected::{Expected, expected_in};

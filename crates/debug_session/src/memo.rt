@@ -64,18 +64,6 @@ pub(crate) fn knowing(known: Extent, asked: Typed) -> Typed
 {
     match asked {
         Typed::Where(_) => Typed::Where(known),
-        Typed::Plain(_)
-        | Typed::Reverse
-        | Typed::Goto(_)
-        | Typed::Moment(_)
-        | Typed::Part(_)
-        | Typed::Why(_)
-        | Typed::Stalls
-        | Typed::Breaks
-        | Typed::Delete(_)
-        | Typed::Lines(_)
-        | Typed::Names
-        | Typed::Help
-        | Typed::HelpOn(_) => asked,
+        _ => asked,
     }
 }

@@ -1,12 +1,10 @@
 //! Lines that are typed at a prompt.
-ghost use Rattle.std.specs.Prelude.{◌≡◌, ◌⊎◌, [], true, false, MatchBool, MatchOption};
+ghost use Rattle.std.specs.Prelude.{◌≡◌, ◌⊎◌, [], true, false, MatchBool};
 ghost use Rattle.debug_session.specs.Input.{words_in};
 ghost use Rattle.debug_session.specs.Prompt as prompt;
 ghost use Rattle.debug_session.specs.TypedAnswers as answers;
 ghost use Rattle.debug_session.specs.Answers.{session_state};
 ghost use Rattle.debug_session.specs.Readouts.{ShowsBehind};
-ghost use Rattle.debug_session.specs.Reported.{CanBeUndone};
-ghost use Rattle.debug_session.specs.WindowMoves.{IsTyped, IsTypedLeft, typed_of, report_of};
 
 use crate::command::{Command, Request, Typed};
 use crate::dialogue::Dialogue;
@@ -18,11 +16,9 @@ use crate::name::begins;
 use crate::naming::Naming;
 use crate::reading::read_typed;
 use crate::refusal::Refusal;
-use crate::report::Report;
 use crate::said::Said;
 use crate::typed_move::present_time;
-use crate::typed_reply::{obey_typed, onwards, show_past};
-use crate::window_move::{TypedWindowMove, WindowMove, go_typed};
+use crate::typed_reply::obey_typed;
 use debugger::Debugger;
 use flow_waits::ScenarioNames;
 use sim_time::Time;
@@ -67,26 +63,8 @@ fn last_after(asked: Typed, last: Option<Typed>) -> Option<Typed>
     ensures { result ≡ answers.last_after asked last }
 {
     match asked {
-        Typed::Plain(Command::Step(_)) => Some(asked),
-        Typed::Plain(Command::Back(_)) => Some(asked),
-        Typed::Plain(Command::Until(_)) => Some(asked),
-        Typed::Plain(Command::Run) => Some(asked),
-        Typed::Plain(Command::State) => last,
-        Typed::Plain(Command::SetBreak(_)) => last,
-        Typed::Plain(Command::Clear) => last,
-        Typed::Reverse => Some(asked),
-        Typed::Goto(_) => Some(asked),
-        Typed::Moment(_) => Some(asked),
-        Typed::Part(_) => last,
-        Typed::Why(_) => last,
-        Typed::Stalls => last,
-        Typed::Breaks => last,
-        Typed::Delete(_) => last,
-        Typed::Lines(_) => last,
-        Typed::Where(_) => last,
-        Typed::Names => last,
-        Typed::Help => last,
-        Typed::HelpOn(_) => last,
+        Typed::Plain(Command::Go(_)) => Some(asked),
+        _ => last,
     }
 }
 
@@ -124,31 +102,28 @@ fn show_displays(
     show_behind(debugger, names, displays, before, said);
 }
 
-/// Makes a move, but for one by windows, which is left, and tells displays behind its answer.
+/// Makes a move, and tells displays behind its answer.
 #[tactic(none)]
-fn move_showing(
+fn move_showing<H: Hands>(
+    hands: &H,
+    gate: &Gate,
     debugger: &mut Debugger,
     naming: &Naming,
     displays: &[DisplayItem],
     asked: Typed,
     said: &mut Said,
-) -> Option<TypedWindowMove>
-    requires { answers.is_move asked ≡ true }
-    ensures obeyed { MatchOption result (prompt.ObeysShowing naming.now displays.now debugger.old.start asked (session_state debugger.old) (session_state debugger.new) said.new) (IsTyped asked debugger.old debugger.new) }
+)
+    requires ready { H.ready hands.now }
+    requires moves { answers.is_move asked ≡ true }
+    ensures obeyed { prompt.ObeysShowing naming.now displays.now debugger.old.start asked (session_state debugger.old) (session_state debugger.new) said.new }
     ensures start { debugger.new.start ≡ debugger.old.start }
 {
     match present_time(debugger) {
-        Ok(before) => match obey_typed(debugger, naming, asked, said) {
-            None => {
-                show_displays(debugger, &naming.names, displays, before, said);
-                None
-            }
-            Some(left) => Some(left),
-        },
-        Err(_) => {
-            said.say_refused(Refusal::M);
-            None
+        Ok(before) => {
+            obey_typed(hands, gate, debugger, naming, asked, said);
+            show_displays(debugger, &naming.names, displays, before, said);
         }
+        Err(_) => said.say_refused(Refusal::M),
     }
 }
 
@@ -170,189 +145,112 @@ fn shows(displays: &[DisplayItem], asked: Typed) -> bool
     }
 }
 
-/// Does what is asked for, but for a move by windows, which is left, and tells displays behind a move.
+/// Does what is asked for, and tells displays behind a move.
 #[tactic(none)]
-fn obey_showing(
+fn obey_showing<H: Hands>(
+    hands: &H,
+    gate: &Gate,
     debugger: &mut Debugger,
     naming: &Naming,
     displays: &[DisplayItem],
     asked: Typed,
     said: &mut Said,
-) -> Option<TypedWindowMove>
-    ensures obeyed { MatchOption result (prompt.ObeysShowing naming.now displays.now debugger.old.start asked (session_state debugger.old) (session_state debugger.new) said.new) (IsTyped asked debugger.old debugger.new) }
+)
+    requires ready { H.ready hands.now }
+    ensures obeyed { prompt.ObeysShowing naming.now displays.now debugger.old.start asked (session_state debugger.old) (session_state debugger.new) said.new }
     ensures start { debugger.new.start ≡ debugger.old.start }
 {
     if shows(displays, asked) {
-        move_showing(debugger, naming, displays, asked, said)
+        move_showing(hands, gate, debugger, naming, displays, asked, said);
     } else {
-        obey_typed(debugger, naming, asked, said)
+        obey_typed(hands, gate, debugger, naming, asked, said);
     }
 }
 
-/// Does what is asked for, but for a move by windows, which is left. A move is the last one from
-/// then on.
+/// Does what is asked for. A move is the last one from then on.
 #[tactic(none)]
-fn obey_at_prompt(
+fn obey_at_prompt<H: Hands>(
+    hands: &H,
+    gate: &Gate,
     dialogue: &mut Dialogue,
     naming: &Naming,
     asked: Typed,
     said: &mut Said,
-) -> Option<TypedWindowMove>
-    ensures obeys { MatchOption result (prompt.ObeysAtPrompt naming.now dialogue.old.debugger.start asked (prompt.at_prompt dialogue.old) (prompt.at_prompt dialogue.new) said.new) (IsTypedLeft naming.now dialogue.old dialogue.new (prompt.ObeysAtPrompt naming.now dialogue.old.debugger.start asked (prompt.at_prompt dialogue.old))) }
+)
+    requires ready { H.ready hands.now }
+    ensures obeys { prompt.ObeysAtPrompt naming.now dialogue.old.debugger.start asked (prompt.at_prompt dialogue.old) (prompt.at_prompt dialogue.new) said.new }
     ensures start { dialogue.new.debugger.start ≡ dialogue.old.debugger.start }
 {
     dialogue.memo = memo_after(asked, dialogue);
     let known = dialogue.memo.known;
     obey_showing(
+        hands,
+        gate,
         &mut dialogue.debugger,
         naming,
         dialogue.displays.as_slice(),
         knowing(known, asked),
         said,
-    )
+    );
 }
 
-/// Does the last move again, where there was one; a move by windows is left.
+/// Does the last move again, where there was one.
 #[tactic(none)]
-fn move_again(dialogue: &mut Dialogue, naming: &Naming, said: &mut Said) -> Option<TypedWindowMove>
-    ensures moves { MatchOption result (prompt.MovesAgain naming.now dialogue.old.debugger.start dialogue.old.memo.last (prompt.at_prompt dialogue.old) (prompt.at_prompt dialogue.new) said.new) (IsTypedLeft naming.now dialogue.old dialogue.new (prompt.MovesAgain naming.now dialogue.old.debugger.start dialogue.old.memo.last (prompt.at_prompt dialogue.old))) }
+fn move_again<H: Hands>(
+    hands: &H,
+    gate: &Gate,
+    dialogue: &mut Dialogue,
+    naming: &Naming,
+    said: &mut Said,
+)
+    requires ready { H.ready hands.now }
+    ensures moves { prompt.MovesAgain naming.now dialogue.old.debugger.start dialogue.old.memo.last (prompt.at_prompt dialogue.old) (prompt.at_prompt dialogue.new) said.new }
     ensures start { dialogue.new.debugger.start ≡ dialogue.old.debugger.start }
 {
     match dialogue.memo.last {
-        None => {
-            said.clear();
-            None
-        }
-        Some(asked) => obey_at_prompt(dialogue, naming, asked, said),
+        None => said.clear(),
+        Some(asked) => obey_at_prompt(hands, gate, dialogue, naming, asked, said),
     }
 }
 
-/// Obeys what a line asks for, but for a move by windows, which is left.
+/// Obeys what a line asks for.
 #[tactic(none)]
-fn obey_request(
+fn obey_request<H: Hands>(
+    hands: &H,
+    gate: &Gate,
     dialogue: &mut Dialogue,
     naming: &Naming,
     asked: Request,
     said: &mut Said,
-) -> Option<TypedWindowMove>
-    ensures obeys { MatchOption result (prompt.ObeysRequest naming.now dialogue.old.debugger.start asked (prompt.at_prompt dialogue.old) (prompt.at_prompt dialogue.new) said.new) (IsTypedLeft naming.now dialogue.old dialogue.new (prompt.ObeysRequest naming.now dialogue.old.debugger.start asked (prompt.at_prompt dialogue.old))) }
+)
+    requires ready { H.ready hands.now }
+    ensures obeys { prompt.ObeysRequest naming.now dialogue.old.debugger.start asked (prompt.at_prompt dialogue.old) (prompt.at_prompt dialogue.new) said.new }
     ensures start { dialogue.new.debugger.start ≡ dialogue.old.debugger.start }
 {
     match asked {
-        Request::Command(asked) => obey_at_prompt(dialogue, naming, asked, said),
-        Request::Display(asked) => {
-            obey_display(dialogue, naming, asked, said);
-            None
-        }
+        Request::Command(asked) => obey_at_prompt(hands, gate, dialogue, naming, asked, said),
+        Request::Display(asked) => obey_display(dialogue, naming, asked, said),
     }
 }
 
-/// Follows what a line says, but for a move by windows, which is left.
+/// Follows what a line says.
 #[tactic(none)]
-fn follow_typed(
+fn follow_typed<H: Hands>(
+    hands: &H,
+    gate: &Gate,
     dialogue: &mut Dialogue,
     naming: &Naming,
     line: &[u8],
     said: &mut Said,
-) -> Option<TypedWindowMove>
-    ensures answers { MatchOption result (prompt.AnswersTyped naming.now dialogue.old.debugger.start line.now (prompt.at_prompt dialogue.old) (prompt.at_prompt dialogue.new) said.new) (IsTypedLeft naming.now dialogue.old dialogue.new (prompt.AnswersTyped naming.now dialogue.old.debugger.start line.now (prompt.at_prompt dialogue.old))) }
+)
+    requires ready { H.ready hands.now }
+    ensures answers { prompt.AnswersTyped naming.now dialogue.old.debugger.start line.now (prompt.at_prompt dialogue.old) (prompt.at_prompt dialogue.new) said.new }
     ensures start { dialogue.new.debugger.start ≡ dialogue.old.debugger.start }
 {
     match read_typed(naming, line) {
-        None => move_again(dialogue, naming, said),
-        Some(Err(refusal)) => {
-            said.say_refused(refusal);
-            None
-        }
-        Some(Ok(asked)) => obey_request(dialogue, naming, asked, said),
-    }
-}
-
-/// Answers a line that doesn't end the session, but for a move by windows, which is left.
-#[tactic(none)]
-fn begin_typed(
-    dialogue: &mut Dialogue,
-    naming: &Naming,
-    line: &[u8],
-    said: &mut Said,
-) -> Option<TypedWindowMove>
-    ensures answers { prompt.is_quit line.now ≡ false → MatchOption result (prompt.TypedAnswers naming.now dialogue.old.debugger.start line.now (prompt.at_prompt dialogue.old) (prompt.at_prompt dialogue.new) said.new) (IsTypedLeft naming.now dialogue.old dialogue.new (prompt.TypedAnswers naming.now dialogue.old.debugger.start line.now (prompt.at_prompt dialogue.old))) }
-    ensures start { dialogue.new.debugger.start ≡ dialogue.old.debugger.start }
-{
-    if is_long(line) {
-        said.say_refused(Refusal::B2);
-        None
-    } else {
-        follow_typed(dialogue, naming, line, said)
-    }
-}
-
-/// How a move by windows from a position is told.
-fn report_of(left: TypedWindowMove, from: u64) -> Report
-    ensures { result ≡ report_of left from }
-{
-    match left {
-        TypedWindowMove::Plain(WindowMove::Run) | TypedWindowMove::Moment(_) => onwards(from),
-        TypedWindowMove::Plain(WindowMove::Until(time)) => Report {
-            bound: from,
-            until: Some(time),
-        },
-    }
-}
-
-/// Makes a move by windows, by the debugger's workers.
-#[tactic(none)]
-fn make_left<H: Hands>(
-    hands: &H,
-    gate: &Gate,
-    debugger: &mut Debugger,
-    naming: &Naming,
-    left: TypedWindowMove,
-    said: &mut Said,
-)
-    requires ready { H.ready hands.now }
-    ensures obeyed { answers.ObeysTyped naming.now debugger.old.start (typed_of left) (session_state debugger.old) (session_state debugger.new) said.new }
-    ensures start { debugger.new.start ≡ debugger.old.start }
-    ensures left { CanBeUndone debugger.old debugger.new said.new }
-{
-    let from = debugger.position();
-    let moved = go_typed(hands, gate, debugger, left);
-    let report = report_of(left, from);
-    show_past(debugger, naming, from, report, moved, said);
-}
-
-/// Makes a move by windows, and tells displays behind its answer.
-#[tactic(none)]
-fn make_showing<H: Hands>(
-    hands: &H,
-    gate: &Gate,
-    dialogue: &mut Dialogue,
-    naming: &Naming,
-    left: TypedWindowMove,
-    said: &mut Said,
-)
-    requires ready { H.ready hands.now }
-    ensures obeyed { prompt.ObeysShowing naming.now dialogue.old.displays.items dialogue.old.debugger.start (typed_of left) (session_state dialogue.old.debugger) (session_state dialogue.new.debugger) said.new }
-    ensures kept { (dialogue.new.memo ≡ dialogue.old.memo) × (dialogue.new.displays.items ≡ dialogue.old.displays.items) }
-    ensures start { dialogue.new.debugger.start ≡ dialogue.old.debugger.start }
-{
-    if is_bare(dialogue.displays.as_slice()) {
-        make_left(hands, gate, &mut dialogue.debugger, naming, left, said);
-        return;
-    }
-    match present_time(&mut dialogue.debugger) {
-        Ok(before) => {
-            make_left(hands, gate, &mut dialogue.debugger, naming, left, said);
-            let displays = dialogue.displays.as_slice();
-            show_displays(
-                &mut dialogue.debugger,
-                &naming.names,
-                displays,
-                before,
-                said,
-            );
-        }
-        Err(_) => said.say_refused(Refusal::M),
+        None => move_again(hands, gate, dialogue, naming, said),
+        Some(Err(refusal)) => said.say_refused(refusal),
+        Some(Ok(asked)) => obey_request(hands, gate, dialogue, naming, asked, said),
     }
 }
 
@@ -371,8 +269,9 @@ pub fn answer_typed<H: Hands>(
     ensures answers { prompt.is_quit line.now ≡ false → prompt.TypedAnswers naming.now dialogue.old.debugger.start line.now (prompt.at_prompt dialogue.old) (prompt.at_prompt dialogue.new) said.new }
     ensures start { dialogue.new.debugger.start ≡ dialogue.old.debugger.start }
 {
-    match begin_typed(dialogue, naming, line, said) {
-        None => {}
-        Some(left) => make_showing(hands, gate, dialogue, naming, left, said),
+    if is_long(line) {
+        said.say_refused(Refusal::B2);
+    } else {
+        follow_typed(hands, gate, dialogue, naming, line, said);
     }
 }

@@ -3,7 +3,7 @@ ghost use Rattle.std.specs.Prelude.{◌≡◌, ◌<◌, ◌≤◌, ◌^◌, ◌-
 ghost use Rattle.debug_session.specs.Input.{words_in};
 ghost use Rattle.debug_session.specs.TypedGrammar.{number_or, one_moment, goes_to, goes_to_moment, target_asked, goto_asked, break_number, one_break_number, plain, tells_part, part_asked, state_asked, why_asked, typed_alone, help_asked, command_typed, typed_reading};
 
-use crate::command::{Command, Request, Typed};
+use crate::command::{Command, Move, Request, Typed};
 use crate::conditions::break_asked;
 use crate::cut::next_word;
 use crate::display::{DisplayCommand, display_asked};
@@ -142,7 +142,7 @@ fn goes_to(target: Option<u64>) -> Result<Request, Refusal>
     ensures { result ≡ goes_to target }
 {
     match target {
-        Some(target) => Ok(Request::Command(Typed::Goto(target))),
+        Some(target) => plain(Ok(Command::Go(Move::Goto(target)))),
         None => Err(Refusal::B3),
     }
 }
@@ -152,7 +152,7 @@ fn goes_to_moment(time: Option<u64>) -> Result<Request, Refusal>
     ensures { result ≡ goes_to_moment time }
 {
     match time {
-        Some(time) => Ok(Request::Command(Typed::Moment(time))),
+        Some(time) => plain(Ok(Command::Go(Move::Moment(time)))),
         None => Err(Refusal::B3),
     }
 }
@@ -202,13 +202,13 @@ fn command_typed(
 {
     match name {
         None => Err(Refusal::B1),
-        Some(CommandName::Step) => plain(Ok(Command::Step(count_typed(rest)?))),
-        Some(CommandName::Back) => plain(Ok(Command::Back(count_typed(rest)?))),
+        Some(CommandName::Step) => plain(Ok(Command::Go(Move::Step(count_typed(rest)?)))),
+        Some(CommandName::Back) => plain(Ok(Command::Go(Move::Back(count_typed(rest)?)))),
         Some(CommandName::Break) => plain(break_asked(naming, rest)),
         Some(CommandName::Breaks) => typed_alone(Typed::Breaks, rest),
-        Some(CommandName::Run) => plain(alone(Command::Run, rest)),
-        Some(CommandName::Reverse) => typed_alone(Typed::Reverse, rest),
-        Some(CommandName::Until) => plain(Ok(Command::Until(one_moment(rest)?))),
+        Some(CommandName::Run) => plain(alone(Command::Go(Move::Run), rest)),
+        Some(CommandName::Reverse) => plain(alone(Command::Go(Move::Reverse), rest)),
+        Some(CommandName::Until) => plain(Ok(Command::Go(Move::Until(one_moment(rest)?)))),
         Some(CommandName::State) => state_asked(naming, rest),
         Some(CommandName::Lines) => Ok(Request::Command(Typed::Lines(lines_typed(rest)?))),
         Some(CommandName::Delete) => Ok(Request::Command(Typed::Delete(one_break_number(rest)?))),

@@ -1,12 +1,12 @@
 //! The answer to a command.
-ghost use Rattle.std.specs.Prelude.{◌≡◌, ◌<◌, ◌≤◌, ◌+◌, ◌++◌, [], OnOk, OnErr, length, drop, decimal};
+ghost use Rattle.std.specs.Prelude.{◌≡◌, ◌<◌, ◌≤◌, ◌+◌, ◌++◌, ◌⊎◌, [], MatchBool, OnOk, OnErr, length, drop, decimal};
 ghost use Rattle.trace_text.specs.Dump.{dump_bytes};
 ghost use Rattle.trace_text.specs.DumpParts.{part_bytes};
 ghost use Rattle.debug_session.specs.Missing.{why_text};
 ghost use Rattle.debugger.specs.Moves.{HasPosition};
 ghost use Rattle.debug_session.specs.Answers.{session_state, refusal_line, break_line, clear_line};
 ghost use Rattle.debugger.specs.Reads.{read_left_in};
-ghost use Rattle.debug_session.specs.Displays.{display_line, display_listing, displays_from, undisplayed_line};
+ghost use Rattle.debug_session.specs.Displays.{present_line, display_listing, displays_from, undisplayed_line};
 ghost use Rattle.debug_session.specs.Readouts.{now_of, was_of, present, TellsBehind};
 ghost use Rattle.debug_session.specs.Help.{help_text, help_on};
 ghost use Rattle.debug_session.specs.NamesReported.{names_text};
@@ -28,7 +28,7 @@ use crate::report::Report;
 use crate::stall_list::append_stalls;
 use crate::topic::{Topic, append_help_on};
 use crate::typed_move::{append_last, append_move, append_whereabouts, present_time};
-use debugger::{Break, Debugger, MoveFault};
+use debugger::{Break, Debugger};
 use flow_waits::{PartNames, ScenarioNames};
 use itoa::write_digits;
 use sim_time::Time;
@@ -204,127 +204,169 @@ impl Said {
     }
 
     /// Answers the names of nodes, links and flows with their numbers.
-    pub(crate) fn say_names(&mut self, naming: &Naming) -> Result<(), AllocError>
-        ensures { OnOk result (self.new ≡ names_text naming.now) }
+    pub(crate) fn say_names(&mut self, naming: &Naming)
+        ensures { (self.new ≡ names_text naming.now) ⊎ (self.new ≡ refusal_line Refusal.M) }
     {
         self.dump.clear();
         self.is_short = false;
-        append_names(&mut self.dump, naming)
+        match append_names(&mut self.dump, naming) {
+            Ok(()) => {}
+            Err(_) => self.say_refused(Refusal::M),
+        }
     }
 
     /// Answers how all commands are used.
-    pub(crate) fn say_help(&mut self) -> Result<(), AllocError>
-        ensures { OnOk result (self.new ≡ help_text) }
+    pub(crate) fn say_help(&mut self)
+        ensures { (self.new ≡ help_text) ⊎ (self.new ≡ refusal_line Refusal.M) }
     {
         self.dump.clear();
         self.is_short = false;
-        append_help(&mut self.dump)
+        match append_help(&mut self.dump) {
+            Ok(()) => {}
+            Err(_) => self.say_refused(Refusal::M),
+        }
     }
 
     /// Answers what there is to say of a topic.
-    pub(crate) fn say_help_on(&mut self, topic: Topic) -> Result<(), AllocError>
-        ensures { OnOk result (self.new ≡ help_on topic) }
+    pub(crate) fn say_help_on(&mut self, topic: Topic)
+        ensures { (self.new ≡ help_on topic) ⊎ (self.new ≡ refusal_line Refusal.M) }
     {
         self.dump.clear();
         self.is_short = false;
-        append_help_on(&mut self.dump, topic)
+        match append_help_on(&mut self.dump, topic) {
+            Ok(()) => {}
+            Err(_) => self.say_refused(Refusal::M),
+        }
     }
 
-    /// Answers a move from a position. On a fault the answer is a part of that.
+    /// Answers a move from a position. The answer is whether it could be told.
     pub(crate) fn say_move(
         &mut self,
         debugger: &mut Debugger,
         naming: &Naming,
         from: u64,
         report: Report,
-    ) -> Result<(), MoveFault>
+    ) -> bool
         requires { HasPosition debugger.old.start from }
-        ensures ok { OnOk result (TellsPast naming.now debugger.old.start from report (session_state debugger.old) self.new) }
+        ensures reported { MatchBool result (TellsPast naming.now debugger.old.start from report (session_state debugger.old) self.new) (self.new ≡ refusal_line Refusal.M) }
         ensures same { debugger.new ≡ debugger.old }
     {
         self.dump.clear();
         self.is_short = false;
-        append_move(&mut self.dump, debugger, naming, from, report)
+        match append_move(&mut self.dump, debugger, naming, from, report) {
+            Ok(()) => true,
+            Err(_) => {
+                self.say_refused(Refusal::M);
+                false
+            }
+        }
     }
 
-    /// Answers where a session stands, and how far the run is known to go. On a fault the answer is a
-    /// part of that.
-    pub(crate) fn say_where(
-        &mut self,
-        debugger: &mut Debugger,
-        naming: &Naming,
-        known: Extent,
-    ) -> Result<(), MoveFault>
-        ensures ok { OnOk result (self.new ≡ where_text debugger.old.start debugger.old.shown known) }
+    /// Answers where a session stands, and how far the run is known to go.
+    pub(crate) fn say_where(&mut self, debugger: &mut Debugger, naming: &Naming, known: Extent)
+        ensures reported { (self.new ≡ where_text debugger.old.start debugger.old.shown known) ⊎ (self.new ≡ refusal_line Refusal.M) }
         ensures same { debugger.new ≡ debugger.old }
     {
         self.dump.clear();
         self.is_short = false;
-        append_whereabouts(&mut self.dump, debugger, naming, known)
+        match append_whereabouts(&mut self.dump, debugger, naming, known) {
+            Ok(()) => {}
+            Err(_) => self.say_refused(Refusal::M),
+        }
     }
 
-    /// Answers the last so many lines of the trace. On a fault the answer is a part of that.
-    pub(crate) fn say_lines(&mut self, debugger: &mut Debugger, count: u64) -> Result<(), MoveFault>
-        ensures ok { OnOk result (self.new ≡ last_lines debugger.old.start debugger.old.shown.position count) }
+    /// Answers the last so many lines of the trace.
+    pub(crate) fn say_lines(&mut self, debugger: &mut Debugger, count: u64)
+        ensures reported { (self.new ≡ last_lines debugger.old.start debugger.old.shown.position count) ⊎ (self.new ≡ refusal_line Refusal.M) }
         ensures same { debugger.new ≡ debugger.old }
     {
         self.dump.clear();
         self.is_short = false;
-        append_last(&mut self.dump, debugger, count)
+        match append_last(&mut self.dump, debugger, count) {
+            Ok(()) => {}
+            Err(_) => self.say_refused(Refusal::M),
+        }
     }
 
-    /// Answers the dump of the state that is shown. Where memory is refused, the answer is empty.
-    pub fn say_state(&mut self, debugger: &Debugger) -> Result<(), AllocError>
-        ensures ok { OnOk result (self.new ≡ dump_bytes debugger.now.shown) }
-        ensures err { OnErr result (self.new ≡ []) }
+    /// Answers the dump of the state that is shown. The answer is whether there was memory for it.
+    pub(crate) fn say_state(&mut self, debugger: &Debugger) -> bool
+        ensures { MatchBool result (self.new ≡ dump_bytes debugger.now.shown) (self.new ≡ refusal_line Refusal.M) }
     {
         self.dump.clear();
         self.is_short = false;
-        debugger.state_text(&mut self.dump)
+        match debugger.state_text(&mut self.dump) {
+            Ok(()) => true,
+            Err(_) => {
+                self.say_refused(Refusal::M);
+                false
+            }
+        }
     }
 
-    /// Answers the lines of the dump of the state that is shown that tell of a part of it. Where
-    /// memory is refused, the answer is empty.
-    pub(crate) fn say_part(&mut self, debugger: &Debugger, part: DumpPart) -> Result<(), AllocError>
-        ensures { OnOk result (self.new ≡ part_bytes part debugger.now.shown) }
+    /// Answers the lines of the dump of the state that is shown that tell of a part of it.
+    pub(crate) fn say_part(&mut self, debugger: &Debugger, part: DumpPart)
+        ensures { (self.new ≡ part_bytes part debugger.now.shown) ⊎ (self.new ≡ refusal_line Refusal.M) }
     {
         self.dump.clear();
         self.is_short = false;
-        debugger.part_text(part, &mut self.dump)
+        match debugger.part_text(part, &mut self.dump) {
+            Ok(()) => {}
+            Err(_) => self.say_refused(Refusal::M),
+        }
     }
 
-    /// Answers a line for each display. On a fault the answer is a part of that.
+    /// Answers a line for each display, with the values that they have at a moment.
     pub(crate) fn say_displays(
         &mut self,
+        debugger: &Debugger,
         names: &ScenarioNames,
-        readout: &Readout<'_>,
+        time: Time,
         displays: &[DisplayItem],
-    ) -> Result<(), AllocError>
-        requires { was_of readout.now ≡ now_of readout.now }
-        ensures { OnOk result (self.new ≡ display_listing names.now (now_of readout.now) displays.now) }
+    )
+        ensures { (self.new ≡ display_listing names.now (present debugger.now time) displays.now) ⊎ (self.new ≡ refusal_line Refusal.M) }
     {
         if displays.is_empty() {
             self.say(b"no display\n");
-            return Ok(());
+            return;
         }
+        let readout = Readout {
+            debugger,
+            left: None,
+            time,
+        };
         self.dump.clear();
         self.is_short = false;
-        append_displays(&mut self.dump, names, readout, displays)
+        match append_displays(&mut self.dump, names, &readout, displays) {
+            Ok(()) => {}
+            Err(_) => self.say_refused(Refusal::M),
+        }
     }
 
-    /// Answers a display of a number. On a fault the answer is a part of that.
+    /// Answers the display of a number, with the values that it has at a moment. The answer is whether there was memory for it.
     pub(crate) fn say_display(
         &mut self,
+        debugger: &Debugger,
         names: &ScenarioNames,
-        readout: &Readout<'_>,
+        time: Time,
         number: u64,
         item: DisplayItem,
-    ) -> Result<(), AllocError>
-        ensures { OnOk result (self.new ≡ display_line names.now (was_of readout.now) (now_of readout.now) number item) }
+    ) -> bool
+        ensures { MatchBool result (self.new ≡ present_line names.now (present debugger.now time) number item) (self.new ≡ refusal_line Refusal.M) }
     {
+        let readout = Readout {
+            debugger,
+            left: None,
+            time,
+        };
         self.dump.clear();
         self.is_short = false;
-        append_display(&mut self.dump, names, readout, number, item)
+        match append_display(&mut self.dump, names, &readout, number, item) {
+            Ok(()) => true,
+            Err(_) => {
+                self.say_refused(Refusal::M);
+                false
+            }
+        }
     }
 
     /// Answers that a display is taken away. On a fault the answer is a part of that.
@@ -379,53 +421,55 @@ impl Said {
         self.say_more(names, &readout, displays)
     }
 
-    /// Answers the lines of displays behind the answer to a move from a moment. On a fault the answer is a part of that.
+    /// Answers the lines of displays behind the answer to a move from a moment. The answer is whether they could be told.
     pub(crate) fn say_behind(
         &mut self,
         debugger: &mut Debugger,
         names: &ScenarioNames,
         displays: &[DisplayItem],
         before: Time,
-    ) -> Result<(), MoveFault>
-        ensures ok { OnOk result (TellsBehind names.now displays.now before debugger.old self.old self.new) }
+    ) -> bool
+        ensures told { MatchBool result (TellsBehind names.now displays.now before debugger.old self.old self.new) (self.new ≡ refusal_line Refusal.M) }
         ensures same { debugger.new ≡ debugger.old }
     {
         match present_time(debugger) {
             Ok(time) => match self.say_compared(debugger, names, displays, before, time) {
-                Ok(()) => Ok(()),
-                Err(_) => Err(MoveFault::NoMemory),
+                Ok(()) => true,
+                Err(_) => {
+                    self.say_refused(Refusal::M);
+                    false
+                }
             },
-            Err(fault) => Err(fault),
+            Err(_) => {
+                self.say_refused(Refusal::M);
+                false
+            }
         }
     }
 
-    /// Answers all stalls of the run. On a fault the answer is a part of that.
-    pub(crate) fn say_stalls(
-        &mut self,
-        debugger: &mut Debugger,
-        flows: &PartNames,
-    ) -> Result<(), MoveFault>
-        ensures ok { OnOk result (TellsStalls flows.now debugger.old.start self.new) }
+    /// Answers all stalls of the run.
+    pub(crate) fn say_stalls(&mut self, debugger: &mut Debugger, flows: &PartNames)
+        ensures reported { TellsStalls flows.now debugger.old.start self.new ⊎ (self.new ≡ refusal_line Refusal.M) }
         ensures same { debugger.new ≡ debugger.old }
     {
         self.dump.clear();
         self.is_short = false;
-        append_stalls(&mut self.dump, debugger, flows)
+        match append_stalls(&mut self.dump, debugger, flows) {
+            Ok(()) => {}
+            Err(_) => self.say_refused(Refusal::M),
+        }
     }
 
-    /// Answers what a flow waits for in the state that is shown, and what became of the packets that are missing. On a
-    /// fault the answer is a part of that.
-    pub(crate) fn say_why(
-        &mut self,
-        debugger: &mut Debugger,
-        names: &ScenarioNames,
-        flow: u16,
-    ) -> Result<(), MoveFault>
-        ensures ok { OnOk result (self.new ≡ why_text names.now flow debugger.old.start debugger.old.shown) }
+    /// Answers what a flow waits for in the state that is shown, and what became of the packets that are missing.
+    pub(crate) fn say_why(&mut self, debugger: &mut Debugger, names: &ScenarioNames, flow: u16)
+        ensures reported { (self.new ≡ why_text names.now flow debugger.old.start debugger.old.shown) ⊎ (self.new ≡ refusal_line Refusal.M) }
         ensures same { debugger.new ≡ debugger.old }
     {
         self.dump.clear();
         self.is_short = false;
-        append_why(&mut self.dump, debugger, names, flow)
+        match append_why(&mut self.dump, debugger, names, flow) {
+            Ok(()) => {}
+            Err(_) => self.say_refused(Refusal::M),
+        }
     }
 }

@@ -12,9 +12,9 @@ pub returns-in-All : goal.returns-in-All
 returns-in-All c =
     let now = present c.args.debugger.now c.args.time in
     let items = c.args.displays.now.items in
-    let out = c.tell_displays.new.said in
+    let out = c.say_displays.new.self in
     subst (λ (k : DisplayCommand). ObeysDisplays c.args.names.now now k items items out) (sym c.in-All.is)
-    (all_told c.args.names.now now items out (subst (λ (set : List DisplayItem). (out ≡ display_listing c.args.names.now now set) ⊎ (out ≡ refusal_line M)) c.as_slice.ensures.value c.tell_displays.ensures))
+    (all_told c.args.names.now now items out (subst (λ (set : List DisplayItem). (out ≡ display_listing c.args.names.now now set) ⊎ (out ≡ refusal_line M)) c.as_slice.ensures.value c.say_displays.ensures))
 
 pub returns-in-Add : goal.returns-in-Add
 returns-in-Add c =

@@ -14,8 +14,8 @@ add_display-requires-clause-room c = subst (λ (items : List DisplayItem). lengt
 
 pub returns-in-Some : goal.returns-in-Some
 returns-in-Some c =
-    told_again c.args.names.now (present c.args.debugger.now c.args.time) c.args.displays.now.items c.tell_display-is_told.new.said c.args.item c.in-Some.number
-    (subst (λ (items : List DisplayItem). IsNumber items c.args.item c.in-Some.number) c.as_slice-set.ensures.value c.in-Some.ensures) c.tell_display-is_told.result c.tell_display-is_told.ensures
+    told_again c.args.names.now (present c.args.debugger.now c.args.time) c.args.displays.now.items c.say_display-is_told.new.self c.args.item c.in-Some.number
+    (subst (λ (items : List DisplayItem). IsNumber items c.args.item c.in-Some.number) c.as_slice-set.ensures.value c.in-Some.ensures) c.say_display-is_told.result c.say_display-is_told.ensures
 
 pub returns-then-has_room : goal.returns-then-has_room
 returns-then-has_room c = c.add_display.ensures

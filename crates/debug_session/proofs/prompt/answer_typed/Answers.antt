@@ -1,23 +1,23 @@
-use Rattle.debug_session.specs.Prompt.{TypedAnswers, at_prompt}
-use Rattle.debug_session.proofs.Left.{typed_left_answered}
-use Rattle.std.proofs.Common.{◌∙◌}
+use Rattle.std.proofs.Common.{◌∙◌, refl, sym}
+use Rattle.debug_session.specs.Prompt.{at_prompt}
+use Rattle.debug_session.proofs.Followed.{long_refused, short_followed}
 use Rattle.debug_session.proofs.prompt.answer_typed.Goals as goal
 
-pub returns-in-None-clause-answers : goal.returns-in-None-clause-answers
-returns-in-None-clause-answers g c = c.in-None.ensures.answers
+pub returns-then-is_long-clause-answers : goal.returns-then-is_long-clause-answers
+returns-then-is_long-clause-answers g c goes_on =
+    let old = at_prompt c.args.dialogue.now in
+    long_refused c.args.naming.now c.args.dialogue.now.debugger.start c.args.line.now old old c.say_refused.new.self (sym c.is_long.ensures ∙ c.if-is_long.true) (record { same = refl; reported = c.say_refused.ensures })
 
-pub returns-in-None-clause-start : goal.returns-in-None-clause-start
-returns-in-None-clause-start g c = c.in-None.ensures.start
+pub returns-then-is_long-clause-start : goal.returns-then-is_long-clause-start
+returns-then-is_long-clause-start g c = refl
 
-pub make_showing-requires : goal.make_showing-requires
-make_showing-requires g c = record { ready = c.requires.ready }
+pub follow_typed-requires : goal.follow_typed-requires
+follow_typed-requires g c = record { ready = c.requires.ready }
 
-pub returns-in-Some-clause-answers : goal.returns-in-Some-clause-answers
-returns-in-Some-clause-answers g c goes_on =
+pub returns-else-is_long-clause-answers : goal.returns-else-is_long-clause-answers
+returns-else-is_long-clause-answers g c goes_on =
     let old = c.args.dialogue.now in
-    let shows = c.make_showing in
-    typed_left_answered c.args.naming.now old c.begin_typed.new.dialogue shows.new.dialogue (TypedAnswers c.args.naming.now old.debugger.start c.args.line.now (at_prompt old)) c.in-Some.left shows.new.said
-    (c.in-Some.ensures.answers goes_on) shows.ensures.kept.0 shows.ensures.kept.1 shows.ensures.obeyed
+    short_followed c.args.naming.now old.debugger.start c.args.line.now (at_prompt old) (at_prompt c.follow_typed.new.dialogue) c.follow_typed.new.said (sym c.is_long.ensures ∙ c.if-is_long.false) goes_on c.follow_typed.ensures.answers
 
-pub returns-in-Some-clause-start : goal.returns-in-Some-clause-start
-returns-in-Some-clause-start g c = c.make_showing.ensures.start ∙ c.in-Some.ensures.start
+pub returns-else-is_long-clause-start : goal.returns-else-is_long-clause-start
+returns-else-is_long-clause-start g c = c.follow_typed.ensures.start

@@ -5,8 +5,8 @@ use Rattle.debug_session.specs.Displays.{displays_from}
 use Rattle.debug_session.specs.Readouts.{present}
 use Rattle.debug_session.proofs.said.Said.say_behind.Goals as goal
 
-pub returns-in-Ok-say_compared-clause-ok : goal.returns-in-Ok-say_compared-clause-ok
-returns-in-Ok-say_compared-clause-ok c =
+pub returns-in-Ok-say_compared-clause-told : goal.returns-in-Ok-say_compared-clause-told
+returns-in-Ok-say_compared-clause-told c =
     let names = c.args.names.now in
     let items = c.args.displays.now in
     let before = c.args.before in

@@ -1,6 +1,6 @@
 use Rattle.std.proofs.Common.{arith}
 use Rattle.debug_session.proofs.Going.{back_there, on_there}
-use Rattle.debug_session.proofs.typed_reply.move_to.Goals as goal
+use Rattle.debug_session.proofs.moves.move_to.Goals as goal
 
 pub returns-then-target-from-clause-goes : goal.returns-then-target-from-clause-goes
 returns-then-target-from-clause-goes c =
