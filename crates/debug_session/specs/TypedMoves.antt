@@ -30,7 +30,7 @@ passed start m bound p = if nat_lt m p then texts_between start m p else reverse
 
 -- how many there are beside ten
 abbrev pub more_line : ℕ → List ℕ
-more_line count = if nat_lt 10 count then codes ".. " ++ decimal (count - 10) ++ codes " more\n" else []
+more_line count = if nat_lt 10 count then codes ".. " ++ (decimal (count - 10) ++ codes " more\n") else []
 
 -- the last of them, ten at most, and before them how many more there are
 abbrev pub last_ten : List (List ℕ) → List ℕ

@@ -21,6 +21,20 @@ pub(crate) fn append_number(out: &mut Vec<u8>, n: u64) -> Result<(), AllocError>
     out.extend_from_slice(&digits[start..])
 }
 
+// Appends a number between words.
+pub(crate) fn append_counted(
+    out: &mut Vec<u8>,
+    before: &[u8],
+    n: u64,
+    behind: &[u8],
+) -> Result<(), AllocError>
+    ensures { OnOk result (out.new.items ≡ out.old.items ++ (before.now ++ (decimal n ++ behind.now))) }
+{
+    out.extend_from_slice(before)?;
+    append_number(out, n)?;
+    out.extend_from_slice(behind)
+}
+
 /// Appends a word and how the part of a number is called.
 pub(crate) fn append_behind(
     out: &mut Vec<u8>,

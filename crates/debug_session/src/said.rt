@@ -37,7 +37,7 @@ use std::marker::Model;
 use trace_text::DumpPart;
 
 /// The room for a short answer, in bytes.
-pub(crate) const ROOM: usize = 768;
+const ROOM: usize = 768;
 
 /// The answer to a command, seen as its bytes. Short answers take no memory.
 #[derive(Drop)]
@@ -63,7 +63,7 @@ impl Model for Said {
 }
 
 // Writes a text so that it ends at `end`, and answers where it starts.
-pub(crate) fn put_text<const N: usize>(bytes: &mut [u8], end: usize, text: &[u8; N]) -> usize
+fn put_text<const N: usize>(bytes: &mut [u8], end: usize, text: &[u8; N]) -> usize
     requires within { end ≤ length bytes.old }
     requires room { N ≤ end }
     ensures written { drop result bytes.new ≡ text.now ++ drop end bytes.old }
@@ -75,7 +75,7 @@ pub(crate) fn put_text<const N: usize>(bytes: &mut [u8], end: usize, text: &[u8;
 }
 
 // Writes a number so that it ends at `end`, and answers where it starts.
-pub(crate) fn put_count(bytes: &mut [u8], end: usize, n: usize) -> usize
+fn put_count(bytes: &mut [u8], end: usize, n: usize) -> usize
     requires within { end ≤ length bytes.old }
     requires room { 20 ≤ end }
     ensures written { drop result bytes.new ≡ decimal n ++ drop end bytes.old }

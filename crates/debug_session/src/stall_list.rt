@@ -1,9 +1,9 @@
 //! All stalls of a run, as they are told.
-ghost use Rattle.std.specs.Prelude.{◌≡◌, ◌++◌, [], OnOk, codes, decimal};
+ghost use Rattle.std.specs.Prelude.{◌≡◌, ◌++◌, [], OnOk};
 ghost use Rattle.std.specs.List.{flat_map};
 ghost use Rattle.debug_session.specs.StallLists.{goto_text, since_text, stall_line, stalls_text, TellsStalls};
 
-use crate::names_reported::{append_behind, append_number};
+use crate::names_reported::{append_behind, append_counted, append_number};
 use debugger::{Debugger, MoveFault, StallAt};
 use flow_waits::PartNames;
 use std::alloc::AllocError;
@@ -16,20 +16,11 @@ fn append_goto(out: &mut Vec<u8>, position: u64) -> Result<(), AllocError>
     append_number(out, position)
 }
 
-// Appends a moment behind words.
-fn append_time(out: &mut Vec<u8>, words: &[u8], time: u64) -> Result<(), AllocError>
-    ensures { OnOk result (out.new.items ≡ out.old.items ++ (words.now ++ (decimal time ++ codes " ns\n"))) }
-{
-    out.extend_from_slice(words)?;
-    append_number(out, time)?;
-    out.extend_from_slice(b" ns\n")
-}
-
 // Appends when a flow is stalled.
 fn append_since(out: &mut Vec<u8>, time: u64) -> Result<(), AllocError>
     ensures { OnOk result (out.new.items ≡ out.old.items ++ since_text time) }
 {
-    append_time(out, b" is stalled at ", time)
+    append_counted(out, b" is stalled at ", time, b" ns\n")
 }
 
 // Appends where a flow becomes stalled, and when.

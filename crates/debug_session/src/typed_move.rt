@@ -1,18 +1,18 @@
 //! What a move that is typed answers.
-ghost use Rattle.std.specs.Prelude.{◌≡◌, ◌≢◌, ◌+◌, ◌≤◌, ◌++◌, None, Some, decimal, drop, length, IfOk, OnOk};
+ghost use Rattle.std.specs.Prelude.{◌≡◌, ◌≢◌, ◌+◌, ◌++◌, None, codes, decimal, IfOk, OnOk};
 ghost use Rattle.table_run.specs.State.{due};
 ghost use Rattle.std.specs.List.{concat};
 ghost use Rattle.debugger.specs.Moves.{HasPosition};
 ghost use Rattle.debugger.specs.Passed.{texts_between};
 ghost use Rattle.debug_session.specs.Answers.{session_state};
 ghost use Rattle.debug_session.specs.Reported.{passed_count, shown_stretch, reported_hit, reported_origin, AddsPlace, AddsMove};
-ghost use Rattle.debug_session.specs.TypedMoves.{present_time, named_origin, lowest, passed, more_line, last_ten, idle_line, passed_lines, end_words, time_words, place_line, hit_line, next_text, known_line, where_text, last_lines};
+ghost use Rattle.debug_session.specs.TypedMoves.{present_time, named_origin, lowest, passed, more_line, last_ten, idle_line, passed_lines, end_words, place_line, hit_line, next_text, known_line, where_text, last_lines};
 
 use crate::memo::Extent;
+use crate::names_reported::{append_counted, append_number};
 use crate::naming::Naming;
 use crate::numbered::{append_numbered, append_part};
 use crate::report::Report;
-use crate::said::{ROOM, put_count, put_text};
 use debugger::{Debugger, Hit, LastEvent, LineOrder, MoveFault, Stretch};
 use flow_waits::ScenarioNames;
 use sim_time::Time;
@@ -20,9 +20,6 @@ use std::alloc::AllocError;
 
 /// The most lines that a move shows.
 const MOST_SHOWN: u64 = 10;
-
-/// The room for the line of a place in the run, in bytes.
-const PLACE_ROOM: usize = 80;
 
 /// The position behind which the lines of a move backwards begin. Past a bound a breakpoint is told, and
 /// then its line is among them.
@@ -69,11 +66,9 @@ fn append_more(out: &mut Vec<u8>, count: u64) -> Result<(), MoveFault>
     ensures { OnOk result (out.new.items ≡ out.old.items ++ more_line count) }
 {
     if MOST_SHOWN < count {
-        let mut line = [0; ROOM];
-        let at = put_text(&mut line, ROOM, b" more\n");
-        let at = put_count(&mut line, at, (count - MOST_SHOWN) as usize);
-        let start = put_text(&mut line, at, b".. ");
-        out.extend_from_slice(&line[start..])?;
+        out.extend_from_slice(b".. ")?;
+        append_number(out, count - MOST_SHOWN)?;
+        out.extend_from_slice(b" more\n")?;
         Ok(())
     } else {
         Ok(())
@@ -103,13 +98,14 @@ fn append_passed(
 
 // Appends that nothing was done.
 fn append_nothing(out: &mut Vec<u8>, time: u64) -> Result<(), MoveFault>
-    ensures { OnOk result (out.new.items ≡ out.old.items ++ idle_line (Some time) 0 0) }
+    ensures { OnOk result (out.new.items ≡ out.old.items ++ (codes "nothing was done: no event before " ++ (decimal time ++ codes " ns is left\n"))) }
 {
-    let mut line = [0; ROOM];
-    let at = put_text(&mut line, ROOM, b" ns is left\n");
-    let at = put_count(&mut line, at, time as usize);
-    let start = put_text(&mut line, at, b"nothing was done: no event before ");
-    out.extend_from_slice(&line[start..])?;
+    append_counted(
+        out,
+        b"nothing was done: no event before ",
+        time,
+        b" ns is left\n",
+    )?;
     Ok(())
 }
 
@@ -148,66 +144,25 @@ fn append_lines(
     }
 }
 
-// Writes a text at the end of the room of a place, and answers where it starts.
-fn put_last<const N: usize>(line: &mut [u8], text: &[u8; N]) -> usize
-    requires room { length line.old ≡ 80 }
-    requires few { N ≤ 19 }
-    ensures written { drop result line.new ≡ text.now }
-    ensures short { 61 ≤ result }
-    ensures within { result ≤ 80 }
-{
-    put_text(line, PLACE_ROOM, text)
-}
-
-// Writes the end of the line of a position, and answers where it starts.
-fn put_end(line: &mut [u8], position: u64, at_end: bool) -> usize
-    requires { length line.old ≡ 80 }
-    ensures written { drop result line.new ≡ end_words position at_end }
-    ensures short { 61 ≤ result }
-    ensures within { result ≤ 80 }
+// The words behind the moment of an event: whether the run ends or begins at a position.
+fn end_words(position: u64, at_end: bool) -> &'static [u8]
+    ensures { result.now ≡ end_words position at_end }
 {
     if at_end {
-        put_last(line, b" ns, the end\n")
+        b" ns, the end\n"
     } else if position == 0 {
-        put_last(line, b" ns, the beginning\n")
+        b" ns, the beginning\n"
     } else {
-        put_last(line, b" ns\n")
+        b" ns\n"
     }
-}
-
-// Writes a number so that it ends at `end`, and answers where it starts.
-fn put_number(bytes: &mut [u8], end: usize, n: usize) -> usize
-    requires within { end ≤ length bytes.old }
-    requires room { 20 ≤ end }
-    ensures written { drop result bytes.new ≡ decimal n ++ drop end bytes.old }
-    ensures short { end ≤ result + 20 }
-    ensures within { result ≤ length bytes.new }
-{
-    put_count(bytes, end, n)
-}
-
-// Writes the moment of an event, and whether the run ends or begins at a position, and answers where
-// that starts.
-fn put_time(line: &mut [u8], position: u64, time: u64, at_end: bool) -> usize
-    requires { length line.old ≡ 80 }
-    ensures written { drop result line.new ≡ time_words position time at_end }
-    ensures short { 23 ≤ result }
-    ensures within { result ≤ 80 }
-{
-    let at = put_end(line, position, at_end);
-    let at = put_number(line, at, time as usize);
-    put_text(line, at, b" of the run, time ")
 }
 
 // Appends a position, the moment of the event before it, and whether the run ends or begins there.
 fn append_place(out: &mut Vec<u8>, position: u64, time: u64, at_end: bool) -> Result<(), MoveFault>
     ensures { OnOk result (out.new.items ≡ out.old.items ++ place_line position time at_end) }
 {
-    let mut line = [0; PLACE_ROOM];
-    let at = put_time(&mut line, position, time, at_end);
-    let at = put_count(&mut line, at, position as usize);
-    let start = put_text(&mut line, at, b"at ");
-    out.extend_from_slice(&line[start..])?;
+    append_counted(out, b"at ", position, b" of the run, time ")?;
+    append_counted(out, b"", time, end_words(position, at_end))?;
     Ok(())
 }
 
@@ -382,15 +337,14 @@ fn append_next(out: &mut Vec<u8>, debugger: &mut Debugger) -> Result<(), MoveFau
 fn append_known(out: &mut Vec<u8>, known: Extent) -> Result<(), MoveFault>
     ensures { OnOk result (out.new.items ≡ out.old.items ++ known_line known) }
 {
-    let mut line = [0; ROOM];
-    let at = put_text(&mut line, ROOM, b"\n");
-    let at = put_count(&mut line, at, known.upto as usize);
-    let start = if known.ends {
-        put_text(&mut line, at, b"known to end at ")
+    let words = if known.ends {
+        b"known to end at ".as_slice()
     } else {
-        put_text(&mut line, at, b"known to go to ")
+        b"known to go to ".as_slice()
     };
-    out.extend_from_slice(&line[start..])?;
+    out.extend_from_slice(words)?;
+    append_number(out, known.upto)?;
+    out.extend_from_slice(b"\n")?;
     Ok(())
 }
 
