@@ -14,7 +14,7 @@ REASONS = {'lost': 'dropped as lost', 'full': 'dropped as full', 'codel': 'dropp
 # What a step has of each flow and of each link.
 FLOW_STEP = ('delivered', 'sent', 'sent again by fast retransmit', 'sent again by timeout', 'timeouts', 'cwnd', 'in flight')
 LINK_STEP = ('busy', 'sent packets', 'sent bytes', *REASONS.values(), 'waited', 'greatest queue', 'median delay in the queue')
-MOST_ROWS = 10**7       # of a series, up to the scenario's end
+MOST_ROWS = 10**7       # of a series
 
 
 # Percentiles, of numbers that are counted in classes.
@@ -204,9 +204,10 @@ def steps(scenario, since, length):
 
 
 def are_too_many(scenario, since, length):
-    """Whether there are more rows in steps of a length than there may be, up to the scenario's end."""
+    """Whether a run has more rows in steps of a length than there may be: it goes on past the last one that there is room for."""
     in_step = len(FLOW_STEP) * len(scenario.flows) + len(LINK_STEP) * len(scenario.links)
-    return max(0, scenario.end - since) // length + 1 > MOST_ROWS // in_step
+    limit = since + MOST_ROWS // in_step * length
+    return limit <= scenario.end and begun(scenario, limit).goes_on(limit)
 
 
 # What is written.

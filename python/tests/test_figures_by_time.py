@@ -20,7 +20,7 @@ from test_trace import BY_HAND
 
 NO_MOMENT = b'error: --from takes a moment, as 1.5s, 20ms or 10000ns\n'
 NO_STEP = b'error: --every takes a time above 0, as 1.5s or 20ms, and --series wants --every\n'
-TOO_MANY = b"error: more than 10000000 rows up to the scenario's end; --every takes a longer step\n"
+TOO_MANY = b"error: more than 10000000 rows; --every takes a longer step\n"
 
 
 @pytest.fixture(params=[pytest.param(outcome, marks=pytest.mark.built), of_model], ids=['program', 'model'])
@@ -209,14 +209,22 @@ def test_what_is_no_step(answer, words):
 
 
 def test_more_rows_than_there_may_be(answer):
-    """A step has 25, so that 400,000 steps are the most. The run itself has far fewer."""
-    long = BY_HAND.replace('sim 12000000', 'sim 1000000000000000').encode()
-    for words, refused in ((['--every', '2500000000'], True), (['--every', '2500000001'], False), (['--every', '1ns'], True),
-                           (['--every', '2500000000', '--from', '1'], False), (['--every', '1', '--from', '999999999600000ns'], True),
-                           (['--every', '1', '--from', '999999999600001ns'], False), (['--every', '1', '--from', '1000000s'], False),
-                           (['--every', '30ns', '--series'], True)):
-        status, note, out = answer(['figures', *words], long)
-        assert (status, note, not out) == ((2, TOO_MANY, True) if refused else (0, b'', False)), words
+    """A step has 25, so that 400,000 steps are the most."""
+    for end, last in ((12_000_000, 11_360_000), (10**15, 1_014_440_000)):
+        text = BY_HAND.replace('sim 12000000', f'sim {end}').encode()
+        assert answer(['figures'], text)[2].endswith(f'run,,end,ns,{last}\n'.encode())
+        for words in (['--every', '1ns'], ['--every', '20ns', '--series'], ['--every', '1', '--from', str(last - 400_000)]):
+            assert answer(['figures', *words], text) == (2, TOO_MANY, b''), words
+
+
+def test_an_end_far_behind_the_last_event(answer):
+    """The rows are those of the run, however many steps there would be up to the end."""
+    near, far = (BY_HAND.replace('sim 12000000', f'sim {end}').encode() for end in (1_000_000_000_000, 10**15))
+    for words in (['--every', '4ms'], ['--every', '4ms', '--series', '--names'], ['--every', '1ms', '--from', '2ms'],
+                  ['--every', '1', '--from', '1014440000'], ['--every', '1', '--from', '999999999600000ns'], ['--every', '2500000000']):
+        status, note, out = answer(['figures', *words], far)
+        assert (status, note) == (0, b'') and len(out.splitlines()) > 25
+        assert out == answer(['figures', *words], near)[2], words
 
 
 def test_what_is_judged_first(answer):

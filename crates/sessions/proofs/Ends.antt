@@ -86,7 +86,7 @@ one_output : (subcommand : Subcommand) (input : List ℕ) (parts : ScenarioParts
 one_output Asm input parts ended other out out' free made due = one_whole (image Two parts) ended other out out' free made due
 one_output Dis input parts ended other out out' free made due = one_whole (canonical_text parts) ended other out out' free made due
 one_output (Run sharing) input parts ended other out out' free made due = one_shared sharing.groups parts ended other out out' free made due
-one_output (Figures counting) input parts ended other out out' free made due = one_plan counting.names input parts (plan_of counting parts) ended other out out' free made due
+one_output (Figures counting) input parts ended other out out' free made due = one_plan counting.names input parts (plan_of counting) ended other out out' free made due
 
 -- the ends to which work on a scenario can come
 abbrev IsOutputEnd : SessionEnded → Type 0
@@ -130,7 +130,7 @@ output_end : (subcommand : Subcommand) (input : List ℕ) (parts : ScenarioParts
 output_end Asm input parts ended out made = whole_end (image Two parts) ended out made
 output_end Dis input parts ended out made = whole_end (canonical_text parts) ended out made
 output_end (Run sharing) input parts ended out made = shared_end sharing.groups parts ended out made
-output_end (Figures counting) input parts ended out made = figures_end ended (plan_end counting.names input parts (plan_of counting parts) ended out made)
+output_end (Figures counting) input parts ended out made = figures_end ended (plan_end counting.names input parts (plan_of counting) ended out made)
 
 -- none of which is one of the reader
 pub output_not_read : (subcommand : Subcommand) (input : List ℕ) (parts : ScenarioParts) (ended : SessionEnded) (out : List ℕ) → IsOutput subcommand input parts ended out → ended ≡ Err ReadFailed → ⊥

@@ -17,3 +17,4 @@ pub mod Figured
 pub mod Endless
 pub mod Planned
 pub mod Stepped
+pub mod RowLimits

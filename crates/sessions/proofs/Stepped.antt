@@ -11,6 +11,7 @@ use Rattle.scenario_image.specs.declared.parts.ScenarioParts.{ScenarioParts}
 use Rattle.node_core.specs.declared.event.Event.{Event}
 use Rattle.node_core.specs.TraceLine.{TraceLine}
 use Rattle.table_run.specs.State.{State, due, initial, run}
+use Rattle.table_run.specs.Laws.{ComesTo}
 use Rattle.table_run.proofs.Due.{is_due}
 use Rattle.table_run.proofs.Lists.{all_append}
 use Rattle.table_run.proofs.Runs.{run_add}
@@ -35,7 +36,7 @@ use Rattle.sessions.proofs.Figured.{count_refused, counts_from, end_of_run}
 use Rattle.command_line.proofs.Options.{same_some}
 
 -- a line is before a moment
-abbrev IsEarly : ℕ → TraceLine → Type 0
+abbrev pub IsEarly : ℕ → TraceLine → Type 0
 IsEarly moment line = line.key.time < moment
 
 still_early : (begin until : ℕ) (lines : List TraceLine) → begin ≤ until → AllByRecursion (IsEarly begin) lines → AllByRecursion (IsEarly until) lines
@@ -51,17 +52,16 @@ stands_on p begin until r at le stands before held = record {
   held = held;
 }
 
--- a run that was begun at its initial state stands at the moment before which it runs
-pub stands_there : (p : ScenarioParts) (moment : ℕ) (old mid : Reached) → old ≡ record { state = initial p; position = 0 } → RunsBefore moment old mid → IsHeldAt moment mid.state → StandsAt p moment mid
-stands_there p moment old mid at before held =
+-- a run that was begun at its initial state comes to where it stands
+pub comes_there : (p : ScenarioParts) (moment : ℕ) (old mid : Reached) → old ≡ record { state = initial p; position = 0 } → (before : RunsBefore moment old mid) → ComesTo p mid.position before.lines mid.state
+comes_there p moment old mid at before =
     let first : old.position ≡ 0 = ap (λ (x : Reached). x.position) at in
     let far : length before.lines ≡ mid.position = (let moved = before.position in omega (arith, moved, first)) in
-    record {
-      lines = before.lines;
-      comes = subst (λ n. run (initial p) n ≡ Some (before.lines, mid.state)) far (subst (λ (x : Reached). run x.state (length before.lines) ≡ Some (before.lines, mid.state)) at before.comes);
-      early = before.early;
-      held = held;
-    }
+    subst (λ n. run (initial p) n ≡ Some (before.lines, mid.state)) far (subst (λ (x : Reached). run x.state (length before.lines) ≡ Some (before.lines, mid.state)) at before.comes)
+
+-- and stands at the moment before which it runs
+pub stands_there : (p : ScenarioParts) (moment : ℕ) (old mid : Reached) → old ≡ record { state = initial p; position = 0 } → RunsBefore moment old mid → IsHeldAt moment mid.state → StandsAt p moment mid
+stands_there p moment old mid at before held = record { lines = before.lines; comes = comes_there p moment old mid at before; early = before.early; held = held }
 
 -- a number below the next is below, or the same
 below_next : (k n : ℕ) → k < suc n → (k < n) ⊎ (k ≡ n)

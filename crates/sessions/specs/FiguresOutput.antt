@@ -18,11 +18,13 @@ use Rattle.command_line.specs.declared.subcommand.Counting.{Counting}
 use Rattle.sessions.specs.declared.fault.SessionFault.{SessionFault}
 use Rattle.sessions.specs.declared.fault.SessionFault.TheVariants.{Figures as NoFigures, WriteFailed, NoMemory, CountFull}
 use Rattle.sessions.specs.declared.figures_fault.FiguresFault.{FiguresFault}
+use Rattle.sessions.specs.declared.figures_fault.FiguresFault.TheVariants.{TooManyRows}
 use Rattle.sessions.specs.declared.figures_plan.FiguresPlan.{FiguresPlan}
 use Rattle.sessions.specs.declared.figures_plan.FiguresPlan.TheVariants.{Table, Both, Series}
 use Rattle.sessions.specs.Ended.{SessionEnded}
 use Rattle.sessions.specs.FiguresPlan.{plan_of}
 use Rattle.sessions.specs.NameColumns.{IsColumnOf}
+use Rattle.sessions.specs.RowLimit.{HasTooManyRows, IsRowsFault}
 use Rattle.sessions.specs.Trace.{IsTooLong}
 use Rattle.sessions.specs.Written.{IsBeginningOf}
 
@@ -127,12 +129,25 @@ pub record IsNamedOutput (names : Bool) (input : List ℕ) (p : ScenarioParts) (
   pub of : IsColumnOf names input column
   pub planned : IsPlannedOutput column p plan ended out
 
--- what was written by the end by a plan: nothing where there is none
+-- a run has more rows by time than there may be
+abbrev pub HasTooMany : ScenarioParts → FiguresPlan → Type 0
+HasTooMany p (Table from) = ⊥
+HasTooMany p (Both from every) = HasTooManyRows p from every
+HasTooMany p (Series from every) = HasTooManyRows p from every
+
+-- why a plan was refused
+abbrev pub IsPlanFault : ScenarioParts → FiguresPlan → SessionFault → Type 0
+IsPlanFault p (Table from) fault = ⊥
+IsPlanFault p (Both from every) fault = IsRowsFault p from every fault
+IsPlanFault p (Series from every) fault = IsRowsFault p from every fault
+
+-- what was written by the end by a plan: nothing where there is none, or there would be too many rows
 abbrev pub IsPlanOutput : Bool → List ℕ → ScenarioParts → Result FiguresPlan FiguresFault → SessionEnded → List ℕ → Type 0
 IsPlanOutput names input p (Err fault) ended out = (ended ≡ Err (NoFigures fault)) × (out ≡ [])
 IsPlanOutput names input p (Ok plan) (Err NoMemory) out = (out ≡ []) ⊎ IsNamedOutput names input p plan (Err NoMemory) out
-IsPlanOutput names input p (Ok plan) ended out = IsNamedOutput names input p plan ended out
+IsPlanOutput names input p (Ok plan) (Err (NoFigures TooManyRows)) out = HasTooMany p plan × (out ≡ [])
+IsPlanOutput names input p (Ok plan) ended out = (¬ HasTooMany p plan) × IsNamedOutput names input p plan ended out
 
 -- what was written of an input's scenario by the end: the figures that are asked for, or nothing where they cannot be
 abbrev pub IsFiguresOutput : Counting → List ℕ → ScenarioParts → SessionEnded → List ℕ → Type 0
-IsFiguresOutput counting input p ended out = IsPlanOutput counting.names input p (plan_of counting p) ended out
+IsFiguresOutput counting input p ended out = IsPlanOutput counting.names input p (plan_of counting) ended out

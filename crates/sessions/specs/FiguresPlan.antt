@@ -1,11 +1,10 @@
 -- Which figures of a run are written, as the words of the command line say it.
-use Rattle.std.specs.Prelude.{◌+◌, ◌-◌, ◌*◌, ◌/◌, ◌<◌, ℕ, zero, suc, nat_lt, Bool, true, false, if◌then◌else◌, List, length, Option, None, Some, Result, Ok, Err}
-use Rattle.scenario_image.specs.declared.parts.ScenarioParts.{ScenarioParts}
+use Rattle.std.specs.Prelude.{◌<◌, ℕ, zero, suc, Bool, true, false, if◌then◌else◌, List, Option, None, Some, Result, Ok, Err}
 use Rattle.sim_time.specs.Moment.{IsMoment}
 use Rattle.command_line.specs.declared.subcommand.Counting.{Counting}
 use Rattle.debug_session.specs.Times.{moment_in}
 use Rattle.sessions.specs.declared.figures_fault.FiguresFault.{FiguresFault}
-use Rattle.sessions.specs.declared.figures_fault.FiguresFault.TheVariants.{NoMoment, NoStep, TooManyRows}
+use Rattle.sessions.specs.declared.figures_fault.FiguresFault.TheVariants.{NoMoment, NoStep}
 use Rattle.sessions.specs.declared.figures_plan.FiguresPlan.{FiguresPlan}
 use Rattle.sessions.specs.declared.figures_plan.FiguresPlan.TheVariants.{Table, Both, Series}
 
@@ -24,31 +23,23 @@ abbrev pub step_from : Option (List ℕ) → Bool → Result (Option ℕ) Figure
 step_from None series = if series then Err NoStep else Ok None
 step_from (Some word) series = above_zero (moment_in word)
 
--- the rows of a step: seven of each flow, and nine of each link
-abbrev pub rows_in_step : ScenarioParts → ℕ
-rows_in_step p = 7 * length p.flows + 9 * length p.links
-
--- up to the scenario's end there would be more than 10^7 rows
-abbrev pub has_too_many : ScenarioParts → ℕ → ℕ → Bool
-has_too_many p from every = nat_lt (10000000 / rows_in_step p) ((p.end - from) / every + 1)
-
 -- with the table, or alone
 abbrev pub plan_with : Bool → ℕ → ℕ → FiguresPlan
 plan_with true from every = Series from every
 plan_with false from every = Both from every
 
-abbrev pub plan_by : Bool → ScenarioParts → ℕ → Result (Option ℕ) FiguresFault → Result FiguresPlan FiguresFault
-plan_by series p from (Err fault) = Err fault
-plan_by series p from (Ok None) = Ok (Table from)
-plan_by series p from (Ok (Some every)) = if has_too_many p from every then Err TooManyRows else Ok (plan_with series from every)
+abbrev pub plan_by : Bool → ℕ → Result (Option ℕ) FiguresFault → Result FiguresPlan FiguresFault
+plan_by series from (Err fault) = Err fault
+plan_by series from (Ok None) = Ok (Table from)
+plan_by series from (Ok (Some every)) = Ok (plan_with series from every)
 
-abbrev pub plan_from : Counting → ScenarioParts → Option ℕ → Result FiguresPlan FiguresFault
-plan_from counting p None = Err NoMoment
-plan_from counting p (Some from) = plan_by counting.series p from (step_from counting.every counting.series)
+abbrev pub plan_from : Counting → Option ℕ → Result FiguresPlan FiguresFault
+plan_from counting None = Err NoMoment
+plan_from counting (Some from) = plan_by counting.series from (step_from counting.every counting.series)
 
 -- what is written, or why nothing is
-abbrev pub plan_of : Counting → ScenarioParts → Result FiguresPlan FiguresFault
-plan_of counting p = plan_from counting p (moment_from counting.from)
+abbrev pub plan_of : Counting → Result FiguresPlan FiguresFault
+plan_of counting = plan_from counting (moment_from counting.from)
 
 -- steps have a length, and all times are moments
 abbrev pub IsSoundPlan : FiguresPlan → Type 0

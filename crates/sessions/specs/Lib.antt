@@ -13,6 +13,7 @@ pub mod Groups
 pub mod Nodes
 pub mod FiguresOutput
 pub mod FiguresPlan
+pub mod RowLimit
 pub mod NameColumns
 pub mod Input
 pub mod Namings

@@ -95,7 +95,7 @@ impl fmt::Display for SessionFault {
                 "error: --every takes a time above 0, as 1.5s or 20ms, and --series wants --every\n",
             ),
             SessionFault::Figures(FiguresFault::TooManyRows) => f.write_str(
-                "error: more than 10000000 rows up to the scenario's end; --every takes a longer step\n",
+                "error: more than 10000000 rows; --every takes a longer step\n",
             ),
             SessionFault::ReadFailed => f.write_str("read failed\n"),
             SessionFault::CannotRead(file) => write!(f, "cannot read {file}\n"),

@@ -1,7 +1,7 @@
 //! Why figures that are asked for cannot be.
 
 /// Why figures that are asked for cannot be.
-#[derive(Clone, Copy, Debug, PartialEq, Eq)]
+#[derive(Clone, Copy, Debug)]
 pub enum FiguresFault {
     /// What the command line names as the moment from which on is counted is none.
     NoMoment,

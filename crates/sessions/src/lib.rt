@@ -26,6 +26,7 @@ mod progress;
 mod prompt;
 mod refused_line;
 mod rest;
+mod row_limit;
 mod run;
 pub mod scenario_input;
 mod series;

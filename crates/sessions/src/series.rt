@@ -24,7 +24,7 @@ use std::alloc::Global;
 use window_engine::Sink;
 
 /// Steps of the same length.
-#[derive(Clone, Copy, Debug, PartialEq, Eq)]
+#[derive(Clone, Copy)]
 pub(crate) struct RowSteps {
     /// When the first begins, in nanoseconds.
     pub from: Time,
