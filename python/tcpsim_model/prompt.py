@@ -32,7 +32,7 @@ from tcpsim_model.naming import Names, names_in, names_told
 from tcpsim_model.scenario import Refused
 from tcpsim_model.simulate import line_text
 from tcpsim_model.text import FLOW, LINK, NODE, NUMBER
-from tcpsim_model.texts import EXPECTED_TOLD, THERE_TOLD, elsewhere, help_in, last_of_help, topics_in, words_there
+from tcpsim_model.texts import EXPECTED_TOLD, THERE_TOLD, USES_TOLD, elsewhere, help_in, last_of_help, topics_in, words_there
 from tcpsim_model.waits import why
 
 STEPS = 14
@@ -124,7 +124,7 @@ class Prompt:
             return (self.other_sort(words) if code == 'B3' else '') + self.expected(words[1:])
         if code == 'B3' and name in NUMBERED:
             return self.other_sort(words) + self.numbers(words[0])
-        told = THERE_TOLD.get((code, name))
+        told = THERE_TOLD.get((code, name)) or code == 'B2' and USES_TOLD.get(name)
         return f'tcpsim: {told}\n' if told else ''
 
     def expected(self, words):

@@ -123,6 +123,16 @@ THERE_TOLD = {
     ('B5', b'delete'): 'breaks lists the breakpoints with their numbers',
     ('B5', b'undisplay'): 'display lists the displays with their numbers',
 }
+# The same of a command that lacks a word, or has one too many.
+USES_TOLD = {
+    b'until': UNITS_TOLD,
+    b'goto': UNITS_TOLD,
+    b'state': THERE_TOLD['B1', b'state'],
+    b'delete': THERE_TOLD['B5', b'delete'],
+    b'undisplay': THERE_TOLD['B5', b'undisplay'],
+    b'why': 'why F tells what flow F waits for, as why 0: see help why',
+    b'stalls': 'stalls lists those of all flows, and stands alone: see help stalls',
+}
 
 
 def later(of, steps):

@@ -135,6 +135,9 @@ EXPECTED = {
     'display': None, 'display foo': DISPLAYS, 'display cwnd': DISPLAYS, 'display cwnd x': THERE_ARE, 'state f': 'parts of a state are node N,',
     'help foo': 'help is of a command, or of numbers, trace, kinds, stall, values: see help', 'until 1.5': UNITS, 'goto 1.5': UNITS,
     'delete 9': 'breaks lists the breakpoints', 'undisplay 9': 'display lists the displays', 'break stall 0 0': None, 'delete x': None, 'step x': None,
+    'why': 'why F tells what flow F waits for, as why 0: see help why', 'why 0 0': 'why F tells', 'until': UNITS, 'until 1 s': UNITS, 'goto': UNITS,
+    'stalls f': 'stalls lists those of all flows, and stands alone: see help stalls', 'state node': 'parts of a state are node N,',
+    'delete': 'breaks lists the breakpoints', 'undisplay 1 2': 'display lists the displays', 'step 1 2': None, 'run 1': None, 'names f': None,
 }
 
 

@@ -57,6 +57,11 @@ const BREAKS: &str = "tcpsim: breaks lists the breakpoints with their numbers";
 
 const DISPLAYED: &str = "tcpsim: display lists the displays with their numbers";
 
+/// How `why` and `stalls` are used.
+const WHY: &str = "tcpsim: why F tells what flow F waits for, as why 0: see help why";
+
+const STALLS: &str = "tcpsim: stalls lists those of all flows, and stands alone: see help stalls";
+
 /// What does here what a word does in other debuggers.
 fn of_other_debuggers(word: &[u8]) -> Option<&'static str> {
     if word.is_empty() {
@@ -175,7 +180,11 @@ fn tell_words<N: Notes>(naming: &Naming, line: &[u8], notes: &mut N) {
     match command_begun(line) {
         Some(CommandName::Break) => tell_expected(naming, line, notes),
         Some(CommandName::Display) => notes.refusal_means(DISPLAYS),
-        _ => {}
+        Some(CommandName::State) => notes.refusal_means(PARTS),
+        Some(CommandName::Until) | Some(CommandName::Goto) => notes.refusal_means(UNITS),
+        Some(CommandName::Why) => notes.refusal_means(WHY),
+        Some(CommandName::Stalls) => notes.refusal_means(STALLS),
+        _ => tell_lists(line, notes),
     }
 }
 
