@@ -242,11 +242,7 @@ fn power_of_exponent(unit: &[u8]) -> Option<u32> {
         return None;
     }
     let power = read_number(digits)?.digits;
-    if power < 20 {
-        Some(power as u32)
-    } else {
-        None
-    }
+    if power < 20 { Some(power as u32) } else { None }
 }
 
 /// The power of ten of what is behind a number's digits.
