@@ -12,6 +12,8 @@ import contextlib
 import itertools
 import os
 import re
+import select
+import signal
 import subprocess
 import sys
 import tempfile
@@ -230,6 +232,51 @@ class Running:
             raise ProgramFailed(status, self._note.read(1 << 16), self._process.args[0])
 
 
+class Spawned:
+    """A program's process, with what `Running` wants of it. It costs a third of subprocess.Popen, which counts where a sweep has thousands
+    of runs of some ms: it is spawned, and its end is waited for by a descriptor."""
+
+    def __init__(self, words: list[str], given: BinaryIO, note: BinaryIO):
+        self.args, self.returncode = words, None
+        read, write = os.pipe()
+        try:
+            files = [(os.POSIX_SPAWN_DUP2, number, to) for to, number in enumerate((given.fileno(), write, note.fileno()))]
+            self.pid = os.posix_spawn(words[0], words, os.environ, file_actions=files, setsigmask=(), setsigdef=(signal.SIGPIPE, signal.SIGXFSZ))
+        except BaseException:
+            os.close(read)
+            raise
+        finally:
+            os.close(write)
+        self.stdout = open(read, 'rb', 0)
+
+    def wait(self, patience: float | None = None) -> int:
+        """The status once it has ended; subprocess.TimeoutExpired where it does not within so many seconds."""
+        if self.returncode is None and patience is not None:
+            descriptor = os.pidfd_open(self.pid)
+            try:
+                if not select.select([descriptor], [], [], patience)[0]:
+                    raise subprocess.TimeoutExpired(self.args, patience)
+            finally:
+                os.close(descriptor)
+        if self.returncode is None:
+            self.returncode = os.waitstatus_to_exitcode(os.waitpid(self.pid, 0)[1])
+        return self.returncode
+
+    def kill(self) -> None:
+        """Ends it, where it still runs."""
+        if self.returncode is None:
+            os.kill(self.pid, signal.SIGKILL)
+
+    def __enter__(self) -> Spawned:
+        return self
+
+    def __exit__(self, *_) -> None:
+        self.wait()
+
+
+SPAWNS = all(hasattr(os, name) for name in ('pidfd_open', 'posix_spawn'))
+
+
 @contextlib.contextmanager
 def running(words: list[str], source: bytes, first: Callable[[], None] | None = None) -> Iterator[Running]:
     """Runs a program on the bytes of a scenario, and ends it where not all that it writes is wanted. Its input and its
@@ -238,7 +285,8 @@ def running(words: list[str], source: bytes, first: Callable[[], None] | None = 
         with named(tempfile.gettempdir()):
             given.write(source)
             given.seek(0)
-        with subprocess.Popen(words, stdin=given, stdout=subprocess.PIPE, stderr=note, bufsize=0, preexec_fn=first) as process:
+        with (Spawned(words, given, note) if SPAWNS and not first else
+              subprocess.Popen(words, stdin=given, stdout=subprocess.PIPE, stderr=note, bufsize=0, preexec_fn=first)) as process:
             PROGRAMS.append(process)
             program = Running(process, note)
             try:

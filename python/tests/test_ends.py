@@ -332,7 +332,7 @@ def waiting(tool, place, path, **more):
         if path.exists():
             path.unlink()
         os.mkfifo(path)
-    elif tool in ('sweep', 'diff'):
+    elif tool in ('sweep', 'find', 'diff'):
         program = place / 'sleeps'
         program.write_text('#!/bin/sh\nexec sleep 100\n')
         program.chmod(0o755)
@@ -348,7 +348,7 @@ def waiting(tool, place, path, **more):
         while time.monotonic() < until and not (hears(process.pid) and (
                 tool == 'net' or any(name.endswith('.part') for name in os.listdir(path.parent)))):
             time.sleep(0.02)
-        time.sleep(0.7 if tool in ('sweep', 'diff', 'net') else 0.1)
+        time.sleep(0.7 if tool in ('sweep', 'find', 'diff', 'net') else 0.1)
         yield process
     finally:
         for each in session(process.pid):

@@ -5,12 +5,13 @@ f0+f1.goodput, and `*` is every flow or link that has the figure. Nothing but Py
 """
 from __future__ import annotations
 
+import functools
 from collections.abc import Callable, Iterator
 from typing import NamedTuple, Optional
 
 from tcpsim.command_line import Wrong
 from tcpsim.engine import BUSY, WAITED, EngineRun
-from tcpsim.fairness import compared, index, jain
+from tcpsim.fairness import Compared, compared, jain
 from tcpsim.figures import Figures, part
 from tcpsim.scenario.text import Scenario
 from tcpsim.scenario.units import BITS_NS
@@ -137,10 +138,21 @@ LINK = {
 FIGURE_SENT = LINK['sent'].table
 
 
+@functools.lru_cache(maxsize=1)
+def compared_of(run: EngineRun | Figures) -> Compared:
+    """The flows that are compared; several figures of a run want them."""
+    return compared(run)
+
+
 def timeouts(run: EngineRun | Figures, of_mice: bool) -> int:
     """The timeouts of all mice, or of all other flows."""
-    read, mice = FLOW['timeouts'].trace if isinstance(run, Figures) else FLOW['timeouts'].table, compared(run).mice
+    read, mice = FLOW['timeouts'].trace if isinstance(run, Figures) else FLOW['timeouts'].table, compared_of(run).mice
     return sum(read(run, number) for number in range(len(run.flows)) if (number in mice) == of_mice)
+
+
+def jain_of(run: EngineRun | Figures) -> Count:
+    """Jain's index of the flows that are compared."""
+    return jain([run.goodput(number) for number in compared_of(run).flows])
 
 
 def table_loss(run: EngineRun, _number: int) -> Count:
@@ -152,8 +164,8 @@ def table_loss(run: EngineRun, _number: int) -> Count:
 RUN = {
     'goodput': Quantity('bit_s', lambda run, _: sum(flow['delivered', 'bytes'] for flow in run.flows) * BITS_NS / (run.end - run.begin),
                       lambda run, _: sum(flow.delivered() for flow in run.flows) * BITS_NS / (run.end - run.begin)),
-    'jain': Quantity('index', lambda run, _: index(run), lambda run, _: index(run)),
-    'jain_flows': Quantity('flows', lambda run, _: len(compared(run).flows), lambda run, _: len(compared(run).flows)),
+    'jain': Quantity('index', lambda run, _: jain_of(run), lambda run, _: jain_of(run)),
+    'jain_flows': Quantity('flows', lambda run, _: len(compared_of(run).flows), lambda run, _: len(compared_of(run).flows)),
     'timeouts': Quantity('times', lambda run, _: timeouts(run, False), lambda run, _: timeouts(run, False)),
     'mice_timeouts': Quantity('times', lambda run, _: timeouts(run, True), lambda run, _: timeouts(run, True)),
     'loss': Quantity('percent', None, lambda run, _: percent(part(sum(data_lost(run, n) for n in range(len(run.flows))),

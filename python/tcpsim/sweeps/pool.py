@@ -2,16 +2,15 @@
 from __future__ import annotations
 
 import contextlib
+import itertools
 import os
 import signal
 import sys
 import threading
 import time as clock
 from collections.abc import Callable, Iterable, Iterator, Sequence
-from concurrent.futures import ProcessPoolExecutor, as_completed
-from concurrent.futures.process import BrokenProcessPool
 from multiprocessing import active_children, get_context
-from multiprocessing.connection import wait
+from multiprocessing.connection import Connection, wait
 from multiprocessing.process import BaseProcess
 from types import FrameType
 
@@ -23,25 +22,27 @@ from tcpsim.whole_trace import PROGRAMS
 
 # What runs points: of a grid and the numbers of points it yields the number and the figures of each as it ends.
 Runner = Callable[[Grid, Sequence[int]], Iterator[tuple[int, dict]]]
+FORK = get_context('fork')
 
 
-GRID = []                       # that of a worker
+AHEAD = 2                       # points that a worker has: the next one waits while it runs one
 
 
-def begin_worker(ends: tuple[int, int], grid: Grid) -> None:
-    """A signal ends a worker at once, with its program; and so does the end of its parent. `ends` are those of a pipe
-    into which nobody writes: once the parent is gone, it is at its end."""
-    GRID.append(grid)
+def work(ends: tuple[int, int], grid: Grid, pipe: Connection) -> None:
+    """A worker: answers through a pipe the values of each point's row whose number comes through it, until None comes. A signal ends
+    it at once, with its program; and so does the end of its parent. `ends` are those of a pipe into which nobody writes: once the
+    parent is gone, it is at its end."""
     os.close(ends[1])
     for number in ENDS:
         signal.signal(number, end_worker)
     signal.pthread_sigmask(signal.SIG_UNBLOCK, ENDS)
     threading.Thread(target=end_with_parent, args=(ends[0],), daemon=True).start()
-
-
-def run_in_worker(number: int) -> dict[str, object]:
-    """The values of a point's row, by a worker, which has the grid."""
-    return GRID[0].run(number)
+    while (number := pipe.recv()) is not None:
+        try:
+            figures = grid.run(number)
+        except Exception as wrong:          # the parent raises it
+            figures = wrong
+        pipe.send((number, figures))
 
 
 def end_with_parent(pipe: int) -> None:
@@ -86,24 +87,43 @@ def rows_of(grid: Grid, numbers: Sequence[int], jobs: int) -> Iterator[tuple[int
         for number in numbers:
             yield number, grid.run(number)
         return
-    ends, others = os.pipe(), set(active_children())
-    pool = ProcessPoolExecutor(min(jobs, len(numbers)), get_context('fork'), begin_worker, (ends, grid))
+    ends, others, pipes, waiting = os.pipe(), set(active_children()), [], iter(numbers)
     try:
-        runs = {}
-        for number in numbers:
-            with output.held_back(ENDS if not runs else ()):        # the first makes the workers
-                runs[pool.submit(run_in_worker, number)] = number
-        for done in as_completed(runs):
-            yield runs[done], done.result()
+        with output.held_back(ENDS):
+            for _ in range(min(jobs, len(numbers))):
+                pipe, its = FORK.Pipe()
+                pipes.append(pipe)
+                FORK.Process(target=work, args=(ends, grid, its), daemon=True).start()
+                its.close()             # the worker alone has this end, so that its own end is heard
+        for pipe in pipes * AHEAD:
+            send_next(pipe, waiting)
+        for _ in numbers:
+            pipe, = wait(pipes)[:1]
+            number, figures = pipe.recv()
+            send_next(pipe, waiting)
+            if isinstance(figures, Exception):
+                raise figures
+            yield number, figures
+        for pipe in pipes:
+            pipe.send(None)
+        for worker in set(active_children()) - others:
+            worker.join()
     except BaseException as wrong:
         end_workers(set(active_children()) - others)
-        if isinstance(wrong, BrokenProcessPool):
+        if isinstance(wrong, (EOFError, ConnectionError)):
             raise Refused('a run\'s process was ended from outside') from wrong
         raise
     finally:
-        pool.shutdown(cancel_futures=True)
+        for pipe in pipes:
+            pipe.close()
         for end in ends:
             os.close(end)
+
+
+def send_next(pipe: Connection, waiting: Iterator[int]) -> None:
+    """Sends a worker the next point, if there is one."""
+    for number in itertools.islice(waiting, 1):
+        pipe.send(number)
 
 
 class Progress:
