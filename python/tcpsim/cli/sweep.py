@@ -109,8 +109,8 @@ def grid_of(given: argparse.Namespace, text: str, program: str, number: int | No
         number = format_of(program) if matters else 1
     asked = AskedOfRun(program, link, given.skip, columns, given.exact, number, digest_of(program))
     asked.check()
-    if given.engine and asked.wants_trace():
-        raise Wrong(f'--engine reads no trace, and {asked.wants_trace()[0]} wants one{" from this moment on" if given.skip else ""}: leave '
+    if given.engine and (wanted := asked.wants_trace() + [column.name for column in asked.wants_path()]):
+        raise Wrong(f'--engine reads no trace, and {wanted[0]} wants one{" from this moment on" if given.skip else ""}: leave '
                     '--engine out')
     grid = Grid(pattern, settings, asked)
     if given.pair:
@@ -247,7 +247,7 @@ def grid_to_run(given: argparse.Namespace, text: str, numbers: Callable[[Grid], 
 
 def say_traces(grid: Grid) -> None:
     """Says on standard error for which columns a trace of each run is read."""
-    wanted = grid.asked.wants_trace()
+    wanted = grid.asked.wants_trace() + [column.name for column in grid.asked.wants_path()]
     if wanted and not grid.asked.exact:
         why = 'no table has them' if grid.asked.format > 1 or not grid.asked.skip else 'this program has no `figures --from`'
         note(f'{tool()}: each run\'s trace is read, for {", ".join(wanted[:8])}: {why}')

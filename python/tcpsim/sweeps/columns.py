@@ -9,7 +9,9 @@ import functools
 from collections.abc import Callable, Iterator
 from typing import NamedTuple, Optional
 
+from tcpsim.breakdown import Breakdown
 from tcpsim.command_line import Wrong
+from tcpsim.critical_path import DELAY, PROPAGATION, QUEUE, SERIALIZATION, TIMER
 from tcpsim.engine import BUSY, WAITED, EngineRun
 from tcpsim.fairness import Compared, compared, jain
 from tcpsim.figures import Figures, part
@@ -29,13 +31,15 @@ WORDLESS = 'times', 'events', 'index', 'packets', 'segments', 'mean_packets', 'f
 
 class Quantity(NamedTuple):
     """A figure of a flow, a link or the run. It is read from the program's table, of whose format it wants this number, or
-    from a trace; None where one of them lacks it. `joins` gives that of several flows or links, as a sum."""
+    from a trace; None where one of them lacks it. `joins` gives that of several flows or links, as a sum. `path` reads it from where a flow's
+    time went, which a further pass over the trace finds."""
 
     unit: str
     table: Callable[[EngineRun, int], Count] | None
     trace: Callable[[Figures, int], Count] | None
     joins: Callable[[list], Count] | None = None
     since: int = 1
+    path: Callable[[Breakdown], Count] | None = None
 
 
 def percent(of: Count) -> Count:
@@ -91,6 +95,15 @@ def took(start: int, completed: int | None) -> int | None:
     return None if completed is None else completed - start
 
 
+# The parts of a flow's time by their names in columns: of which kinds of parts each is the sum, and all of none.
+TIMES = {'queue': (QUEUE,), 'rto': (TIMER,), 'delack': (DELAY,), 'serialization': (SERIALIZATION,), 'propagation': (PROPAGATION,), 'total': ()}
+
+
+def time_of(*kinds: str) -> Callable[[Breakdown], Count]:
+    """How long the parts of these kinds are together, of a flow's time to its last new acknowledgement; None where it has none."""
+    return lambda found: sum(ns for part, ns in found.path.parts().items() if not kinds or part.kind in kinds) if found.path.acknowledged else None
+
+
 FLOW = {
     'goodput': Quantity('bit_s', lambda run, n: run.goodput(n), lambda run, n: run.goodput(n), sum),
     'jain': Quantity('index', lambda run, n: run.goodput(n), lambda run, n: run.goodput(n), jain),
@@ -111,6 +124,7 @@ FLOW = {
     'rtt_max': Quantity('ns', of_flow(('greatest round trip', 'ns')), None),
     'trip_min': Quantity('ns', None, lambda run, n: run.trips[n].least()),
     'trip50': Quantity('ns', None, trips(50)), 'trip95': Quantity('ns', None, trips(95)), 'trip99': Quantity('ns', None, trips(99)),
+    **{f'time.{name}': Quantity('ns', None, None, path=time_of(*kinds)) for name, kinds in TIMES.items()},
     'loss': Quantity('percent', None, lambda run, n: percent(part(data_lost(run, n), run.flows[n].sent()))),
     'share': Quantity('percent', None, lambda run, n: percent(share_of(run, n))),
 }
@@ -186,7 +200,7 @@ class ShownFigure(NamedTuple):
     @property
     def figure(self) -> Quantity:
         """What it is."""
-        return SORTS[self.sort][self.name.rpartition('.')[2]]
+        return SORTS[self.sort][split_name(self.name)[1]]
 
     @property
     def title(self) -> str:
@@ -201,6 +215,10 @@ class ShownFigure(NamedTuple):
     def by_table(self, number: int, skip: int) -> bool:
         """Whether a table of this number has it, from a moment on."""
         return self.figure.table is not None and number >= max(self.figure.since, FROM if skip else 1)
+
+    def path_value(self, found: dict[str, Breakdown]) -> Count:
+        """Its value, of where the time of each flow went, by the flows' names."""
+        return self.figure.path(found[self.names[0]]) if self.names[0] in found else None
 
     def value(self, run: EngineRun | Figures, scenario: Scenario) -> Count:
         """Its value in a run."""
@@ -221,10 +239,16 @@ def columns_of(words: str, pattern: Pattern, option: str = '--show') -> list[Sho
     return found
 
 
+def split_name(word: str) -> tuple[str, str]:
+    """Of NAME.FIGURE both parts; a figure of a flow's time has a dot too, as f2.time.queue."""
+    of, _, figure = word.rpartition('.')
+    return (of.removesuffix('.time'), f'time.{figure}') if of.endswith('.time') else (of, figure)
+
+
 def named(word: str, pattern: Pattern, option: str) -> Iterator[ShownFigure]:
     """The columns of NAME.FIGURE."""
-    of, dot, figure = word.rpartition('.')
-    if not dot or not of or not figure:
+    of, figure = split_name(word)
+    if not of or not figure:
         raise Wrong(f'{option} {word!r}: write FLOW.FIGURE, LINK.FIGURE or run.FIGURE, as {example(pattern)}')
     if word == '*.jain':
         yield ShownFigure(word, 'flow', tuple(pattern.named('flow')))

@@ -13,7 +13,9 @@ import subprocess
 from collections.abc import Callable, Iterable, Mapping, Sequence
 from typing import NamedTuple
 
+from tcpsim.breakdown import Breakdown
 from tcpsim.command_line import Refused, Wrong
+from tcpsim.critical_path import critical_paths
 from tcpsim.engine import BUSY, LAST_ROW, EngineRun, written_table
 from tcpsim.figures import Figures
 from tcpsim.program import is_model
@@ -68,12 +70,19 @@ class AskedOfRun(NamedTuple):
         """The columns that need a trace."""
         if not self.columns:
             return [] if self.wants_table() else list(FIGURES)
-        return [column.name for column in self.columns if not self.by_table(column)]
+        return [column.name for column in self.columns if not self.by_table(column) and not column.figure.path]
+
+    def wants_path(self) -> list[ShownFigure]:
+        """The columns for which a further pass over a trace finds where the time of flows went."""
+        return [column for column in self.columns if column.figure.path]
 
     def check(self) -> None:
         """Wrong where a column stands neither in this program's table nor in a trace."""
         for column in self.columns:
-            if not self.by_table(column) and column.figure.trace is None:
+            if column.figure.path:
+                if self.skip:
+                    raise Wrong(f'--show {column.name}: it is of the whole time of a flow, from its start on: leave --skip out')
+            elif not self.by_table(column) and column.figure.trace is None:
                 why = '--exact reads traces' if self.exact else f'from {spelled_time(self.skip)} on' if self.skip else 'so far'
                 raise Wrong(f'--show {column.name}: {why}, and no trace has it; it is of the tables of a program that prints '
                             f'`figures {FROM}` with --version, and this one prints `figures {self.format}`' if not self.exact else
@@ -145,6 +154,9 @@ def row_of(text: str, asked: AskedOfRun) -> dict[str, object]:
         if asked.wants_trace():
             with running([asked.program, 'run'], text.encode('latin-1')) as process:
                 row.update(values_of(trace_figures(text, process, asked.skip), asked))
+        if asked.wants_path():
+            with running([asked.program, 'run'], text.encode('latin-1')) as process:
+                row.update(path_values(Scenario(text), blocks(process.read, 'the program\'s trace', Scenario(text), ended=process.check), asked))
         return row
     except ProgramFailed as wrong:
         return {'status': wrong.note or str(wrong)}
@@ -167,6 +179,8 @@ def own_row(text: str, asked: AskedOfRun) -> dict[str, object]:
             row.update(values_of(RunFrom(scenario, run.table(asked.skip), asked.skip), asked))
         if asked.wants_trace():
             row.update(values_of(Figures(scenario, (line.rstrip('\n') for line in run.pieces()), asked.skip or None), asked))
+        if asked.wants_path():
+            row.update(path_values(scenario, ([line.rstrip('\n')] for line in run.pieces()), asked))
         return row
     except TextRefused as wrong:
         return {'status': f'refused {wrong.code} line {wrong.line}'}
@@ -185,11 +199,20 @@ def trace_figures(text: str, process: Running, skip: int) -> Figures:
     return Figures(scenario, itertools.chain.from_iterable(lines), skip or None)
 
 
+def path_values(scenario: Scenario, lines: Iterable[list[str]], asked: AskedOfRun) -> dict[str, object]:
+    """Where the time of flows went, as far as it is asked for."""
+    numbers = {flow.name: number for number, flow in enumerate(scenario.flows) if any(flow.name in each.names for each in asked.wants_path())}
+    walk = critical_paths(scenario, itertools.chain.from_iterable(lines), list(numbers.values()))
+    found = {name: Breakdown(walk, number) for name, number in numbers.items()}
+    return {column.title: column.path_value(found) for column in asked.wants_path()}
+
+
 def values_of(run: Figures | EngineRun, asked: AskedOfRun) -> dict[str, object]:
     """The figures that this run has of what is asked."""
     traced = isinstance(run, Figures)
     if asked.columns:
-        return {column.title: column.value(run, run.scenario) for column in asked.columns if asked.by_table(column) != traced}
+        return {column.title: column.value(run, run.scenario) for column in asked.columns
+                if not column.figure.path and asked.by_table(column) != traced}
     at = link_of(run, asked.link)
 
     def figure(of, number=0):
