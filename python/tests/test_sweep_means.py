@@ -14,7 +14,7 @@ import pytest
 
 import clone
 import tcpsim
-from clone import BIN, PROGRAM
+from clone import BIN, PROGRAM, TOP
 from tcpsim.cli import net
 from tcpsim.command_line import Wrong
 from tcpsim.sweeps.columns import FLOW, FROM, LINK, RUN, columns_of
@@ -411,3 +411,20 @@ def test_frames(hand):
 
 if __name__ == '__main__':
     sys.exit(pytest.main([__file__, '-q', *sys.argv[1:]]))
+
+
+def test_where_the_time_went():
+    """The parts are those of tcpsim-time, for each value; the whole is what the flow took."""
+    scenario = os.path.join(TOP, 'examples', 'two_timeouts_in_a_row.txt')
+    names = ['queue', 'rto', 'delack', 'serialization', 'propagation']
+    done = subprocess.run([sys.executable, SWEEP, scenario, '--set', 'a.lose=none,5,5+6', '--csv', '--show',
+                           ','.join(['f.took', 'f.time.total', *(f'f.time.{name}' for name in names)]), '--program', PROGRAM],
+                          capture_output=True, text=True, check=True)
+    assert 'each run\'s trace is read, for f.time.total, f.time.queue' in done.stderr
+    for row in csv.DictReader(io.StringIO(done.stdout)):
+        assert row['f.took_ns'] == row['f.time.total_ns'] == str(sum(int(row[f'f.time.{name}_ns']) for name in names))
+    assert int(row['f.time.rto_ns']) > .99 * int(row['f.took_ns'])
+    for more, why in ((['--skip', '1s'], 'leave --skip out'), (['--engine'], '--engine reads no trace')):
+        done = subprocess.run([sys.executable, SWEEP, scenario, '--show', 'f.time.rto', *more, '--program', PROGRAM], capture_output=True, text=True,
+                              check=False)
+        assert done.returncode == 2 and why in done.stderr
