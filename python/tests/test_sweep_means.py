@@ -423,7 +423,7 @@ def test_where_the_time_went():
     assert 'each run\'s trace is read, for f.time.total, f.time.queue' in done.stderr
     for row in csv.DictReader(io.StringIO(done.stdout)):
         assert row['f.took_ns'] == row['f.time.total_ns'] == str(sum(int(row[f'f.time.{name}_ns']) for name in names))
-    assert int(row['f.time.rto_ns']) > .99 * int(row['f.took_ns'])
+    assert int(row['f.time.rto_ns']) > .98 * int(row['f.took_ns'])
     for more, why in ((['--skip', '1s'], 'leave --skip out'), (['--engine'], '--engine reads no trace')):
         done = subprocess.run([sys.executable, SWEEP, scenario, '--show', 'f.time.rto', *more, '--program', PROGRAM], capture_output=True, text=True,
                               check=False)
