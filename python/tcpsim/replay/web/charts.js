@@ -146,7 +146,7 @@ class Chart {
       const axis = this.axes.append('g').attr('class', 'axis').call(d3.svg.axis().scale(y).orient('left').tickSize(4)
         .tickValues(y.ticks(rows).filter(value => !this.whole || Number.isInteger(value))).tickFormat(value => value < 1 ? String(value) : d3.format('s')(value)));
       // Below another lane its highest label would lie over that one's lowest.
-      axis.selectAll('text').filter(value => value && y(value) < from + (k ? 0.9 : 0.33) * this.letters).remove();
+      axis.selectAll('text').filter(value => value && y(value) < from + (k ? 0.9 : 0.6) * this.letters).remove();
     });
     const left = Math.max(CHART.left, widestOf(this.axes) + BESIDE_AXIS);
     if (left !== this.leftOf) { this.layTime(left); this.mark(this.time); }

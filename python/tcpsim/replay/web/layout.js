@@ -10,7 +10,7 @@ const LINE_TALL = 12, EDGE_OF_ROW = 3;       // LINE_TALL: of a line of words
 // `upper`, `lower` to its queues, `name` and `dropped` to its name and what was dropped, `reach` of a stub to the ends of its counts;
 // `kinds` says whether a node has its kind.
 const ON_PAGE = {edge: 8, round: 12, row: 109, beside: 9, least: 245, mostName: 240, end: 36, beyond: 24, router: 46, node: 58, kinds: true, counts: 'beside',
-  stub: {tall: 22, length: 36, upper: -30, lower: 16, row: 32, reach: [27, 29], node: 30}, upper: -39, lower: 20, name: -42, dropped: 48, reason: 16, offNode: 14, kindSize: 12, down: -2.5, mark: 9, between: 1};
+  stub: {tall: 22, length: 36, upper: -33, lower: 17, row: 34, reach: [33, 31], node: 30}, upper: -39, lower: 20, name: -42, dropped: 48, reason: 16, offNode: 14, kindSize: 12, down: -2.5, mark: 9, between: 1};
 // No letter is smaller than another, and what holds a flow's mark is as wide as that. On a slide, or where a page's net has no room,
 // links are shorter; where it is long, their ends keep their words above each other.
 const ON_SLIDE = {...ON_PAGE, round: 8, least: 150, mostName: 170, mark: 11, between: 3};
