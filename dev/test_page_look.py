@@ -217,7 +217,7 @@ def test_borders_move(sized, made):
     drawn = browser.json('[page.net.svg.node().viewBox.baseVal.width * page.net.pixels, Object.values(page.panels.charts)[0].wide]')
     assert drawn[0] == pytest.approx(panes[0][0], abs=2) and drawn[1] <= panes[1][0]
     browser.reload()
-    browser.wait('document.documentElement.dataset.ready && window.page')
+    browser.wait('!!window.page && document.documentElement.dataset.ready')
     assert widths(browser)[0] == pytest.approx(moved[0], abs=2)
     browser.value('document.getElementById("border-left").dispatchEvent(new MouseEvent("dblclick"))')
     assert widths(browser)[0] == pytest.approx(usual[0], abs=2)
