@@ -155,6 +155,8 @@ def test_by_the_keyboard_alone(calm):
     press(browser, 'ArrowRight')
     assert browser.value('document.activeElement.dataset.tab') == 'stalls'
     press(browser, 'ArrowRight')
+    assert browser.value('document.activeElement.dataset.tab') == 'time'
+    press(browser, 'ArrowRight')
     tab_to(browser, '.lines')
     press(browser, 'ArrowDown', 'ArrowDown', 'ArrowDown')
     assert browser.value('page.record.at') == 4
