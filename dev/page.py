@@ -29,7 +29,7 @@ from tcpsim.scenario import units
 
 WEB = os.path.join(TOP, 'page', 'web')
 SCRIPTS = ('engine.js', 'scenario.js', 'units.js', 'shapes.js', 'hints.js', 'editor.js', 'drag.js', 'fairness.js', 'figures.js', 'stall_list.js', 'trace_list.js', 'completion.js', 'prompt.js', 'lessons.js',
-           'net_text.js', 'template_form.js', 'compare.js', 'share.js', 'picture.js', 'save.js', 'lecture.js',
+           'net_text.js', 'template_form.js', 'parting.js', 'compare.js', 'share.js', 'picture.js', 'save.js', 'lecture.js',
            'panes.js', 'simulator.js')
 EXAMPLES = os.path.join(TOP, 'examples')
 GRAMMAR = os.path.join(TOP, 'editors', 'vscode', 'syntaxes', 'tcpsim.tmLanguage.json')

@@ -6,9 +6,13 @@ import json
 import os
 import sys
 
-sys.path.insert(0, os.path.dirname(os.path.abspath(__file__)))
+import pytest
+
+sys.path[:0] = [os.path.dirname(os.path.abspath(__file__)), os.path.join(os.path.dirname(os.path.dirname(os.path.abspath(__file__))), 'python', 'tests')]
+from clone import PROGRAM, tool
 from page_cases import read
 from page_use import choose, element, look, pick, run, text_of, write
+from test_diff import drawn_pair
 
 pytest_plugins = 'page_fixtures'
 
@@ -119,3 +123,52 @@ def test_bdp_as_the_package_counts_it(chromium):
           return [line(withQueue(plain, facts, link, "droptail:BDP", ranges)), line(wanted)];
         }})()''')
         assert told[0] == told[1], told
+
+
+def told_by_the_tool(one, two, folder):
+    """The first line of tcpsim-diff."""
+    files = [folder / name for name in ('one.txt', 'two.txt')]
+    for file, text in zip(files, (one, two)):
+        file.write_text(text)
+    return tool('diff', *files, '--program', PROGRAM).stdout.decode().split('\n')[0]
+
+
+PARTING = '''(async texts => {
+  const records = [];
+  for (const text of texts) {
+    const record = new Record(factsOf(text, 'x'));
+    await fill(record, simulator.engine.start(['run'], toBytes(text), {read: true}).pieces);
+    records.push(record);
+  }
+  return partingText(...records, await partingOf(...records));
+})'''
+
+
+def test_where_two_runs_part(browser, tmp_path):
+    """The sentence is the tool's, and the button goes there in both nets."""
+    browser.size(1400, 900)
+    choose(browser, 'example bufferbloat')
+    browser.click(element('[data-tab=compare]'))
+    assert compare(browser, 'editor', 'example bufferbloat_with_codel') == ''
+    browser.wait('!document.getElementById("both-there").hidden')
+    texts = [read('examples', f'{name}.txt').decode() for name in ('bufferbloat', 'bufferbloat_with_codel')]
+    assert text_of(browser, '#both-parting') == told_by_the_tool(*texts, tmp_path) == \
+        'the same 487 events; at 0.332776 s link a begins to send data 38000 of f, there it is dropped (codel: after 125.9072ms)'
+    look(browser, 'compare_parting')
+    browser.click(element('#both-there'))
+    assert state(browser) == [332776000, 488, 488]
+    assert browser.json('simulator.compare.records[1].drops[0].event') == 488
+    # The greatest relative difference stands first.
+    rows = browser.json('[...document.querySelectorAll("#both-figures tbody tr")].map(row => row.cells[2].textContent + " " + row.cells[3].textContent)')
+    assert any(word.split()[0] in ('0', '-') or word.split()[-1] in ('0', '-') for word in rows[:1])
+    assert compare(browser, 'editor', 'editor') == ''
+    browser.wait('document.getElementById("both-parting").textContent === "the same 8,583 events"')
+    assert browser.value('document.getElementById("both-there").hidden')
+
+
+@pytest.mark.built
+def test_drawn_pairs_part_as_the_tool_says(chromium, tmp_path):
+    """Other queues, rates, losses, windows and ends, also with other numbers of nodes, links and flows."""
+    for seed in range(24):
+        pair = drawn_pair(seed)
+        assert chromium.json(f'({PARTING})({json.dumps(pair)})') == told_by_the_tool(*pair, tmp_path), seed

@@ -22,7 +22,8 @@ function withQueue(text, facts, link, word, ranges) {
   }).join('\n');
 }
 
-// The rows of two tables of figures that differ: {of, figure, unit, values}. A part that one run alone has differs too.
+// The rows of two tables of figures that differ: {of, figure, unit, values}, the greatest relative difference first. A part that one run
+// alone has differs too.
 function differing(tables, facts) {
   const rows = new Map();
   tables.forEach((csv, k) => readFigures(csv).forEach(({what, number, figure, unit, value}) => {
@@ -31,8 +32,10 @@ function differing(tables, facts) {
     if (!rows.has(key)) rows.set(key, {of: name, figure, unit, values: ['', '']});
     rows.get(key).values[k] = value;
   }));
-  return {all: rows.size, ones: [...rows.values()].filter(({values: [one, two]}) => one !== two)};
+  return {all: rows.size, ones: [...rows.values()].filter(({values: [one, two]}) => one !== two).sort((a, b) => relativeOf(b.values) - relativeOf(a.values))};
 }
+// The difference of two values as a part of the greater, 1 where a number lacks.
+function relativeOf([one, two]) { return /^-?\d+$/.test(one) && /^-?\d+$/.test(two) ? Math.abs(two - one) / Math.max(Math.abs(one), Math.abs(two)) : 1; }
 // What the second is beside the first, where both are numbers.
 function changeOf([one, two], unit) {
   if (!/^-?\d+$/.test(one) || !/^-?\d+$/.test(two)) return '';
@@ -157,6 +160,7 @@ class Compare {
     this.clock = new Clock(pages, {at: this.at, windows, told: time => { this.charts.forEach(chart => chart.mark(time)); this.lecture.simulator.note(); },
       listens: event => within(event) && !['SELECT', 'TEXTAREA'].includes(event.target.tagName)});
     this.drawFigures(runs);
+    this.sayParting(this.records, this.token);
     this.layNow();
     this.sized = new ResizeObserver(() => this.lay());
     this.sized.observe(this.at('charts'));
@@ -239,6 +243,14 @@ class Compare {
     const said = 'solid the first run, dashed the second';
     this.charts = [draw('windows', `cwnd in bytes: ${said}`, 'flows', flows, this.ticked('flows', flows, 2, colourOf), colourOf, (record, f) => record.curve(record.ofFlow(f, CWND))),
       draw('lengths', `packets that wait: ${said}`, 'links', links, this.ticked('links', links, 1, linkColourOf), linkColourOf, (record, l) => record.queueCurve(l))];
+  }
+  // Where the runs part, and a button that goes there in both nets.
+  async sayParting([one, two], token) {
+    const found = await partingOf(one, two), event = found.ours || found.theirs;
+    if (this.token !== token) return;
+    this.at('parting').textContent = partingText(one, two, found);
+    this.at('there').hidden = !event;
+    this.at('there').addEventListener('click', () => this.clock.jump(event.time));
   }
   drawFigures(runs) {
     const {ones, all} = differing(runs.map(run => run.csv), runs.map(run => run.record.facts)), table = document.createElement('table');
