@@ -39,7 +39,7 @@ class Clock {
   // The moments of each run at which something of a sort happens.
   moments(what) {
     return this.pages.flatMap(({record}) => ({
-      event: () => record.times.slice(1), drop: () => record.drops.map(drop => drop.time),
+      event: () => Array.from(record.times.subarray(1)), drop: () => record.drops.map(drop => drop.time),
       timeout: () => record.timeouts.map(event => record.timeOf(event)),
       stall: () => record.stalls.map(stall => stall.from)})[what]());
   }
