@@ -124,7 +124,7 @@ def test_a_slide_through_a_range(browser):
 
 
 def test_by_the_keyboard_alone(browser):
-    """Alt and the arrow keys at the cursor, from rung to rung."""
+    """Alt and the arrow keys at the cursor, from notch to notch."""
     choose(browser, 'example two_timeouts_in_a_row')
     text = browser.value('simulator.editor.text')
     assert run(browser).startswith('done in')

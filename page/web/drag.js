@@ -6,10 +6,10 @@
 const MOVED = {sim: {1: 'end'}, link: {4: 'rate', 5: 'delay', 7: 'capacity', 8: 'target', 9: 'interval', 10: 'maxpacket'},
   flow: {4: 'mss', 5: 'segments', 6: 'start', 7: 'rwnd', 8: 'delack'}, lose: {2: 'lose'}};
 const MOST_LOST = 1e9;                  // the greatest number of a `lose`
-// By how much a step goes, or else from rung to rung of 1, 2, 5, 10, ..; and how many pixels it is.
+// By how much a step goes, or else from notch to notch of 1, 2, 5, 10, ..; and how many pixels it is.
 const STEPS_OF = {capacity: 1, lose: 1, mss: 20, maxpacket: 20};
-const PIXELS = 4, PIXELS_OF_RUNG = 16;
-const LEAST_TIME = 1e6;                 // ns: the first rung above a time of 0
+const PIXELS = 4, PIXELS_OF_NOTCH = 16;
+const LEAST_TIME = 1e6;                 // ns: the first notch above a time of 0
 const SAID_OF = {end: 'the run ends at', capacity: 'queue', maxpacket: 'maxpacket', mss: 'segment', rwnd: 'receive window', delack: 'delayed acknowledgement', lose: 'lost packet'};
 const ONES_OF = {capacity: 'packet', segments: 'segment', mss: 'byte', rwnd: 'byte', maxpacket: 'byte'};
 
@@ -18,8 +18,8 @@ function nextValue(name, value, way, [least, most]) {
   const by = STEPS_OF[name];
   if (by) return Math.min(most, Math.max(least, value + way * by));
   if (!value) return way > 0 ? LEAST_TIME : 0;
-  const scale = 10 ** (String(value).length - 1), rungs = [0.5, 1, 2, 5, 10].map(rung => rung * scale);
-  const next = way > 0 ? rungs.find(rung => rung > value) : rungs.reverse().find(rung => rung < value);
+  const scale = 10 ** (String(value).length - 1), notches = [0.5, 1, 2, 5, 10].map(notch => notch * scale);
+  const next = way > 0 ? notches.find(notch => notch > value) : notches.reverse().find(notch => notch < value);
   return Math.min(most, !least && next < LEAST_TIME && way < 0 ? 0 : Math.max(least, next));
 }
 // The number of a line at a place: {name, of, begin, end, value}, or null.
@@ -70,7 +70,7 @@ class Drag {
     this.held = at;
     event.preventDefault();
     window.addEventListener('pointermove', ({clientX: x, clientY: y}) => {
-      const wide = STEPS_OF[at.name] ? PIXELS : PIXELS_OF_RUNG, steps = Math.trunc((x - clientX + clientY - y) / wide);
+      const wide = STEPS_OF[at.name] ? PIXELS : PIXELS_OF_NOTCH, steps = Math.trunc((x - clientX + clientY - y) / wide);
       let value = at.value;
       for (let k = 0; k < Math.abs(steps); k++) value = nextValue(at.name, value, Math.sign(steps), this.ranges[at.name]);
       this.put(at, value, origin);
