@@ -18,7 +18,7 @@ RUNS = 1_000
 NET = ('dumbbell', '--flows', '4', '--rate', '10M', '--rtt', '40ms', '--queue', 'droptail:20')
 ENDS = '1s', '3s', '10s'
 HEAD = '## Sweeps'
-# What each of ENDS took with the commit before the runs were spawned and each worker had a pipe of its own, measured side by side.
+# What each of ENDS took with the commit before the runs were spawned and each worker had a pipe of its own, measured the same day.
 BEFORE = {'1s': '2.49', '3s': '2.02', '10s': '1.05'}
 
 

@@ -570,7 +570,7 @@ class TestInBrowser(WithBrowser):
 
     def test_columns(self):
         """By hand: senders first, then the routers p, q, u in a row; rb is behind q, ra and rc behind u."""
-        self.browser.open(self.made('parking_lot_of_three_routers'))
+        self.open_whole(self.made('parking_lot_of_three_routers'))
         columns = self.browser.json('page.net.places.map(place => place.column)')
         assert columns == [1, 2, 3, 0, 4, 0, 3, 0, 4]
 

@@ -13,7 +13,8 @@ const ON_PAGE = {edge: 8, round: 12, row: 109, beside: 9, least: 245, mostName: 
   stub: {tall: 22, length: 36, upper: -33, lower: 17, row: 34, reach: [33, 31], node: 30}, upper: -39, lower: 20, name: -42, dropped: 48, reason: 16, offNode: 14, kindSize: 12, down: -2.5, mark: 9, between: 1};
 // No letter is smaller than another, and what holds a flow's mark is as wide as that. On a slide, or where a page's net has no room,
 // links are shorter; where it is long, their ends keep their words above each other.
-const ON_SLIDE = {...ON_PAGE, round: 8, least: 150, mostName: 170, mark: 11, between: 3};
+const ON_SLIDE = {...ON_PAGE, round: 8, least: 150, mostName: 170, mark: 11, between: 3,
+  stub: {...ON_PAGE.stub, upper: -30, lower: 16, row: 32, reach: [27, 29]}};
 const ON_LONG_SLIDE = {...ON_SLIDE, edge: 3, stub: {...ON_SLIDE.stub, node: 26}, row: 142, least: 84, router: 28, node: 30, end: 22,
   kinds: false, counts: 'apart', name: -56, dropped: 65};
 const SLIDE_LETTERS = 24, PAGE_LETTERS = 12, LETTERS = 12;       // the least that letters are on a slide and on a page, in pixels, and in units
