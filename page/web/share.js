@@ -55,9 +55,9 @@ async function readFragment(fragment, examples = {}, kept = null) {
 
 // The text that the session keeps of a fragment, for when the page is loaded anew.
 const DRAFT = 'tcpsim';
-function keepDraft(fragment, text) {
+function keepDraft(fragments, text) {
   try {
-    sessionStorage.setItem(DRAFT, JSON.stringify({fragment, text}));
+    sessionStorage.setItem(DRAFT, JSON.stringify({fragments, text}));
   } catch {         // no room, or no right to it
     try { sessionStorage.removeItem(DRAFT); } catch { /* the same */ }
   }
@@ -65,7 +65,7 @@ function keepDraft(fragment, text) {
 function draftOf(fragment) {
   try {
     const kept = JSON.parse(sessionStorage.getItem(DRAFT));
-    return kept && kept.fragment === fragment && typeof kept.text === 'string' ? kept.text : null;
+    return kept && kept.fragments && kept.fragments.includes(fragment) && typeof kept.text === 'string' ? kept.text : null;
   } catch { return null; }
 }
 

@@ -170,10 +170,11 @@ class Simulator {
     let fragment = await fragmentOf(state, this.examples);
     if (fragment.length > MOST_IN_ADDRESS) fragment = await fragmentOf({...state, text: undefined, second: null});
     if (this.noting !== noting) return;
-    if (location.hash !== fragment) history.replaceState(null, '', fragment);
+    if (location.hash !== fragment) { this.hashBefore = location.hash; history.replaceState(null, '', fragment); }
     this.keepText();
   }
-  keepText() { if (!this.isPlain) keepDraft(location.hash, this.editor.text); }
+  // A page that is loaded anew while its address changes may come by the one before.
+  keepText() { if (!this.isPlain) keepDraft([location.hash, this.hashBefore], this.editor.text); }
 
   // ---- the program
 
