@@ -78,10 +78,10 @@ def with_word(text, begin, k, word):
 
 
 def test_values_of_a_quantity(chromium):
-    """Rungs of rates and times, packets one by one; none is outside of the limits."""
+    """Notches of rates and times, packets one by one up to 99; none is outside of the limits."""
     cases = [('rate', 1_000_000, 1, 2_000_000), ('rate', 2_000_000, 1, 5_000_000), ('rate', 1_500_000, -1, 1_000_000), ('rate', 1000, -1, 1000),
              ('rate', 10**12, 1, 10**12), ('delay', 18_000_000, 1, 20_000_000), ('delay', 10_000_000, -1, 5_000_000), ('delay', 1, -1, 1),
-             ('capacity', 10, 1, 11), ('capacity', 1, -1, 1), ('capacity', 65_535, 1, 65_535), ('start', 0, 1, 10**6), ('start', 10**6, -1, 0),
+             ('capacity', 10, 1, 11), ('capacity', 1, -1, 1), ('capacity', 65_535, 1, 65_535), ('capacity', 1000, -1, 900), ('capacity', 345, 1, 355), ('capacity', 99, 1, 100), ('start', 0, 1, 10**6), ('start', 10**6, -1, 0),
              ('start', 0, -1, 0), ('delack', 0, 1, 10**6), ('delack', 5 * 10**8, 1, 5 * 10**8), ('mss', 8_990, 1, 9_000), ('end', 999, 1, 1_000)]
     for name, value, way, wanted_value in cases:
         assert chromium.value(f'nextValue({json.dumps(name)}, {value}, {way}, {json.dumps(RANGES[name])})') == wanted_value, (name, value)

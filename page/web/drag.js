@@ -15,7 +15,8 @@ const ONES_OF = {capacity: 'packet', segments: 'segment', mss: 'byte', rwnd: 'by
 
 // The value a step above or below.
 function nextValue(name, value, way, [least, most]) {
-  const by = STEPS_OF[name];
+  // Of a long queue a step is of two digits.
+  const by = STEPS_OF[name] * (name === 'capacity' ? 10 ** Math.max(0, String(value).length - 2) : 1);
   if (by) return Math.min(most, Math.max(least, value + way * by));
   if (!value) return way > 0 ? LEAST_TIME : 0;
   const scale = 10 ** (String(value).length - 1), notches = [0.5, 1, 2, 5, 10].map(notch => notch * scale);

@@ -122,6 +122,7 @@ class Editor {
     this.say('', '');
     delete document.documentElement.dataset.judged;
     this.box.setValue(part);
+    this.box.clearHistory();
     this.box.scrollTo(0, 0);
     this.lock(this.locked);
     clearTimeout(this.timer);

@@ -291,7 +291,7 @@ def test_images_and_standard_input(put):
 def test_refusals(put):
     path = paths('one_segment')[0]
     assert refused(path) == 'name the scenario of the other run, or say by --set what is other in it'
-    assert refused(path, path, '--set', 'end=1s') == 'name the scenario of the other run, or say by --set what is other in it'
+    assert refused(path, path, '--set', 'end=1s') == 'the other run is OTHER, or SCENARIO with --set: leave one out'
     assert refused('-', '-') == 'standard input is one scenario, and not two'
     assert refused('nowhere.txt', path) == 'nowhere.txt: No such file or directory'
     assert refused(path, '--set', 'end=1s,2s') == '--set end: the other run has one value of it, and not 2'

@@ -38,8 +38,10 @@ def words_of() -> argparse.Namespace:
     words.add_output('what differs')
     words.add_program('the program that runs both')
     given = words.parse_args()
-    if (given.other is None) == (not given.set):
+    if given.other is None and not given.set:
         words.error('name the scenario of the other run, or say by --set what is other in it')
+    if given.other is not None and given.set:
+        words.error('the other run is OTHER, or SCENARIO with --set: leave one out')
     if given.scenario == given.other == '-':
         words.error('standard input is one scenario, and not two')
     return given

@@ -261,6 +261,8 @@ def named(word: str, pattern: Pattern, option: str) -> Iterator[ShownFigure]:
         return
     names = tuple(of.split('+'))
     sorts = {pattern.sorts.get(name) or ('run' if name == 'run' else None) for name in names}
+    if not pattern.sorts:
+        raise Wrong('this is no scenario: it has no flow and no link')
     for name in names:
         if not {pattern.sorts.get(name), 'run' if name == 'run' else None} & set(SORTS):
             raise Wrong(f'{option} {word!r}: the scenario has no flow or link {name!r}; there are the flows {some(pattern.named("flow"))} '

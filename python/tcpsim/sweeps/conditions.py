@@ -44,7 +44,7 @@ def percent(word: str) -> float:
     """A percentage: 95%, or as a part of 1, 0.95."""
     number = decimal(word.removesuffix('%'))
     if not word.endswith('%') and number > 1:
-        raise Wrong(f'{word!r} is no part of 1: write {word}% or 0.95')
+        raise Wrong(f'{word!r} is no part of 1: write {word if number <= 100 else 95}% or 0.95')
     return number if word.endswith('%') else 100 * number
 
 

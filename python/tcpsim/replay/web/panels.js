@@ -118,7 +118,7 @@ const PANELS = {
   sequence: {says: 'sequence numbers', of: 'flows', titles: [`${LOOKS.panels.sequence}: sent (dots), acknowledged (line), bytes`, `${LOOKS.panels.sequence}, bytes`], lanes: (record, flows) => flows.map(f => {
     const {all, again} = sent(record, f), name = flowName(record, f);
     return {name, colour: colourOf(f), bands: spansOf(record, f), marks: [...again, ...dropMarks(record, ({flow, sort}) => flow === f && sort === DATA, drop => drop.number), ...timeoutMarks(record, f)],
-      series: [{dots: all, curve: all, colour: colourOf(f), name: `segments of ${name}`}, {curve: acknowledged(record, f), colour: 'var(--quiet)', thin: true, name: `acknowledged of ${name}`}]};
+      series: [{dots: all, curve: all, most: Math.max(0, greatestOf(all.values)) + record.facts.flows[f].mss, colour: colourOf(f), name: `segments of ${name}`}, {curve: acknowledged(record, f), colour: 'var(--quiet)', thin: true, name: `acknowledged of ${name}`}]};
   })},
   progress: {says: 'progress', of: 'flows', titles: [LOOKS.panels.progress, 'bytes acknowledged'], lanes: (record, flows) => [{series: flows.map(f => ({
     curve: acknowledged(record, f), colour: colourOf(f), dash: dashOf(f), name: `bytes of ${flowName(record, f)} that are acknowledged`}))}]},
