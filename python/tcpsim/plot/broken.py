@@ -17,7 +17,7 @@ LEAST = 16              # and slow start's window has so many segments
 ABOVE = .3              # how high the part above the break is drawn, as a part of what is below it,
 GAP = .07               # and the break
 CLEAR = .93             # up to which part of what is below it there are ticks
-BETWEEN = .18           # two ticks above it are this part of what is below it apart
+BETWEEN = .125          # two ticks above it are this part of what is below it apart
 STROKE = {'marker': (2, 2, -60), 'ms': 13, 'mew': 1.4, 'color': '#000000'}      # through the side of a frame
 ROOM = 1.12             # how much higher than the greatest value an axis goes
 
