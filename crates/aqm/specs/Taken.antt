@@ -21,7 +21,7 @@ handed_out s k after = record { dropped = take k s.fifo.waiting; given = slice_g
 abbrev pub after_one : CodelState → ℕ → CodelState
 after_one s now = record s { fifo = without_first 1 s.fifo; first_above = (judgement s now 0).first_above }
 
--- the count that drop state begins with: where the last drop of the one before was due less than 16 intervals ago, as many as that one dropped after its first packet, if more than one; else 1
+-- the new count, with which drop state begins: how many packets the last one dropped after its first (count - lastcount), if that is more than one and the moment is less than 16 intervals after drop_next; else 1
 abbrev pub first_count : CodelState → ℕ → ℕ
 first_count s now = if nat_lt 1 (s.count - s.lastcount) && nat_lt (now - s.drop_next) (16 * s.interval) then s.count - s.lastcount else 1
 

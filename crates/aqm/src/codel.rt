@@ -11,8 +11,6 @@ mod foresee;
 mod judge;
 mod readouts;
 mod take;
-#[cfg(test)]
-mod tests;
 
 use crate::drop_tail::DropTail;
 use crate::offered::Offered;

@@ -4,21 +4,21 @@ ghost use Rattle.aqm.specs.DropReasons.{all_reasons, count_name, reason_index, r
 ghost use Rattle.aqm.specs.declared.drop_reason.DropReason.{DropReason};
 
 /// Why a queue drops a packet as it is offered.
-#[derive(Clone, Copy, Debug, PartialEq, Eq)]
+#[derive(Clone, Copy, PartialEq, Eq)]
 pub enum OfferDrop {
     /// The queue held its capacity.
     Full,
 }
 
 /// Why a queue drops a packet that waits, where one is taken out of it.
-#[derive(Clone, Copy, Debug, PartialEq, Eq)]
+#[derive(Clone, Copy, PartialEq, Eq)]
 pub enum TakeDrop {
     /// CoDel dropped it (RFC 8289 section 5).
     Codel,
 }
 
 /// Why a packet was dropped.
-#[derive(Clone, Copy, Debug, PartialEq, Eq)]
+#[derive(Clone, Copy, PartialEq, Eq)]
 pub enum DropReason {
     /// The link's list of lost packets names it.
     Lost,

@@ -11,8 +11,6 @@ pub mod guarantees;
 pub mod offered;
 pub mod queue;
 pub mod readout;
-#[cfg(test)]
-mod tests;
 pub mod waits;
 
 pub use codel::Codel;

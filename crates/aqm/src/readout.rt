@@ -5,7 +5,7 @@ ghost use Rattle.aqm.specs.Readouts.{readouts_of, read_of, readout_word};
 use crate::queue::Queue;
 
 /// A number that a queue may keep beside the packets.
-#[derive(Clone, Copy, Debug, PartialEq, Eq)]
+#[derive(Clone, Copy)]
 pub enum Readout {
     /// From when on a packet above target may be dropped, in nanoseconds.
     FirstAbove,

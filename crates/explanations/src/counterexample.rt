@@ -119,9 +119,12 @@ fn too_few(parts: &ScenarioParts) -> Option<Counterexample>
 fn late_flow(parts: &ScenarioParts) -> Option<Counterexample>
     ensures { IfSome result (IsShown parts.now L3) }
 {
-    let flows = parts.flows.as_slice();
-    let flow = flows.iter().position(|flow| flow.start >= parts.end)?;
-    Some(Counterexample::Late { flow })
+    for (number, flow) in parts.flows.as_slice().iter().enumerate() {
+        if flow.start >= parts.end {
+            return Some(Counterexample::Late { flow: number });
+        }
+    }
+    None
 }
 
 /// What shows first that parts have a fault, one of L3 and L5 to L8, if it is found.

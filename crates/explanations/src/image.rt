@@ -1,10 +1,13 @@
 //! The parts of an image that is refused, read as they stand.
 ghost use Rattle.std.specs.Prelude.{◌≡◌, IfSome, length};
 
-use byteorder::{BigEndian, ByteOrder};
-use scenario_image::layout::{CODEL, LOST, VARIANT};
+use scenario_image::layout::{
+    HEADER, LINK, LOST, LOST_COUNT, ROUTE, flow_count, flow_size, link_count, long_at, node_count,
+    route_count, short_at, version_of,
+};
+use scenario_image::reading::{new_flow, node_of, route_of};
 use scenario_image::{
-    FlowPart, LinkPart, NodeKind, Records, RoutePart, ScenarioParts, plain_flow, plain_link,
+    FlowPart, LinkPart, NodeKind, RENO, Records, RoutePart, ScenarioParts, Version, plain_link,
 };
 use std::alloc::{AllocError, Global};
 
@@ -26,113 +29,13 @@ impl<'a> Left<'a> {
         self.bytes = rest;
         Some(front)
     }
-
-    /// The next byte.
-    fn byte(&mut self) -> Option<u8> {
-        self.take(1)?.first().copied()
-    }
-
-    /// The next number of two bytes.
-    fn short(&mut self) -> Option<u16> {
-        Some(BigEndian::read_u16(self.take(2)?))
-    }
-
-    /// The next number of four bytes.
-    fn number(&mut self) -> Option<u32> {
-        Some(BigEndian::read_u32(self.take(4)?))
-    }
-
-    /// The next number of eight bytes.
-    fn long(&mut self) -> Option<u64> {
-        Some(BigEndian::read_u64(self.take(8)?))
-    }
 }
 
-/// What an image's header says.
-#[derive(Clone, Copy)]
-struct Header {
-    /// Whether flows have a byte for their variant.
-    has_variants: bool,
-    end: u64,
-    nodes: u16,
-    links: u16,
-    flows: u16,
-    routes: u32,
-}
-
-/// The header.
-fn read_header(left: &mut Left<'_>) -> Option<Header> {
-    let magic = left.take(4)?;
-    Some(Header {
-        has_variants: magic == b"TCB2".as_slice(),
-        end: left.long()?,
-        nodes: left.short()?,
-        links: left.short()?,
-        flows: left.short()?,
-        routes: left.number()?,
-    })
-}
-
-/// The next node.
-fn read_node(left: &mut Left<'_>) -> Option<NodeKind> {
-    match left.byte()? {
-        0 => Some(NodeKind::Sender),
-        1 => Some(NodeKind::Receiver),
-        2 => Some(NodeKind::Router),
-        _ => None,
-    }
-}
-
-/// The next link, without how its queue drops and which packets it loses.
-fn read_link(alloc: Global, left: &mut Left<'_>) -> Option<LinkPart> {
-    let from = left.short()?;
-    let to = left.short()?;
-    let rate = left.long()?;
-    let delay = left.long()?;
-    let _queue = left.byte()?;
-    let capacity = left.short()?;
-    let _codel = left.take(CODEL)?;
-    let lost = left.byte()?;
-    let _lose = left.take(LOST * usize::from(lost))?;
-    let mut part = plain_link(alloc, from, to);
-    part.rate = rate;
-    part.delay = delay;
-    part.capacity = capacity;
-    Some(part)
-}
-
-/// The next flow, as one of the first variant.
-fn read_flow(has_variants: bool, left: &mut Left<'_>) -> Option<FlowPart> {
-    let mut part = plain_flow(left.short()?, left.short()?);
-    part.mss = left.short()?;
-    part.segments = left.number()?;
-    part.start = left.long()?;
-    part.rwnd = left.number()?;
-    part.delack = left.number()?;
-    if has_variants {
-        let _variant = left.take(VARIANT)?;
-    }
-    Some(part)
-}
-
-/// The next route.
-fn read_route(left: &mut Left<'_>) -> Option<RoutePart> {
-    Some(RoutePart {
-        router: left.short()?,
-        destination: left.short()?,
-        link: left.short()?,
-    })
-}
-
-/// The next nodes, so many.
-fn read_nodes(
-    alloc: Global,
-    count: u16,
-    left: &mut Left<'_>,
-) -> Result<Option<Records<NodeKind>>, AllocError> {
+/// The nodes that bytes stand for.
+fn read_nodes(alloc: Global, bytes: &[u8]) -> Result<Option<Records<NodeKind>>, AllocError> {
     let mut nodes = Vec::new(alloc);
-    for _ in 0..count {
-        match read_node(left) {
+    for byte in bytes {
+        match node_of(*byte) {
             Some(kind) => nodes.push(kind)?,
             None => return Ok(None),
         }
@@ -140,10 +43,22 @@ fn read_nodes(
     Ok(Some(Records::new(nodes)))
 }
 
+/// The next link, without how its queue drops and which packets it loses.
+fn read_link(alloc: Global, left: &mut Left<'_>) -> Option<LinkPart> {
+    let bytes = left.take(LINK)?;
+    let _lose = left.take(LOST * usize::from(bytes[LOST_COUNT]))?;
+    Some(LinkPart {
+        rate: long_at(bytes, 4),
+        delay: long_at(bytes, 12),
+        capacity: short_at(bytes, 21),
+        ..plain_link(alloc, short_at(bytes, 0), short_at(bytes, 2))
+    })
+}
+
 /// The next links, so many.
 fn read_links(
     alloc: Global,
-    count: u16,
+    count: usize,
     left: &mut Left<'_>,
 ) -> Result<Option<Records<LinkPart>>, AllocError> {
     let mut links = Vec::new(alloc);
@@ -156,16 +71,17 @@ fn read_links(
     Ok(Some(Records::new(links)))
 }
 
-/// The next flows, so many.
+/// The next flows, so many, as those of the first variant.
 fn read_flows(
     alloc: Global,
-    header: &Header,
+    version: Version,
+    count: usize,
     left: &mut Left<'_>,
 ) -> Result<Option<Records<FlowPart>>, AllocError> {
     let mut flows = Vec::new(alloc);
-    for _ in 0..header.flows {
-        match read_flow(header.has_variants, left) {
-            Some(part) => flows.push(part)?,
+    for _ in 0..count {
+        match left.take(flow_size(version)) {
+            Some(bytes) => flows.push(new_flow(bytes, RENO))?,
             None => return Ok(None),
         }
     }
@@ -175,13 +91,13 @@ fn read_flows(
 /// The next routes, so many.
 fn read_routes(
     alloc: Global,
-    count: u32,
+    count: usize,
     left: &mut Left<'_>,
 ) -> Result<Option<Records<RoutePart>>, AllocError> {
     let mut routes = Vec::new(alloc);
     for _ in 0..count {
-        match read_route(left) {
-            Some(part) => routes.push(part)?,
+        match left.take(ROUTE) {
+            Some(bytes) => routes.push(route_of(bytes))?,
             None => return Ok(None),
         }
     }
@@ -192,23 +108,26 @@ fn read_routes(
 /// lost, and the flows' variants. `None` where there are too few bytes, or a node is of no kind.
 pub fn image_parts(alloc: Global, image: &[u8]) -> Result<Option<ScenarioParts>, AllocError> {
     let mut left = Left { bytes: image };
-    let Some(header) = read_header(&mut left) else {
+    let Some(header) = left.take(HEADER) else {
         return Ok(None);
     };
-    let Some(nodes) = read_nodes(alloc, header.nodes, &mut left)? else {
+    let Some(bytes) = left.take(node_count(header)) else {
         return Ok(None);
     };
-    let Some(links) = read_links(alloc, header.links, &mut left)? else {
+    let Some(nodes) = read_nodes(alloc, bytes)? else {
         return Ok(None);
     };
-    let Some(flows) = read_flows(alloc, &header, &mut left)? else {
+    let Some(links) = read_links(alloc, link_count(header), &mut left)? else {
         return Ok(None);
     };
-    let Some(routes) = read_routes(alloc, header.routes, &mut left)? else {
+    let Some(flows) = read_flows(alloc, version_of(header), flow_count(header), &mut left)? else {
+        return Ok(None);
+    };
+    let Some(routes) = read_routes(alloc, route_count(header), &mut left)? else {
         return Ok(None);
     };
     Ok(Some(ScenarioParts {
-        end: header.end,
+        end: long_at(header, 4),
         nodes,
         links,
         flows,

@@ -2,7 +2,7 @@
 use sim_time::Time;
 
 /// At which node an event is due, and when.
-#[derive(Clone, Copy, Debug, PartialEq, Eq)]
+#[derive(Clone, Copy)]
 pub struct Due {
     /// The node's place.
     pub place: usize,

@@ -26,7 +26,7 @@ use std::alloc::{AllocError, Global};
 use std::marker::Model;
 
 /// Why no step was made.
-#[derive(Clone, Copy, Debug, PartialEq, Eq)]
+#[derive(Clone, Copy, PartialEq, Eq)]
 pub enum StepFault {
     /// There was no memory.
     NoMemory,
@@ -159,15 +159,6 @@ impl Net {
             return None;
         }
         Some(Due { place, time })
-    }
-
-    /// The key of the event that is due.
-    #[inline(always)]
-    pub fn key_of(&self, next: Due) -> Option<Key>
-        requires { option_map due_of (due self.now.state) ≡ Some next }
-        ensures { result ≡ option_map (λ entry. entry.0) (due self.now.state) }
-    {
-        self.nodes.as_slice()[next.place].least()
     }
 
     /// Runs the event that is due, and tells of it in `line`.

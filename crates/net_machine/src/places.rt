@@ -3,7 +3,7 @@
 use sim_time::Time;
 
 /// The end of a link.
-#[derive(Clone, Copy, Debug, PartialEq, Eq)]
+#[derive(Clone, Copy, PartialEq, Eq)]
 pub struct EndPlace {
     /// The node at which it ends.
     pub node: u16,
@@ -12,7 +12,7 @@ pub struct EndPlace {
 }
 
 /// A link between two nodes.
-#[derive(Clone, Copy, Debug, PartialEq, Eq)]
+#[derive(Clone, Copy, PartialEq, Eq)]
 pub struct LinkEnds {
     /// The node that sends over it.
     pub from: u16,

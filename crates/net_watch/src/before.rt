@@ -6,7 +6,7 @@ use sim_time::Time;
 use std::snapshot::Snapshot;
 
 /// Holds the run once the next event is at or past a moment, in nanoseconds.
-#[derive(Clone, Copy, Debug, Drop)]
+#[derive(Drop)]
 pub struct Before {
     /// The moment.
     pub moment: Time,

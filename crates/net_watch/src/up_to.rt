@@ -5,7 +5,7 @@ use node_core::Line;
 use std::snapshot::Snapshot;
 
 /// Holds the run once so many events were run since its initial state.
-#[derive(Clone, Copy, Debug, Drop)]
+#[derive(Drop)]
 pub struct UpTo {
     /// How many.
     pub position: u64,

@@ -16,11 +16,11 @@ use Rattle.node_core.specs.declared.role.Role.TheVariants.{Sends, Receives}
 use Rattle.node_core.specs.Timers.{timer_number, timer_key}
 use Rattle.node_core.specs.EventQueueState.{EventQueueState, IsTimer, IsDueAs}
 use Rattle.node_core.specs.CarriedOut.{IsNextEvent, HasPassed, IsCarriedOut}
-use Rattle.node_core.specs.Decided.{arriving, sent_by_end, rto_timer_event, rto_timer_of, decided_effect, CanLeave, CanMove, CanDo, IsRtoTimerOf, of_sender, of_receiver, Suits, IsDecided}
+use Rattle.node_core.specs.Decided.{arriving, sent_by_end, end_timer_event, end_timer_of, decided_effect, CanLeave, CanMove, CanDo, IsEndTimerOf, of_sender, of_receiver, Suits, IsDecided}
 use Rattle.node_core.specs.InStep.{IsInStep, flow_of, frees_of}
 use Rattle.node_core.specs.Part.{LinkState, link_at}
 use Rattle.node_core.specs.Passing.{passed, after_take, moved_to}
-use Rattle.node_core.specs.Row.{Effect, Leaving, leaving_over, quiet, row, rto_timer_moved, with_step}
+use Rattle.node_core.specs.Row.{Effect, Leaving, leaving_over, quiet, row, timer_moved, with_step}
 use Rattle.node_core.specs.Node.{put_out}
 use Rattle.node_core.specs.Running.{HasRun, IsTimed, part}
 use Rattle.node_core.proofs.Passages.{all_link, taken_link}
@@ -56,12 +56,12 @@ timed_receiver event_queue key (Arrive packet) due can = inl due
 module _ (links all : List LinkState) (before after : EventQueueState) (chains filled : List (List Stamped)) (key : Key) where
   -- an end's packets have passed its link, and its timer has moved
   abbrev HasSent : PortStep → Role → Role → Timer → Option ℕ → Type 0
-  HasSent step old new timer time = HasRun key (with_step (part old links) new (rto_timer_moved (timer_key key.node timer) (rto_timer_event (flow_of old) timer) (rto_timer_of old timer) time) 0 step) new all before after chains filled
+  HasSent step old new timer time = HasRun key (with_step (part old links) new (timer_moved (timer_key key.node timer) (end_timer_event (flow_of old) timer) (end_timer_of old timer) time) 0 step) new all before after chains filled
 
   sent_runs : (step : PortStep) (event : Event) (old new : Role) (timer : Timer) (time : Option ℕ) → IsInStep old links before → key.node ≡ before.owner.node → IsDueAs before key event → CanMove timer event
       → step.port.link ≡ (link_at links 0).port.link → all ≡ set links 0 (record (link_at links 0) { port = step.port })
       → after ≡ passed (moved_to (after_take before key) (timer_number timer) time) 0 step → filled ≡ put_out (leaving_over 0 step.departure) chains
-      → IsRtoTimerOf old new timer time → HasSent step old new timer time
+      → IsEndTimerOf old new timer time → HasSent step old new timer time
   sent_runs step event old new timer time is at due can same all_is after_is out_is (of_sender flow fields planned old_is new_is timer_is time_is) =
       let base : HasSent step (Sends flow fields) (Sends flow planned) Retransmission planned.deadline =
       sender_runs flow fields planned links before (subst (λ (r : Role). IsInStep r links before) old_is is) key at (timed_sender before key event due (subst (λ (a : Timer). CanMove a event) timer_is can))

@@ -17,10 +17,10 @@ use Rattle.node_core.specs.declared.role.Role.{Role}
 use Rattle.node_core.specs.declared.role.Role.TheVariants.{Sends, Receives, Routes}
 use Rattle.node_core.specs.declared.routes.FlowExits.{FlowExits}
 use Rattle.node_core.specs.Timers.{timer_key, timer_number}
-use Rattle.node_core.specs.Decided.{rto_timer_event, rto_timer_of, CanMove, IsArriving, IsDecided, IsSent, IsRouted, OnSend, of_sender, of_receiver, route_of}
+use Rattle.node_core.specs.Decided.{end_timer_event, end_timer_of, CanMove, IsArriving, IsDecided, IsSent, IsRouted, OnSend, of_sender, of_receiver, route_of}
 use Rattle.node_core.specs.Part.{LinkState, link_at}
 use Rattle.node_core.specs.Ready.{CanHandle}
-use Rattle.node_core.specs.Row.{row, sender_row, receiver_row, passed_on, data_packet, ack_of, with_step, rto_timer_moved}
+use Rattle.node_core.specs.Row.{row, sender_row, receiver_row, passed_on, data_packet, ack_of, with_step, timer_moved}
 use Rattle.node_core.specs.RouteTable.{exit_for}
 use Rattle.node_core.specs.Running.{part}
 use Rattle.node_core.proofs.Steps.{one_alone}
@@ -45,7 +45,7 @@ sender_decides flow fields new planned arrives links key event room (PassOn inde
 sender_decides flow fields new planned arrives links key event room (TakeNext index) is new_is linked can arrival row_is = absurd is
 sender_decides flow fields new planned arrives links key event room (Send sending) is new_is linked can arrival row_is =
     let steps = λ (f : SenderFields) (a : Timer) (t : Option ℕ) (ps : List Packet).
-    with_step (part (Sends flow fields) links) (Sends flow f) (rto_timer_moved (timer_key key.node a) (rto_timer_event flow a) (rto_timer_of (Sends flow fields) a) t) 0 (offered_all key.time (link_at links 0).port ps) in
+    with_step (part (Sends flow fields) links) (Sends flow f) (timer_moved (timer_key key.node a) (end_timer_event flow a) (end_timer_of (Sends flow fields) a) t) 0 (offered_all key.time (link_at links 0).port ps) in
     let all = map (data_packet flow planned.fields.mss) planned.sent in
     record {
       row_is = row_is
@@ -58,7 +58,7 @@ sender_decides flow fields new planned arrives links key event room (Send sendin
         linked = linked;
         room_for = omega (arith, ap length is.sent, is.room_for);
         few = is.few;
-        rto_timer = subst (λ (a : Timer). timer_number a < 3) (sym is.timer_is) (omega arith);
+        end_timer = subst (λ (a : Timer). timer_number a < 3) (sym is.timer_is) (omega arith);
         moves = subst (λ (a : Timer). CanMove a event) (sym is.timer_is) can;
         cell = some_cell arrives sending.last event is.in_cells arrival;
       };
@@ -75,7 +75,7 @@ receiver_decides flow state new answered arrives links key event room (PassOn in
 receiver_decides flow state new answered arrives links key event room (TakeNext index) is new_is linked can arrival row_is = absurd is
 receiver_decides flow state new answered arrives links key event room (Send sending) is new_is linked can arrival row_is =
     let steps = λ (s : ReceiverState) (a : Timer) (t : Option ℕ) (ps : List Packet).
-    with_step (part (Receives flow state) links) (Receives flow s) (rto_timer_moved (timer_key key.node a) (rto_timer_event flow a) (rto_timer_of (Receives flow state) a) t) 0 (offered_all key.time (link_at links 0).port ps) in
+    with_step (part (Receives flow state) links) (Receives flow s) (timer_moved (timer_key key.node a) (end_timer_event flow a) (end_timer_of (Receives flow state) a) t) 0 (offered_all key.time (link_at links 0).port ps) in
     let all = ack_of flow answered.reply in
     record {
       row_is = row_is
@@ -88,7 +88,7 @@ receiver_decides flow state new answered arrives links key event room (Send send
         linked = linked;
         room_for = omega (arith, ap length is.sent, is.room_for);
         few = is.few;
-        rto_timer = subst (λ (a : Timer). timer_number a < 3) (sym is.timer_is) (omega arith);
+        end_timer = subst (λ (a : Timer). timer_number a < 3) (sym is.timer_is) (omega arith);
         moves = subst (λ (a : Timer). CanMove a event) (sym is.timer_is) can;
         cell = some_cell arrives sending.last event is.in_cells arrival;
       };

@@ -14,6 +14,5 @@ pub mod Numbered
 pub mod OneFlow
 pub mod AtFirst
 pub mod InOrder
-pub mod Entries
 pub mod Copies
 pub mod Sent

@@ -121,3 +121,9 @@ read_most p is mss first count mss_is first_is count_is some =
     subst (λ m. first + (count - 1) * m ≤ 9000000000000) (sym mss_is)
     (subst (λ x. x + (count - 1) * p.fields.mss ≤ 9000000000000) (sym first_is)
     (subst (λ n. p.first + (n - 1) * p.fields.mss ≤ 9000000000000) (sym count_is) (but_last_most p is (subst (λ n. 0 < n) count_is some))))
+
+-- the whole run ends there too, as its fields are read
+pub read_all : (p : PlanView) → IsWellMade p → (mss first count : ℕ) → mss ≡ p.fields.mss → first ≡ p.first → count ≡ p.count → first + count * mss ≤ 9000000000000
+read_all p is mss first count mss_is first_is count_is =
+    subst (λ m. first + count * m ≤ 9000000000000) (sym mss_is)
+    (subst (λ x. x + count * p.fields.mss ≤ 9000000000000) (sym first_is) (subst (λ n. p.first + n * p.fields.mss ≤ 9000000000000) (sym count_is) (run_most p is)))

@@ -26,7 +26,7 @@ use Rattle.node_core.specs.EventQueueState.{EventQueueState, IsTimer, cleared, t
 use Rattle.node_core.specs.Part.{LinkState, link_at, no_link}
 use Rattle.node_core.specs.Passing.{busied, passed, after_take, moved_to}
 use Rattle.node_core.specs.InStep.{IsInStep, timers_of, frees_of, rto_deadline, delayed_of, flow_of, HasItsLink}
-use Rattle.node_core.specs.Row.{with_step, leaving_over, made_at_home, quiet, rto_timer_moved}
+use Rattle.node_core.specs.Row.{with_step, leaving_over, made_at_home, quiet, timer_moved}
 use Rattle.node_core.specs.Node.{put_out}
 use Rattle.node_core.specs.Running.{HasRun, IsTimed, part}
 use Rattle.node_core.proofs.Slots.{cleared_timer, same_event_queue}
@@ -62,14 +62,14 @@ made_is node index links new step link within same (Some d) =
 
 module _ (role : Role) (links : List LinkState) (before : EventQueueState) (is : IsInStep role links before) (key : Key) (index : ℕ) (within : index < length links) where
   -- once a timer has moved and packets passed a link, the row is done
-  pub step_runs : (new_role : Role) (rto_timers : List EventChange) (step : PortStep) (new : LinkState) (middle after : EventQueueState) (start was : Option ℕ) (chains filled : List (List Stamped))
+  pub step_runs : (new_role : Role) (timer_changes : List EventChange) (step : PortStep) (new : LinkState) (middle after : EventQueueState) (start was : Option ℕ) (chains filled : List (List Stamped))
       → flow_of new_role ≡ flow_of role → HasItsLink new_role (set links index new)
       → new ≡ record (link_at links index) { port = step.port } → step.port.link ≡ (link_at links index).port.link
-      → middle.owner ≡ before.owner → middle.incoming ≡ before.incoming → middle.pending ≡ apply rto_timers (fin.remove before.pending key)
+      → middle.owner ≡ before.owner → middle.incoming ≡ before.incoming → middle.pending ≡ apply timer_changes (fin.remove before.pending key)
       → middle.timers ≡ start ∷ rto_deadline new_role ∷ delayed_of new_role ∷ set (frees_of links) index was
       → after ≡ passed middle index step → filled ≡ put_out (leaving_over index step.departure) chains
-      → HasRun key (with_step (part role links) new_role rto_timers index step) new_role (set links index new) before after chains filled
-  step_runs new_role rto_timers step new middle after start was chains filled flow linked new_is same_link owner incoming pending timers after_is out =
+      → HasRun key (with_step (part role links) new_role timer_changes index step) new_role (set links index new) before after chains filled
+  step_runs new_role timer_changes step new middle after start was chains filled flow linked new_is same_link owner incoming pending timers after_is out =
       let all = set links index new in
       let link_is : new.port.link ≡ step.port.link = ap (λ (x : LinkState). x.port.link) new_is in
       let after_timers : after.timers ≡ start ∷ rto_deadline new_role ∷ delayed_of new_role ∷ frees_of all =
@@ -83,8 +83,8 @@ module _ (role : Role) (links : List LinkState) (before : EventQueueState) (is :
         pending = ap (λ (s : EventQueueState). s.pending) after_is
             ∙ ap (λ (o : Rattle.node_core.specs.EventQueueState.Owner). apply (busied o.node index step.port.link step.departure) middle.pending) owner
             ∙ ap (apply (busied before.owner.node index step.port.link step.departure)) pending
-            ∙ sym (apply-append rto_timers (busied before.owner.node index step.port.link step.departure) (fin.remove before.pending key))
-            ∙ ap (λ (cs : List EventChange). apply (rto_timers ++ cs) (fin.remove before.pending key))
+            ∙ sym (apply-append timer_changes (busied before.owner.node index step.port.link step.departure) (fin.remove before.pending key))
+            ∙ ap (λ (cs : List EventChange). apply (timer_changes ++ cs) (fin.remove before.pending key))
             (sym (made_is before.owner.node index links (record (link_at links index) { port = step.port }) step step.port.link within refl step.departure));
         incoming = ap (λ (s : EventQueueState). s.incoming) after_is ∙ incoming;
         owner = ap (λ (s : EventQueueState). s.owner) after_is ∙ owner;
@@ -169,20 +169,20 @@ module _ (flow : ℕ) (fields planned : SenderFields) (links : List LinkState) (
 
   pub sender_runs : (step : PortStep) → step.port.link ≡ (link_at links 0).port.link → (all : List LinkState) (after : EventQueueState) (chains filled : List (List Stamped))
       → all ≡ set links 0 (record (link_at links 0) { port = step.port }) → after ≡ passed (moved_to (after_take before key) 1 planned.deadline) 0 step → filled ≡ put_out (leaving_over 0 step.departure) chains
-      → HasRun key (with_step (part (Sends flow fields) links) (Sends flow planned) (rto_timer_moved (timer_key key.node Retransmission) (Rto flow) fields.deadline planned.deadline) 0 step) (Sends flow planned) all before after chains filled
+      → HasRun key (with_step (part (Sends flow fields) links) (Sends flow planned) (timer_moved (timer_key key.node Retransmission) (Rto flow) fields.deadline planned.deadline) 0 step) (Sends flow planned) all before after chains filled
   sender_runs step same all after chains filled all_is after_is out_is =
       let moved = sender_timers before key (get_or before.timers 0 None) fields.deadline None planned.deadline (frees_of links) is.timers timed in
       let set_it : List EventChange = timer_set (numbered_key before.owner.node 1) (timer_event before.owner 1) planned.deadline in
       let gone = fin.remove before.pending key in
       let new : LinkState = record (link_at links 0) { port = step.port } in
-      let rto_timers = rto_timer_moved (timer_key key.node Retransmission) (Rto flow) fields.deadline planned.deadline in
-      subst (λ (l : List LinkState). HasRun key (with_step (part (Sends flow fields) links) (Sends flow planned) rto_timers 0 step) (Sends flow planned) l before after chains filled) (sym all_is)
-      (step_runs (Sends flow fields) links before is key 0 is.linked (Sends flow planned) rto_timers step new (moved_to (after_take before key) 1 planned.deadline) after moved.0 (get_or (frees_of links) 0 None) chains filled
+      let timer_changes = timer_moved (timer_key key.node Retransmission) (Rto flow) fields.deadline planned.deadline in
+      subst (λ (l : List LinkState). HasRun key (with_step (part (Sends flow fields) links) (Sends flow planned) timer_changes 0 step) (Sends flow planned) l before after chains filled) (sym all_is)
+      (step_runs (Sends flow fields) links before is key 0 is.linked (Sends flow planned) timer_changes step new (moved_to (after_take before key) 1 planned.deadline) after moved.0 (get_or (frees_of links) 0 None) chains filled
       refl (has_link (Sends flow planned) links 0 new is.linked) refl same refl refl
       (rto_timer_out before key 1 (omega arith) (omega (arith, long)) at timed set_it
       ∙ ap (λ (d : Option ℕ). apply (timer_cleared (numbered_key before.owner.node 1) d ++ set_it) gone) (ap (λ (a : List (Option ℕ)). get_or a 1 None) is.timers)
       ∙ ap (λ f. apply (timer_cleared (numbered_key before.owner.node 1) fields.deadline ++ timer_set (numbered_key before.owner.node 1) (Rto f) planned.deadline) gone) is.flow
-      ∙ ap (λ n. apply (rto_timer_moved (numbered_key n 1) (Rto flow) fields.deadline planned.deadline) gone) (sym at))
+      ∙ ap (λ n. apply (timer_moved (numbered_key n 1) (Rto flow) fields.deadline planned.deadline) gone) (sym at))
       (moved.1 ∙ ap (λ f. moved.0 ∷ planned.deadline ∷ None ∷ f) (sym (set-get_or (frees_of links) 0 None)))
       after_is out_is)
 
@@ -193,20 +193,20 @@ module _ (flow : ℕ) (state answered : ReceiverState) (links : List LinkState) 
 
   pub receiver_runs : (step : PortStep) → step.port.link ≡ (link_at links 0).port.link → (all : List LinkState) (after : EventQueueState) (chains filled : List (List Stamped))
       → all ≡ set links 0 (record (link_at links 0) { port = step.port }) → after ≡ passed (moved_to (after_take before key) 2 answered.timer) 0 step → filled ≡ put_out (leaving_over 0 step.departure) chains
-      → HasRun key (with_step (part (Receives flow state) links) (Receives flow answered) (rto_timer_moved (timer_key key.node DelayedAcknowledgement) (DelAck flow) state.timer answered.timer) 0 step) (Receives flow answered) all before after chains filled
+      → HasRun key (with_step (part (Receives flow state) links) (Receives flow answered) (timer_moved (timer_key key.node DelayedAcknowledgement) (DelAck flow) state.timer answered.timer) 0 step) (Receives flow answered) all before after chains filled
   receiver_runs step same all after chains filled all_is after_is out_is =
       let moved = receiver_timers before key (get_or before.timers 0 None) None state.timer answered.timer (frees_of links) is.timers timed in
       let set_it : List EventChange = timer_set (numbered_key before.owner.node 2) (timer_event before.owner 2) answered.timer in
       let gone = fin.remove before.pending key in
       let new : LinkState = record (link_at links 0) { port = step.port } in
-      let rto_timers = rto_timer_moved (timer_key key.node DelayedAcknowledgement) (DelAck flow) state.timer answered.timer in
-      subst (λ (l : List LinkState). HasRun key (with_step (part (Receives flow state) links) (Receives flow answered) rto_timers 0 step) (Receives flow answered) l before after chains filled) (sym all_is)
-      (step_runs (Receives flow state) links before is key 0 is.linked (Receives flow answered) rto_timers step new (moved_to (after_take before key) 2 answered.timer) after moved.0 (get_or (frees_of links) 0 None) chains filled
+      let timer_changes = timer_moved (timer_key key.node DelayedAcknowledgement) (DelAck flow) state.timer answered.timer in
+      subst (λ (l : List LinkState). HasRun key (with_step (part (Receives flow state) links) (Receives flow answered) timer_changes 0 step) (Receives flow answered) l before after chains filled) (sym all_is)
+      (step_runs (Receives flow state) links before is key 0 is.linked (Receives flow answered) timer_changes step new (moved_to (after_take before key) 2 answered.timer) after moved.0 (get_or (frees_of links) 0 None) chains filled
       refl (has_link (Receives flow answered) links 0 new is.linked) refl same refl refl
       (rto_timer_out before key 2 (omega arith) (omega (arith, long_there)) at timed set_it
       ∙ ap (λ (d : Option ℕ). apply (timer_cleared (numbered_key before.owner.node 2) d ++ set_it) gone) (ap (λ (a : List (Option ℕ)). get_or a 2 None) is.timers)
       ∙ ap (λ f. apply (timer_cleared (numbered_key before.owner.node 2) state.timer ++ timer_set (numbered_key before.owner.node 2) (DelAck f) answered.timer) gone) is.flow
-      ∙ ap (λ n. apply (rto_timer_moved (numbered_key n 2) (DelAck flow) state.timer answered.timer) gone) (sym at))
+      ∙ ap (λ n. apply (timer_moved (numbered_key n 2) (DelAck flow) state.timer answered.timer) gone) (sym at))
       (moved.1 ∙ ap (λ f. moved.0 ∷ None ∷ answered.timer ∷ f) (sym (set-get_or (frees_of links) 0 None)))
       after_is out_is)
 

@@ -21,7 +21,7 @@ use Rattle.node_core.specs.InStep.{HasItsLink, flow_of, rto_deadline, delayed_of
 use Rattle.node_core.specs.Links.{packets_of}
 use Rattle.node_core.specs.Part.{LinkState, PartState, link_at}
 use Rattle.node_core.specs.Ready.{CanHandle, IsOfLink, IsSetBy}
-use Rattle.node_core.specs.Row.{Effect, quiet, row, rto_timer_moved, with_step}
+use Rattle.node_core.specs.Row.{Effect, quiet, row, timer_moved, with_step}
 use Rattle.node_core.specs.RouteTable.{exit_for}
 use Rattle.node_core.specs.Running.{part}
 
@@ -38,18 +38,18 @@ arriving (Free link) = []
 arriving (Arrive packet) = packet ∷ []
 
 -- what the timer of a flow's end announces
-abbrev pub rto_timer_event : ℕ → Timer → Event
-rto_timer_event flow FlowStarts = Start flow
-rto_timer_event flow Retransmission = Rto flow
-rto_timer_event flow DelayedAcknowledgement = DelAck flow
-rto_timer_event flow (BecomesFree index) = Free index
+abbrev pub end_timer_event : ℕ → Timer → Event
+end_timer_event flow FlowStarts = Start flow
+end_timer_event flow Retransmission = Rto flow
+end_timer_event flow DelayedAcknowledgement = DelAck flow
+end_timer_event flow (BecomesFree index) = Free index
 
 -- when the timer of an end ends
-abbrev pub rto_timer_of : Role → Timer → Option ℕ
-rto_timer_of role FlowStarts = None
-rto_timer_of role Retransmission = rto_deadline role
-rto_timer_of role DelayedAcknowledgement = delayed_of role
-rto_timer_of role (BecomesFree index) = None
+abbrev pub end_timer_of : Role → Timer → Option ℕ
+end_timer_of role FlowStarts = None
+end_timer_of role Retransmission = rto_deadline role
+end_timer_of role DelayedAcknowledgement = delayed_of role
+end_timer_of role (BecomesFree index) = None
 
 -- the effect of what is decided of an event, at a part that has this role afterwards
 abbrev pub decided_effect : PartState → Role → Key → Event → Decision → Effect
@@ -57,13 +57,13 @@ decided_effect part role key event Leave = quiet part
 decided_effect part role key event (PassOn index) = with_step part role [] index (offered_all key.time (link_at part.links index).port (arriving event))
 decided_effect part role key event (TakeNext index) = with_step part role [] index (taken key.time (link_at part.links index).port)
 decided_effect part role key event (Send sending) =
-    with_step part role (rto_timer_moved (timer_key key.node sending.timer) (rto_timer_event (flow_of part.role) sending.timer) (rto_timer_of part.role sending.timer) sending.time) 0
+    with_step part role (timer_moved (timer_key key.node sending.timer) (end_timer_event (flow_of part.role) sending.timer) (end_timer_of part.role sending.timer) sending.time) 0
     (offered_all key.time (link_at part.links 0).port (sent_by_end sending))
 
 -- an end's timer is to end when the end has it
-pub data IsRtoTimerOf (old new : Role) (timer : Timer) (time : Option ℕ) : Type 0 where
-  of_sender : (flow : ℕ) (fields planned : SenderFields) → old ≡ Sends flow fields → new ≡ Sends flow planned → timer ≡ Retransmission → time ≡ planned.deadline → IsRtoTimerOf old new timer time
-  of_receiver : (flow : ℕ) (state answered : ReceiverState) → old ≡ Receives flow state → new ≡ Receives flow answered → timer ≡ DelayedAcknowledgement → time ≡ answered.timer → IsRtoTimerOf old new timer time
+pub data IsEndTimerOf (old new : Role) (timer : Timer) (time : Option ℕ) : Type 0 where
+  of_sender : (flow : ℕ) (fields planned : SenderFields) → old ≡ Sends flow fields → new ≡ Sends flow planned → timer ≡ Retransmission → time ≡ planned.deadline → IsEndTimerOf old new timer time
+  of_receiver : (flow : ℕ) (state answered : ReceiverState) → old ≡ Receives flow state → new ≡ Receives flow answered → timer ≡ DelayedAcknowledgement → time ≡ answered.timer → IsEndTimerOf old new timer time
 
 -- the timer of an end moves at the flow's start, at its own end, and where a packet arrives
 abbrev pub CanMove : Timer → Event → Type 0
@@ -86,7 +86,7 @@ abbrev pub Suits : Role → Role → Event → Decision → Type 0
 Suits old new event Leave = (new ≡ old) × CanLeave event
 Suits old new event (PassOn index) = new ≡ old
 Suits old new event (TakeNext index) = new ≡ old
-Suits old new event (Send sending) = IsRtoTimerOf old new sending.timer sending.time
+Suits old new event (Send sending) = IsEndTimerOf old new sending.timer sending.time
 
 abbrev pub IsArriving : Event → Type 0
 IsArriving event = (packet : Packet) × (event ≡ Arrive packet)
@@ -109,7 +109,7 @@ pub record CanSend (event : Event) (links : List LinkState) (room : ℕ) (sendin
   pub linked : 0 < length links
   pub room_for : length (sent_by_end sending) ≤ room
   pub few : length sending.cells ≤ 2 ^ 40
-  pub rto_timer : timer_number sending.timer < first_free
+  pub end_timer : timer_number sending.timer < first_free
   pub moves : CanMove sending.timer event
   pub cell : (packet : Packet) → sending.last ≡ Some packet → IsArriving event
 

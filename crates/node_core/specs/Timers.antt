@@ -1,5 +1,5 @@
 -- The keys of a node's events: its timers, by their numbers, and the packets that arrive.
-use Rattle.std.specs.Prelude.{ℕ, ◌+◌, List, [], ◌∷◌, Option, None, Some}
+use Rattle.std.specs.Prelude.{ℕ, ◌+◌, ◌-◌, List, [], ◌∷◌, Option, None, Some}
 use Rattle.sim_time.specs.declared.key.Key.{Key}
 use Rattle.node_core.specs.declared.timer.Timer.{Timer}
 use Rattle.node_core.specs.declared.timer.Timer.TheVariants.{Start, Retransmission, DelayedAcknowledgement, Free}
@@ -16,6 +16,10 @@ timer_number Start = 0
 timer_number Retransmission = 1
 timer_number DelayedAcknowledgement = 2
 timer_number (Free index) = first_free + index
+
+-- which of a node's links becomes free, by the number of its timer
+abbrev pub freed_index : ℕ → ℕ
+freed_index number = number - first_free
 
 -- the key of the timer of a number, set for a time
 abbrev pub numbered_key : ℕ → ℕ → ℕ → Key

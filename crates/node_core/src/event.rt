@@ -3,7 +3,7 @@
 use packet_chain::Packet;
 
 /// What is due at a node.
-#[derive(Clone, Copy, Debug, PartialEq, Eq)]
+#[derive(Clone, Copy, PartialEq, Eq)]
 pub enum Event {
     /// The flow of this number starts, at its sender.
     Start(u16),

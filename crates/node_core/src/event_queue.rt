@@ -6,7 +6,7 @@ ghost use Rattle.sim_time.specs.declared.key.Key.{Key};
 ghost use Rattle.tournament.specs.Keyed.{least, next_key};
 ghost use Rattle.tournament.specs.Timed.{time_of};
 ghost use Rattle.node_core.specs.Timers.{timer_number, numbered_key};
-ghost use Rattle.node_core.specs.EventQueueState.{timer_event, cleared, incoming_at, incoming_index, CanArrive, HasCome, CanComeIn, fresh_wire, fresh_event_queue, IsTimer, IsDue};
+ghost use Rattle.node_core.specs.EventQueueState.{timer_event, cleared, CanArrive, HasCome, CanComeIn, fresh_wire, fresh_event_queue, IsTimer, IsDue};
 ghost use Rattle.node_core.specs.Passing.{after_take, moved_to};
 ghost use Rattle.packet_chain.specs.declared.packet.Packet.{Packet};
 ghost use Rattle.node_core.specs.declared.event.Event.{Event};
@@ -139,32 +139,6 @@ impl EventQueue {
     /// What a node's packets and copies take their memory from.
     pub(crate) fn alloc(&self) -> Global {
         self.alloc
-    }
-
-    /// The number of an incoming link.
-    pub fn incoming_link(&self, index: usize) -> u16
-        requires { index < length self.now.incoming }
-        ensures { result ≡ (incoming_at self.now.incoming index).link }
-    {
-        self.wires[index].link()
-    }
-
-    /// Which incoming link has this number, counted from 0.
-    pub fn entry(&self, link: u16) -> usize
-        requires { incoming_index self.now.incoming link < length self.now.incoming }
-        ensures { result ≡ incoming_index self.now.incoming link }
-    {
-        self.wires
-            .iter()
-            .position(|wire| wire.link() == link)
-            .unwrap()
-    }
-
-    /// How many incoming links there are.
-    pub fn incoming_count(&self) -> usize
-        ensures { result ≡ length self.now.incoming }
-    {
-        self.wires.len()
     }
 
     /// A copy, with packets in cells of its own.

@@ -44,13 +44,6 @@ impl Link {
         Link { to, port }
     }
 
-    /// The node at which it ends.
-    pub fn to(&self) -> u16
-        ensures { result ≡ self.now.to }
-    {
-        self.to
-    }
-
     /// Its sending side.
     pub fn port(&self) -> &Port
         ensures value { result.now ≡ self.now.port }

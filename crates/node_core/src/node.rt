@@ -10,7 +10,7 @@ ghost use Rattle.packet_chain.specs.Stamped.{Stamped};
 ghost use Rattle.tournament.specs.Keyed.{least, next_key, EachKey};
 ghost use Rattle.tournament.specs.Timed.{time_of};
 ghost use Rattle.node_core.specs.declared.event.Event.{Event};
-ghost use Rattle.node_core.specs.EventQueueState.{incoming_at, incoming_index};
+ghost use Rattle.node_core.specs.EventQueueState.{incoming_at};
 ghost use Rattle.node_core.specs.WireState.{stamps_of};
 ghost use Rattle.node_core.specs.Part.{link_at, sender_in, receiver_in};
 ghost use Rattle.node_core.specs.Row.{Leaving, row};
@@ -117,42 +117,12 @@ impl Node {
         self.event_queue.next_time()
     }
 
-    /// How many outgoing links it has.
-    pub fn link_count(&self) -> usize
-        ensures { result ≡ length self.now.part.links }
-    {
-        self.links.len()
-    }
-
-    /// The node at which an outgoing link ends.
-    pub fn link_end(&self, index: usize) -> u16
-        requires { index < length self.now.part.links }
-        ensures { result ≡ (link_at self.now.part.links index).to }
-    {
-        self.links[index].to()
-    }
-
     /// The number of an outgoing link.
     pub fn link_number(&self, index: usize) -> u16
         requires { index < length self.now.part.links }
         ensures { result ≡ (link_at self.now.part.links index).port.link }
     {
         self.links[index].port().link()
-    }
-
-    /// How many incoming links it has.
-    pub fn incoming_count(&self) -> usize
-        ensures { result ≡ length self.now.incoming }
-    {
-        self.event_queue.incoming_count()
-    }
-
-    /// The number of an incoming link.
-    pub fn incoming_link(&self, index: usize) -> u16
-        requires { index < length self.now.incoming }
-        ensures { result ≡ (incoming_at self.now.incoming index).link }
-    {
-        self.event_queue.incoming_link(index)
     }
 
     /// Its sender, with the flow's number; none at other nodes.
@@ -189,34 +159,9 @@ impl Node {
         in_order(self.alloc, &self.event_queue)
     }
 
-    /// Packets come over an incoming link, after all that came over it before; the chain is then
-    /// empty. It takes no memory.
-    pub fn deliver(&mut self, link: u16, chain: &mut PacketChain)
-        requires ends_here { incoming_index self.old.incoming link < length self.old.incoming }
-        requires rising { IsStrictlyIncreasing (stamps_of chain.old) }
-        requires later { All (λ stamp. EachKey (λ k. k.source ≡ link + 1 → k.time < stamp) self.old.pending) (stamps_of chain.old) }
-        requires few { (incoming_at self.old.incoming (incoming_index self.old.incoming link)).came + length chain.old ≤ 2 ^ 50 }
-        ensures node { self.new ≡ delivered self.old (incoming_index self.old.incoming link) chain.old }
-        ensures emptied { chain.new ≡ [] }
-    {
-        let index = self.event_queue.entry(link);
-        self.deliver_at(index, chain);
-    }
-
-    /// The same, over the incoming link of an index.
-    #[inline(always)]
-    pub fn deliver_at(&mut self, index: usize, chain: &mut PacketChain)
-        requires within { index < length self.old.incoming }
-        requires rising { IsStrictlyIncreasing (stamps_of chain.old) }
-        requires later { All (λ stamp. EachKey (λ k. k.source ≡ (incoming_at self.old.incoming index).link + 1 → k.time < stamp) self.old.pending) (stamps_of chain.old) }
-        requires few { (incoming_at self.old.incoming index).came + length chain.old ≤ 2 ^ 50 }
-        ensures node { self.new ≡ delivered self.old index chain.old }
-        ensures emptied { chain.new ≡ [] }
-    {
-        let _behind = self.event_queue.append_behind(index, chain);
-    }
-
-    /// The same. The answer is whether others are under way before them: then the least key stays.
+    /// Packets come over the incoming link of an index, after all that came over it before; the chain is
+    /// then empty. It takes no memory. The answer is whether others are under way before them: then the
+    /// least key stays.
     #[inline(always)]
     pub fn deliver_behind(&mut self, index: usize, chain: &mut PacketChain) -> bool
         requires within { index < length self.old.incoming }

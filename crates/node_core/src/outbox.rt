@@ -1,5 +1,5 @@
 //! What leaves a node over its links.
-ghost use Rattle.std.specs.Prelude.{◌≡◌, ◌==◌, ◌<◌, [], IfOk, length, replicate, slice_index_or};
+ghost use Rattle.std.specs.Prelude.{◌≡◌, ◌<◌, [], IfOk, length, replicate, slice_index_or};
 ghost use Rattle.std.specs.Borrow.{sem};
 
 use crate::free_list::FreeList;
@@ -46,13 +46,6 @@ impl Outbox {
         ensures { result ≡ length self.now }
     {
         self.chains.len()
-    }
-
-    /// Whether it is for no link.
-    pub fn is_empty(&self) -> bool
-        ensures { result ≡ (length self.now == 0) }
-    {
-        self.chains.is_empty()
     }
 
     /// What left over the link of an index.

@@ -11,7 +11,7 @@ use reno_sender::Sender;
 use std::alloc::AllocError;
 
 /// What a node does, with all that it keeps for it.
-#[derive(Debug, Drop)]
+#[derive(Drop)]
 pub enum Role {
     /// Sends the data of the flow of this number.
     Sends(u16, Sender),

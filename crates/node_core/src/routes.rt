@@ -8,7 +8,7 @@ use std::marker::Model;
 
 /// Which of a router's outgoing links a flow's packets take, counted from 0 in rising number; none
 /// where the router has no route.
-#[derive(Clone, Copy, Debug, PartialEq, Eq)]
+#[derive(Clone, Copy)]
 pub struct FlowExits {
     /// Segments, which go to the flow's receiver.
     pub for_data: Option<u16>,
@@ -17,7 +17,7 @@ pub struct FlowExits {
 }
 
 /// A router's exits, flow by flow.
-#[derive(Debug, Drop)]
+#[derive(Drop)]
 pub struct RouteTable {
     exits: Vec<FlowExits>,
 }

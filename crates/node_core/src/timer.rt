@@ -6,7 +6,7 @@ ghost use Rattle.node_core.specs.Timers.{timer_number};
 pub(crate) const FIRST_FREE: usize = 3;
 
 /// A timer of a node: it is set at one moment at most.
-#[derive(Clone, Copy, Debug, PartialEq, Eq)]
+#[derive(Clone, Copy)]
 pub enum Timer {
     /// The node's flow starts.
     Start,

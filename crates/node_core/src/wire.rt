@@ -4,17 +4,14 @@ ghost use Rattle.packet_chain.specs.declared.packet.Packet.{Packet};
 ghost use Rattle.node_core.specs.declared.event.Event.TheVariants.{Arrive};
 ghost use Rattle.std.specs.Prelude.{◌≡◌, ◌+◌, ◌<◌, ◌≤◌, ◌^◌, ◌++◌, [], length, slice_get, All, Some, IfOk, IsSome};
 ghost use Rattle.std.specs.FinMap as map;
-ghost use Rattle.std.specs.Iterator.{YieldsFirst};
-ghost use Rattle.std.specs.Iterator.Runs.{YieldsInOrder};
 ghost use Rattle.std.specs.List.Sorted.{IsStrictlyIncreasing};
 ghost use Rattle.sim_time.specs.declared.key.Key.{Key};
-ghost use Rattle.packet_chain.specs.Stamped.{Stamped};
 ghost use Rattle.tournament.specs.Keyed.{least, next_key, apply, entering, EachKey};
 ghost use Rattle.tournament.specs.Timed.{time_of};
 ghost use Rattle.node_core.specs.WireState.{IsWire, arrivals, arrivals_on, pending_on, came_over, stamps_of, after_pop};
 
 use crate::event::Event;
-use packet_chain::{Iter, PacketCell, PacketChain};
+use packet_chain::{PacketCell, PacketChain};
 use sim_time::{Key, Time};
 use std::alloc::{AllocError, Global};
 use std::marker::Model;
@@ -57,26 +54,11 @@ impl Wire {
         }
     }
 
-    /// The link's number.
-    pub fn link(&self) -> u16
-        ensures { result ≡ self.now.link }
-    {
-        self.link
-    }
-
     /// How many packets have arrived.
     pub fn taken(&self) -> u64
         ensures { result ≡ self.now.taken }
     {
         self.taken
-    }
-
-    /// The packets that have not arrived, each with the moment at which it arrives.
-    pub fn under_way(&self) -> Iter<'_>
-        ensures rest { result ≡ self.now.under_way }
-        ensures runs { YieldsInOrder (YieldsFirst {A = Stamped} (λ rest. rest)) (λ rest. rest) }
-    {
-        self.under_way.iter()
     }
 
     /// The first arrival, whose number is one more than how many packets have arrived.

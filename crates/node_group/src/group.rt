@@ -11,7 +11,7 @@ use sim_time::Time;
 use std::marker::Model;
 
 /// Why a group stopped before its end.
-#[derive(Clone, Copy, Debug, PartialEq, Eq)]
+#[derive(Clone, Copy)]
 pub enum GroupFault {
     /// There was no memory.
     NoMemory,

@@ -1,5 +1,6 @@
 -- What one call, and several in turn, keep at a port.
-use Rattle.std.proofs.Common.{◌≡◌, ℕ, ◌+◌, Bool, true, false, List, [], ◌∷◌, ◌++◌, map, length, Option, Some, None, refl, sym, ap, subst, ◌∙◌, arith, length-append}
+use Rattle.std.proofs.Common.{◌≡◌, ◌≤◌, ℕ, ◌+◌, Bool, true, false, cond, List, [], ◌∷◌, ◌++◌, map, length, Option, Some, None, refl, sym, ap, subst, ◌∙◌, arith, length-append}
+use Rattle.std.proofs.lemmas.List.{length-map}
 use Rattle.std.specs.Prelude.{is_none, option_to_list}
 use Rattle.std.specs.List.{filter_map}
 use Rattle.std.specs.Option.{option_or}
@@ -12,6 +13,7 @@ use Rattle.aqm.specs.Laws.{listed}
 use Rattle.aqm.proofs.Front.{takes_the_front, gives_what_waits}
 use Rattle.aqm.proofs.Stays.{refused_stays}
 use Rattle.port.specs.Port.{PortState, PortStep, Departure, begun, dropped_for, taken, with_packet, offered_one, offered_all}
+use Rattle.port.specs.Room.{drops_at_offer}
 use Rattle.port.specs.History.{Offer, Free, history, offered_in}
 use Rattle.port.proofs.Cases.{counted_one, after_tests, offered_by_case, queue_stays}
 use Rattle.port.specs.Laws.{sent_by, BusyLinkBeginsNothing, OneDepartsAtMost, NothingWaitsWhereIdle, IdleLinksKeepNothing, IsCounted, EveryPacketIsCounted}
@@ -172,8 +174,58 @@ offered_keeps_nothing now port packet false true idle at is nothing = λ none. r
 offered_keeps_nothing now port packet false false true at is nothing = taken_keeps_nothing now (with_packet now (counted_one port) packet)
 offered_keeps_nothing now port packet false false false at is nothing = λ idle. let yes : is_none port.next_free ≡ true = ap is_none idle in absurd (cc)
 
+pub one_keeps_nothing : (now : ℕ) (port : PortState) (packet : Packet) → NothingWaitsWhereIdle port → NothingWaitsWhereIdle (offered_one now port packet).port
+one_keeps_nothing now port packet nothing = offered_by_case (λ step. NothingWaitsWhereIdle step.port) now port packet (λ idle is lost full at. offered_keeps_nothing now port packet lost full idle at is nothing)
+
 pub idle_links_keep_nothing : IdleLinksKeepNothing
 idle_links_keep_nothing port [] nothing = nothing
-idle_links_keep_nothing port (Offer now packet ∷ calls) nothing =
-    idle_links_keep_nothing (offered_one now port packet).port calls (offered_by_case (λ step. NothingWaitsWhereIdle step.port) now port packet (λ idle is lost full at. offered_keeps_nothing now port packet lost full idle at is nothing))
+idle_links_keep_nothing port (Offer now packet ∷ calls) nothing = idle_links_keep_nothing (offered_one now port packet).port calls (one_keeps_nothing now port packet nothing)
 idle_links_keep_nothing port (Free now ∷ calls) nothing = idle_links_keep_nothing (taken now port).port calls (taken_keeps_nothing now port)
+
+-- where a link is idle after an offering it was so before, and nothing was sent
+pub record IsIdleStill (port : PortState) (step : PortStep) : Type 0 where
+  pub idle : port.next_free ≡ None
+  pub same : step.port.sent ≡ port.sent
+  pub none_departs : step.departure ≡ None
+
+idle_is : (o : Option ℕ) → is_none o ≡ true → o ≡ None
+idle_is None is = refl
+idle_is (Some t) is = cc
+
+pub one_leaves_idle : (now : ℕ) (port : PortState) (packet : Packet) → (offered_one now port packet).port.next_free ≡ None → IsIdleStill port (offered_one now port packet)
+one_leaves_idle now port packet = offered_by_case (λ step. step.port.next_free ≡ None → IsIdleStill port step) now port packet (λ idle is lost full _. go idle is lost full)
+  where
+    begun_idle : (at : PortState) (given : Option Stamped) → port.next_free ≡ None → at.sent ≡ port.sent → (begun now at given).port.next_free ≡ None → ((begun now at given).port.sent ≡ port.sent) × ((begun now at given).departure ≡ None)
+    begun_idle at None was sent idle = (sent, refl)
+    begun_idle at (Some cell) was sent idle = cc
+
+    go : (idle : Bool) → is_none port.next_free ≡ idle → (lost full : Bool) → let step = after_tests now (counted_one port) packet lost full idle in step.port.next_free ≡ None → IsIdleStill port step
+    go idle is true full now_idle = record { idle = now_idle; same = refl; none_departs = refl }
+    go idle is false true now_idle = record { idle = now_idle; same = refl; none_departs = refl }
+    go false is false false now_idle = record { idle = now_idle; same = refl; none_departs = refl }
+    go true is false false now_idle =
+        let was = idle_is port.next_free is in
+        let with = with_packet now (counted_one port) packet in
+        let take = taken_from with.queue now in
+        let still = begun_idle (record with { queue = take.queue }) take.given was refl now_idle in
+        record { idle = was; same = still.0; none_departs = still.1 }
+
+-- an offering does one thing, and one for each packet that its queue drops
+begun_few : (now : ℕ) (port : PortState) (given : Option Stamped) → length (begun now port given).acts ≤ 1
+begun_few now port None = omega arith
+begun_few now port (Some cell) = omega arith
+
+pub one_does_few : (now : ℕ) (port : PortState) (packet : Packet) → length (offered_one now port packet).acts ≤ drops_at_offer now port packet + 1
+one_does_few now port packet = offered_by_case (λ step. length step.acts ≤ drops_at_offer now port packet + 1) now port packet (λ idle is lost full _. go idle is lost full)
+  where
+    go : (idle : Bool) → is_none port.next_free ≡ idle → (lost full : Bool) → length (after_tests now (counted_one port) packet lost full idle).acts ≤ drops_at_offer now port packet + 1
+    go idle is true full = omega arith
+    go idle is false true = omega arith
+    go false is false false = omega arith
+    go true is false false =
+        let with = with_packet now (counted_one port) packet in
+        let take = taken_from with.queue now in
+        let sending = begun now (record with { queue = take.queue }) take.given in
+        let dropped = map (dropped_for with.link (take_reason with.queue)) take.dropped in
+        let most : length (dropped ++ sending.acts) ≤ length take.dropped + 1 = omega (arith, length-append dropped sending.acts, length-map take.dropped (dropped_for with.link (take_reason with.queue)), begun_few now (record with { queue = take.queue }) take.given) in
+        subst (λ b. length (dropped ++ sending.acts) ≤ cond b (length take.dropped) 0 + 1) (sym is) most

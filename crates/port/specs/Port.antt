@@ -91,17 +91,25 @@ only port acts = record { port = port; departure = None; acts = acts }
 abbrev pub with_packet : ℕ → PortState → Packet → PortState
 with_packet now port packet = record port { queue = offered_to port.queue (packet, now) now }
 
--- a packet enters the queue, and an idle link takes at once
-abbrev pub entered : ℕ → PortState → Packet → PortStep
-entered now port packet = if is_none port.next_free then taken now (with_packet now port packet) else only (with_packet now port packet) []
+-- an idle link takes at once
+abbrev pub taken_if_idle : ℕ → PortState → PortStep
+taken_if_idle now port = if is_none port.next_free then taken now port else only port []
 
--- a packet is offered: it is lost where the list has its number, dropped where the queue refuses it, and else enters
+-- a packet enters the queue, and an idle link takes
+abbrev pub entered : ℕ → PortState → Packet → PortStep
+entered now port packet = taken_if_idle now (with_packet now port packet)
+
+-- a packet that is not lost comes to the queue: it is dropped where the queue refuses it, and else enters
+abbrev pub admitted : ℕ → PortState → Packet → PortStep
+admitted now port packet =
+    if refuses port.queue then only (with_packet now port packet) (Dropped port.link (Offer (offer_reason port.queue)) packet ∷ [])
+    else entered now port packet
+
+-- a packet is offered: it is lost where the list has its number, and else comes to the queue
 abbrev pub offered_one : ℕ → PortState → Packet → PortStep
 offered_one now port packet =
     let counted = record port { offered = port.offered + 1 } in
-    if is_lost port.lose counted.offered then only counted (Dropped port.link Lost packet ∷ [])
-    else (if refuses port.queue then only (with_packet now counted packet) (Dropped port.link (Offer (offer_reason port.queue)) packet ∷ [])
-    else entered now counted packet)
+    if is_lost port.lose counted.offered then only counted (Dropped port.link Lost packet ∷ []) else admitted now counted packet
 
 -- packets are offered at one moment, in their order: at most one departs, as a busy link begins nothing
 abbrev pub offered_all : ℕ → PortState → List Packet → PortStep

@@ -8,7 +8,7 @@ use std::alloc::{AllocError, Global};
 use std::marker::Model;
 
 /// One thing that an event did.
-#[derive(Clone, Copy, Debug, PartialEq, Eq)]
+#[derive(Clone, Copy, PartialEq, Eq)]
 pub enum Act {
     /// The link of this number began to send the packet.
     Tx(u16, Packet),
@@ -32,7 +32,7 @@ impl Default for Act {
 }
 
 /// What one event did, in the order done. Two acts need no memory of their own.
-#[derive(Debug, Drop)]
+#[derive(Drop)]
 pub struct Acts {
     items: SmallVec<Act, 2>,
 }

@@ -1,11 +1,11 @@
 //! A link's sending side.
-ghost use Rattle.std.specs.Prelude.{◌≡◌, ℕ, ◌+◌, ◌^◌, ◌<◌, ◌≤◌, ◌++◌, Some, None, [], false, All, IsTrue, length, IfOk};
+ghost use Rattle.std.specs.Prelude.{◌≡◌, ℕ, ◌+◌, ◌^◌, ◌<◌, ◌≤◌, ◌++◌, Some, None, [], false, All, IsTrue, is_none, if◌then◌else◌, length, IfOk};
 ghost use Rattle.std.specs.List.Sorted.{IsStrictlyIncreasing};
 ghost use Rattle.sim_time.specs.Moment.{IsMoment};
 ghost use Rattle.sim_time.specs.declared.limits.TheConstants.{MOST_EVENTS};
 ghost use Rattle.packet_chain.specs.declared.packet.Packet.{Packet};
 ghost use Rattle.aqm.specs.Queue.{offered_to, refuses, taken_from, waiting_in};
-ghost use Rattle.port.specs.Port.{IsPort, initial_port, offered_one, taken, departed};
+ghost use Rattle.port.specs.Port.{IsPort, initial_port, offered_one, admitted, taken_if_idle, taken, departed};
 ghost use Rattle.port.specs.Laws.{NothingWaitsWhereIdle};
 ghost use Rattle.port.specs.Room.{drops_at, drops_at_offer};
 
@@ -161,23 +161,82 @@ impl Port {
         ensures idle_still { self.new.next_free ≡ None → (self.old.next_free ≡ None) × (self.new.sent ≡ self.old.sent) × (out.new ≡ out.old) }
         ensures caught_up { NothingWaitsWhereIdle self.old → NothingWaitsWhereIdle self.new }
     {
+        self.offer(cell, now, acts, out);
+    }
+
+    // The same: the packet is lost, or it comes to the queue.
+    #[inline(always)]
+    fn offer(&mut self, cell: PacketCell, now: Time, acts: &mut Acts, out: &mut PacketChain)
+        requires moment { IsMoment now }
+        requires room { drops_at_offer now self.old cell.0 + 1 ≤ acts.old.room }
+        requires sent { self.old.next_free ≡ None → self.old.sent < MOST_EVENTS }
+        requires offered { self.old.offered < 2 ^ 100 }
+        requires chain { self.old.next_free ≡ None → length out.old < MOST_EVENTS }
+        ensures state { self.new ≡ (offered_one now self.old cell.0).port }
+        ensures departed { out.new ≡ out.old ++ departed (offered_one now self.old cell.0).departure }
+        ensures acts { acts.new.acts ≡ acts.old.acts ++ (offered_one now self.old cell.0).acts }
+        ensures places { acts.new.room + length acts.new.acts ≡ acts.old.room + length acts.old.acts }
+    {
         if self.losses.count() {
             drop_cell(cell, self.link, DropReason::Lost, acts);
-            return;
+        } else {
+            self.admit(cell, now, acts, out);
         }
+    }
+
+    // A packet that is not lost passes through the queue, or is offered to it.
+    #[inline(always)]
+    fn admit(&mut self, cell: PacketCell, now: Time, acts: &mut Acts, out: &mut PacketChain)
+        requires moment { IsMoment now }
+        requires room { drops_at_offer now self.old cell.0 + 1 ≤ acts.old.room }
+        requires sent { self.old.next_free ≡ None → self.old.sent < MOST_EVENTS }
+        requires chain { self.old.next_free ≡ None → length out.old < MOST_EVENTS }
+        ensures state { self.new ≡ (admitted now self.old cell.0).port }
+        ensures departed { out.new ≡ out.old ++ departed (admitted now self.old cell.0).departure }
+        ensures acts { acts.new.acts ≡ acts.old.acts ++ (admitted now self.old cell.0).acts }
+        ensures places { acts.new.room + length acts.new.acts ≡ acts.old.room + length acts.old.acts }
+    {
         if self.is_open() {
             self.begin(Some(cell), now, acts, out);
-            return;
+        } else {
+            self.enqueue(cell, now, acts, out);
         }
+    }
+
+    // The queue refuses the packet, or the packet enters and an idle link takes.
+    #[inline(always)]
+    fn enqueue(&mut self, cell: PacketCell, now: Time, acts: &mut Acts, out: &mut PacketChain)
+        requires moment { IsMoment now }
+        requires room { drops_at_offer now self.old cell.0 + 1 ≤ acts.old.room }
+        requires sent { self.old.next_free ≡ None → self.old.sent < MOST_EVENTS }
+        requires chain { self.old.next_free ≡ None → length out.old < MOST_EVENTS }
+        ensures state { self.new ≡ (admitted now self.old cell.0).port }
+        ensures departed { out.new ≡ out.old ++ departed (admitted now self.old cell.0).departure }
+        ensures acts { acts.new.acts ≡ acts.old.acts ++ (admitted now self.old cell.0).acts }
+        ensures places { acts.new.room + length acts.new.acts ≡ acts.old.room + length acts.old.acts }
+    {
         match self.queue.offer(cell, now) {
             Offered::Dropped(cell, reason) => {
                 drop_cell(cell, self.link, DropReason::Offer(reason), acts);
             }
-            Offered::Entered => {
-                if self.next_free.is_none() {
-                    self.take(now, acts, out);
-                }
-            }
+            Offered::Entered => self.take_if_idle(now, acts, out),
+        }
+    }
+
+    // An idle link takes at once.
+    #[inline(always)]
+    fn take_if_idle(&mut self, now: Time, acts: &mut Acts, out: &mut PacketChain)
+        requires moment { IsMoment now }
+        requires room { (if is_none self.old.next_free then drops_at now self.old else 0) + 1 ≤ acts.old.room }
+        requires sent { self.old.next_free ≡ None → self.old.sent < MOST_EVENTS }
+        requires chain { self.old.next_free ≡ None → length out.old < MOST_EVENTS }
+        ensures state { self.new ≡ (taken_if_idle now self.old).port }
+        ensures departed { out.new ≡ out.old ++ departed (taken_if_idle now self.old).departure }
+        ensures acts { acts.new.acts ≡ acts.old.acts ++ (taken_if_idle now self.old).acts }
+        ensures places { acts.new.room + length acts.new.acts ≡ acts.old.room + length acts.old.acts }
+    {
+        if self.next_free.is_none() {
+            self.take(now, acts, out);
         }
     }
 

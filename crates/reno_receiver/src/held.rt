@@ -7,7 +7,7 @@ use std::alloc::{AllocError, Global};
 use std::marker::Model;
 
 /// The numbers of the segments that came out of order.
-#[derive(Debug, Drop)]
+#[derive(Drop)]
 pub struct Held {
     numbers: Vec<u64>,
     taken: usize,

@@ -12,7 +12,7 @@ use std::alloc::{AllocError, Global};
 use std::marker::Model;
 
 /// The receiver of a flow.
-#[derive(Debug, Drop)]
+#[derive(Drop)]
 pub struct Receiver {
     mss: u64,
     delack: Time,

@@ -3,7 +3,7 @@
 use sim_time::Time;
 
 /// What a receiver answers a segment with.
-#[derive(Clone, Copy, Debug, PartialEq, Eq)]
+#[derive(Clone, Copy)]
 pub enum Reply {
     /// An acknowledgement, now: the number of the first byte that has not come.
     AckNow(u64),

@@ -1,5 +1,5 @@
 -- What a new acknowledgement that is not partial lets go.
-use Rattle.std.proofs.Common.{◌≡◌, ℕ, ◌+◌, ◌-◌, ◌*◌, ◌≤◌, false, max, Option, refl, sym, ap, ◌∙◌, subst, arith}
+use Rattle.std.proofs.Common.{◌≡◌, ℕ, ◌+◌, ◌-◌, ◌*◌, ◌<◌, ◌≤◌, false, max, Option, refl, sym, ap, ◌∙◌, subst, arith}
 use Rattle.std.proofs.lemmas.Bool.{lt-ltb}
 use Rattle.reno_sender.specs.declared.fields.SenderFields.{SenderFields}
 use Rattle.reno_sender.specs.declared.fields.Timing.{Timing}
@@ -9,7 +9,7 @@ use Rattle.reno_sender.specs.Fields.{IsSound, total}
 use Rattle.reno_sender.specs.Laws.{IsAckFor}
 use Rattle.reno_sender.specs.Sending.{Planned, fill_count, spaced}
 use Rattle.reno_sender.specs.LossRecovery.{advanced, new_acknowledgement, window_after}
-use Rattle.reno_sender.specs.Table.{acknowledged}
+use Rattle.reno_sender.specs.Table.{acknowledged, newly_acknowledged}
 use Rattle.reno_sender.specs.Timer.{measured_by, restarted}
 use Rattle.sim_time.specs.Moment.{IsMoment}
 use Rattle.reno_sender.proofs.Advances.{advanced_keeps, new_acknowledgement_keeps}
@@ -35,6 +35,10 @@ count_by o f ack now = by_sample (λ g. fill_count (advanced_from g f ack now) �
 
 pub count_is : (f : SenderFields) (ack now : ℕ) → fill_count (advanced f ack now) ≡ let_go f ack
 count_is f ack now = count_by f.timing f ack now
+
+pub of_new_data : (f : SenderFields) (ack now : ℕ) → f.una < ack → acknowledged f ack now ≡ newly_acknowledged f ack now
+unfolding acknowledged
+of_new_data f ack now new = rw (lt-ltb f.una ack new) refl
 
 pub is_new : (f : SenderFields) (ack now : ℕ) (run : AckRun) → IsAckRun f ack run → acknowledged f ack now ≡ new_acknowledgement f ack now
 unfolding acknowledged

@@ -16,6 +16,7 @@ use Rattle.reno_sender.specs.Table.{started, acknowledged, timed_out}
 use Rattle.reno_sender.specs.Fields.{is_newreno}
 use Rattle.reno_sender.specs.Laws.{ThresholdAtRecovery, ThresholdAtTimeout, ThresholdAtFurtherTimeout, ThresholdStays, NeverTimesResent, StartNeverTimesResent, AcknowledgementNeverTimesResent, TimeoutNeverTimesResent, TimeoutDoublesRto, RtoStaysUntilSample, LastsUntilRecover, RecoveryLasts}
 use Rattle.reno_sender.proofs.CongestionControl.{loss_leaves_two, first_timeout_leaves_two, further_timeout_leaves}
+use Rattle.reno_sender.proofs.AckRuns.{of_new_data}
 use Rattle.reno_sender.proofs.Samples.{by_sample}
 
 three_at_least : (dups : ℕ) → eqb dups 2 ≡ false → ltb dups 2 ≡ false → 3 ≤ dups
@@ -220,13 +221,9 @@ new_ends_recovery f recover ack now past = record { lasts = (λ on. absurd (fals
 not_below : (f : SenderFields) (recover ack : ℕ) → IsTrue (is_newreno f) → IsTrue f.recovery → f.recover ≡ Some recover → is_partial f ack ≡ ltb ack recover
 not_below f recover ack newreno on is = rw (newreno, on, is) refl
 
-new_row : (f : SenderFields) (ack now : ℕ) → f.una < ack → acknowledged f ack now ≡ cond (is_partial f ack) (partial_acknowledgement f ack now) (new_acknowledgement f ack now)
-unfolding acknowledged
-new_row f ack now l = rw (lt-ltb f.una ack l) refl
-
 pub recovery_lasts : RecoveryLasts
 recovery_lasts f recover ack now newreno on is new =
-    rw (new_row f ack now new, not_below f recover ack newreno on is)
+    rw (of_new_data f ack now new, not_below f recover ack newreno on is)
     (elim (cases_lt ack recover) [
       | inl below ↦ rw (lt-ltb ack recover below) (partial_lasts f recover ack now on below)
       | inr past ↦ rw (le-ltb ack recover past) (new_ends_recovery f recover ack now past)

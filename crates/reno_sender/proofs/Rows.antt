@@ -373,16 +373,24 @@ entered_losses f s out e = record {
   newreno_recovery = λ newreno _. (rw newreno (omega (arith, s.nxt_high)), enters_all_sent f s e newreno);
 }
 
+abbrev pub retransmitting : SenderFields → SenderFields
+retransmitting f =
+    let lowered = lowered_at f ByDuplicates in
+    record f { dups = 3; ssthresh = lowered.ssthresh; cwnd = lowered.cwnd; recovery = true; recover = recover_at_loss f; partial = false }
+
+pub retransmitting_sound : (f : SenderFields) → IsSound f → f.una < f.nxt → enters f ≡ true → IsSound (retransmitting f)
+retransmitting_sound f s out e =
+    let low : Lowered = lowered_at f ByDuplicates in
+    let is : IsWindowSize f low.ssthresh × IsWindowSize f low.cwnd = loss_keeps_windows f ByDuplicates s in
+    windows_sound f low.cwnd low.ssthresh 3 f.lt f.rto true f.resent f.timing f.deadline (recover_at_loss f) false s
+    s.lt_flight (entered_losses f s out e) is.1.least is.1.most is.0.least is.0.most
+    s.rto_least s.rto_most s.deadline_flight s.deadline_most s.timed
+
 pub fast_retransmit_keeps : (f : SenderFields) (now : ℕ) → IsSound f → IsMoment now → f.una < f.nxt → enters f ≡ true →
     RowKeeps f (fast_retransmit f now).fields (fast_retransmit f now).sent now
 fast_retransmit_keeps f now s moment out e =
-    let low : Lowered = lowered_at f ByDuplicates in
-    let is : IsWindowSize f low.ssthresh × IsWindowSize f low.cwnd = loss_keeps_windows f ByDuplicates s in
-    let h : SenderFields = record f { dups = 3; ssthresh = low.ssthresh; cwnd = low.cwnd; recovery = true; recover = recover_at_loss f; partial = false } in
-    let sound_h : IsSound h = windows_sound f low.cwnd low.ssthresh 3 f.lt f.rto true f.resent f.timing f.deadline (recover_at_loss f) false s
-    s.lt_flight (entered_losses f s out e) is.1.least is.1.most is.0.least is.0.most
-    s.rto_least s.rto_most s.deadline_flight s.deadline_most s.timed in
-    resend_keeps f h f.nxt now (quiet_keeps f h now sound_h refl refl refl refl (omega arith) (omega arith) (inl refl) (inr (inl refl))) out (omega arith) s.nxt_multiple s.lt_flight (inl refl)
+    let h : SenderFields = retransmitting f in
+    resend_keeps f h f.nxt now (quiet_keeps f h now (retransmitting_sound f s out e) refl refl refl refl (omega arith) (omega arith) (inl refl) (inr (inl refl))) out (omega arith) s.nxt_multiple s.lt_flight (inl refl)
 
 -- a third duplicate that tells of no loss is NewReno's alone
 not_entered_newreno : (f : SenderFields) → enters f ≡ false → IsFalse (is_newreno f) → ⊥
@@ -447,20 +455,31 @@ timed_out_losses f s = record {
   newreno_recovery = λ _ on. absurd (false≢true on);
 }
 
+abbrev pub ended : SenderFields → ℕ → SenderFields
+ended f now =
+    let lowered = lowered_at f ByTimer in
+    record f { ssthresh = lowered.ssthresh; cwnd = lowered.cwnd; rto = backed_off f.rto; dups = 0; lt = 0; recovery = false; recover = recover_at_loss f; resent = true; timing = None; deadline = Some (now + backed_off f.rto) }
+
+rto_in_range : (f : SenderFields) → IsSound f → (1000000000 ≤ backed_off f.rto) × (backed_off f.rto ≤ 60000000000)
+rto_in_range f s = (omega (arith, s.rto_least), omega arith)
+
+pub ended_sound : (f : SenderFields) (now : ℕ) → IsSound f → IsMoment now → IsSome f.deadline → IsSound (ended f now)
+ended_sound f now s moment set =
+    let out : f.una < f.nxt = s.deadline_flight.0 set in
+    let low : Lowered = lowered_at f ByTimer in
+    let is : IsWindowSize f low.ssthresh × IsWindowSize f low.cwnd = loss_keeps_windows f ByTimer s in
+    let range = rto_in_range f s in
+    windows_sound f low.cwnd low.ssthresh 0 0 (backed_off f.rto) false true None (Some (now + backed_off f.rto)) (recover_at_loss f) f.partial s
+    (omega arith) (timed_out_losses f s) is.1.least is.1.most is.0.least is.0.most
+    range.0 range.1 (λ _. out, λ _. refl) (omega (arith, range.1)) tt
+
 pub timed_out_row_keeps : (f : SenderFields) (now : ℕ) → IsSound f → IsMoment now → IsSome f.deadline →
     RowKeeps f (timed_out f now).fields (timed_out f now).sent now
 unfolding timed_out
 timed_out_row_keeps f now s moment set =
     let out : f.una < f.nxt = s.deadline_flight.0 set in
-    let low : Lowered = lowered_at f ByTimer in
-    let is : IsWindowSize f low.ssthresh × IsWindowSize f low.cwnd = loss_keeps_windows f ByTimer s in
-    let later : ℕ = backed_off f.rto in
-    let h : SenderFields = record f { ssthresh = low.ssthresh; cwnd = low.cwnd; rto = later; dups = 0; lt = 0; recovery = false; recover = recover_at_loss f; resent = true; timing = None; deadline = Some (now + later) } in
-    let least : 1000000000 ≤ later = omega (arith, s.rto_least) in
-    let most : later ≤ 60000000000 = omega arith in
-    let sound_h : IsSound h = windows_sound f low.cwnd low.ssthresh 0 0 later false true None (Some (now + later)) (recover_at_loss f) f.partial s
-    (omega arith) (timed_out_losses f s) is.1.least is.1.most is.0.least is.0.most
-    least most (λ _. out, λ _. refl) (omega arith) tt in
-    let k : RowKeeps f h [] now = quiet_keeps f h now sound_h refl refl refl refl (omega arith) (omega arith) (inr tt) (inr (inr (record { after = later; after_least = least; after_most = most; is_then = refl }))) in
+    let h : SenderFields = ended f now in
+    let range = rto_in_range f s in
+    let k : RowKeeps f h [] now = quiet_keeps f h now (ended_sound f now s moment set) refl refl refl refl (omega arith) (omega arith) (inr tt) (inr (inr (record { after = backed_off f.rto; after_least = range.0; after_most = range.1; is_then = refl }))) in
     resend_keeps f h (f.una + f.mss) now k (omega (arith, s.mss_least)) (multiple_below f.mss f.una f.nxt s.mss_least s.una_multiple s.nxt_multiple out)
     (multiple_next f.mss f.una s.una_multiple) (omega arith) (inr (refl, λ newreno. rw newreno refl))

@@ -40,7 +40,7 @@ enters f = not (is_newreno f) || is_past f.recover f.una
 abbrev pub recover_at_loss : SenderFields → Option ℕ
 recover_at_loss f = if is_newreno f then Some f.high else f.recover
 
--- fast retransmit (RFC 5681 section 3.2 steps 2 and 3): una is sent again, the deadline stays
+-- fast retransmit (RFC 5681 section 3.2 steps 2 and 3): ssthresh = max ((FlightSize - lt) / 2, 2 * SMSS), cwnd = ssthresh + 3 * SMSS, una is sent again, the deadline stays
 abbrev pub fast_retransmit : SenderFields → ℕ → Planned
 fast_retransmit f now =
     let lowered = lowered_at f ByDuplicates in
@@ -54,17 +54,18 @@ third_duplicate f now = if enters f then fast_retransmit f now else nothing_sent
 abbrev pub repeated_duplicate : SenderFields → Planned
 repeated_duplicate f = nothing_sent (record f { dups = one_more f.dups })
 
--- a further duplicate, fast recovery (RFC 5681 section 3.2 steps 4 and 5)
+-- a further duplicate, fast recovery: cwnd + SMSS (RFC 5681 section 3.2 step 4)
 abbrev pub inflated : SenderFields → SenderFields
 inflated f = record f { dups = one_more f.dups; cwnd = window_at f FurtherDuplicate }
 
+-- then a new segment, where cwnd and the receiver's window allow it (step 5)
 abbrev pub further_duplicate : SenderFields → ℕ → Planned
 further_duplicate f now =
     if may_send_new f (f.una + min (window_at f FurtherDuplicate) f.rwnd)
     then sending (inflated f) (f.nxt ∷ []) (f.nxt + f.mss) now
     else nothing_sent (inflated f)
 
--- cwnd after a new acknowledgement of so many bytes, which ends recovery (RFC 5681 section 3.2 step 6)
+-- cwnd after a new acknowledgement of so many bytes: in recovery, which it ends, ssthresh (RFC 5681 section 3.2 step 6); else it grows by slow start or congestion avoidance (section 3.1)
 abbrev pub window_after : SenderFields → ℕ → ℕ
 window_after f bytes = if f.recovery then window_at f RecoveryEnd else window_at f (NewData bytes)
 
@@ -95,7 +96,7 @@ is_below ack (Some recover) = nat_lt ack recover
 abbrev pub is_partial : SenderFields → ℕ → Bool
 is_partial f ack = is_newreno f && (f.recovery && is_below ack f.recover)
 
--- what it does before anything is sent: recovery goes on, and the first in a recovery starts the timer anew
+-- what it does before anything is sent: cwnd falls by the bytes acknowledged and grows by SMSS, recovery goes on, and the first in a recovery starts the timer anew
 abbrev pub partly : SenderFields → ℕ → ℕ → SenderFields
 partly f ack now =
     let g = measured_by f.timing f ack now in
@@ -117,7 +118,7 @@ partial_acknowledgement f ack now =
     then sending h (h.una ∷ h.nxt ∷ []) (h.nxt + h.mss) now
     else sending h (h.una ∷ []) h.nxt now
 
--- a timeout (RFC 6298 sections 5.4 to 5.6, RFC 6582 section 3.2 step 4): recovery ends, each doubles the rto, and una is sent again
+-- a timeout (RFC 5681 section 3.1, RFC 6298 sections 5.4 to 5.6, RFC 6582 section 3.2 step 4): ssthresh = max (FlightSize / 2, 2 * SMSS) at the first of a segment, cwnd = SMSS, recovery ends, each doubles the rto, and una is sent again
 abbrev pub timeout : SenderFields → ℕ → Planned
 timeout f now =
     let lowered = lowered_at f ByTimer in

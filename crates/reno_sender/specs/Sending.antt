@@ -16,11 +16,11 @@ abbrev pub spaced : ℕ → ℕ → ℕ → List ℕ
 spaced first step zero = []
 spaced first step (suc n) = first ∷ spaced (first + step) step n
 
--- where new data has to end: at the flow's end and at the end of the smaller window (RFC 5681 section 3.1)
+-- where new data has to end: at the flow's end, and at una + min (cwnd, rwnd) (RFC 5681 section 3.1)
 abbrev pub allowed_end : SenderFields → ℕ
 allowed_end f = min (total f) (f.una + min f.cwnd f.rwnd)
 
--- how many whole segments lie between nxt and there
+-- how many whole segments from nxt on end there or before
 abbrev pub fill_count : SenderFields → ℕ
 fill_count f = (allowed_end f - f.nxt) / f.mss
 

@@ -37,15 +37,24 @@ initial_fields s = record {
 unfoldable pub started : SenderFields → ℕ → Planned
 started f now = filling f now
 
--- an acknowledgement: new, old, or the first, second, third or a further duplicate
-unfoldable pub acknowledged : SenderFields → ℕ → ℕ → Planned
-acknowledged f ack now =
-    if nat_lt f.una ack then (if is_partial f ack then partial_acknowledgement f ack now else new_acknowledgement f ack now)
-    else (if nat_lt ack f.una || (f.una == f.nxt) then nothing_sent f
-    else (if f.recovery then further_duplicate f now
+-- an acknowledgement of new data: in NewReno's recovery it may be a partial one
+abbrev pub newly_acknowledged : SenderFields → ℕ → ℕ → Planned
+newly_acknowledged f ack now = if is_partial f ack then partial_acknowledgement f ack now else new_acknowledgement f ack now
+
+-- a duplicate: in recovery, or the third, the first or second, or a further one
+abbrev pub duplicated : SenderFields → ℕ → Planned
+duplicated f now =
+    if f.recovery then further_duplicate f now
     else (if f.dups == 2 then third_duplicate f now
     else (if nat_lt f.dups 2 then early_duplicate f now
-    else repeated_duplicate f))))
+    else repeated_duplicate f))
+
+-- an acknowledgement: of new data, or an old one or one with nothing in flight, which does nothing, or a duplicate
+unfoldable pub acknowledged : SenderFields → ℕ → ℕ → Planned
+acknowledged f ack now =
+    if nat_lt f.una ack then newly_acknowledged f ack now
+    else (if nat_lt ack f.una || (f.una == f.nxt) then nothing_sent f
+    else duplicated f now)
 
 -- the deadline has come
 unfoldable pub timed_out : SenderFields → ℕ → Planned

@@ -3,7 +3,7 @@
 use sim_time::{Time, Variant};
 
 /// The segment whose round trip is being timed (RFC 6298 section 3).
-#[derive(Clone, Copy, Debug, PartialEq, Eq)]
+#[derive(Clone, Copy)]
 pub struct Timing {
     /// The acknowledgement number that ends the timing: the byte after the timed segment.
     pub number: u64,
@@ -13,7 +13,7 @@ pub struct Timing {
 
 /// All that a sender keeps of its flow. Byte numbers count from 0. What is small stands together at the end, so that
 /// no bytes between are copied with it.
-#[derive(Clone, Copy, Debug, PartialEq, Eq)]
+#[derive(Clone, Copy)]
 pub struct SenderFields {
     /// Bytes of data in a segment: 1 to 9,000.
     pub mss: u64,

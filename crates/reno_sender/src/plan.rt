@@ -8,7 +8,7 @@ use crate::fields::SenderFields;
 use std::marker::Model;
 
 /// The segments that a new acknowledgement lets go: consecutive ones.
-#[derive(Clone, Copy, Debug, PartialEq, Eq)]
+#[derive(Clone, Copy)]
 pub struct AckRun {
     /// The byte number of the first.
     pub first: u64,
@@ -18,7 +18,7 @@ pub struct AckRun {
 
 /// The new fields of a sender, and the byte numbers to send: at most one that is sent again, and
 /// then a run of consecutive segments. Nothing has happened until the sender commits it.
-#[derive(Clone, Copy, Debug)]
+#[derive(Clone, Copy)]
 pub struct Plan {
     fields: SenderFields,
     resent: Option<u64>,
@@ -58,14 +58,6 @@ impl Plan {
         ensures { planned_of result ≡ nothing_sent fields.now }
     {
         Plan::of(*fields, None, fields.nxt, 0)
-    }
-
-    /// What the sender keeps once this is committed.
-    pub fn fields(&self) -> SenderFields
-        ensures value { result ≡ self.now.fields }
-        ensures well_made { IsWellMade self.now }
-    {
-        self.fields
     }
 
     /// What the sender keeps once this is committed, where it lies.

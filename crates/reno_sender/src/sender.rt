@@ -18,7 +18,7 @@ use sim_time::{SenderSettings, Time, initial_window};
 use std::marker::Model;
 
 /// The sender of one flow: Reno or NewReno.
-#[derive(Clone, Copy, Debug, PartialEq, Eq)]
+#[derive(Clone, Copy)]
 pub struct Sender {
     fields: SenderFields,
 }
@@ -156,15 +156,7 @@ impl Sender {
         timed_out(&self.fields, now)
     }
 
-    /// Does what was planned.
-    pub fn commit(&mut self, plan: Plan)
-        requires { IsPlanOf self.old plan }
-        ensures { self.new ≡ plan.fields }
-    {
-        self.fields = *plan.as_fields();
-    }
-
-    /// Does what was planned, as `commit` does, by a plan that is lent: it is copied once.
+    /// Does what was planned, by a plan that is lent: it is copied once.
     #[inline(always)]
     pub fn commit_lent(&mut self, plan: &Plan)
         requires { IsPlanOf self.old plan.now }

@@ -19,7 +19,7 @@ use Rattle.node_core.specs.Timers.{timer_key}
 use Rattle.node_core.specs.declared.timer.Timer.{Timer}
 use Rattle.node_core.specs.Part.{LinkState, link_at, no_link}
 use Rattle.node_core.specs.Pending.{Events}
-use Rattle.node_core.specs.Row.{rto_timer_moved, made_at_home, sent_away, leaving_over}
+use Rattle.node_core.specs.Row.{timer_moved, made_at_home, sent_away, leaving_over}
 use Rattle.node_core.specs.TraceLine.{TraceLine}
 use Rattle.tournament.specs.Keyed.{apply}
 use Rattle.tournament.proofs.Maps.{not_some, same_some, get_here, get_other}
@@ -58,7 +58,7 @@ arrived_more link lines line =
 row_coming : (m : Events) (node : ℕ) (timer : Timer) (event : Event) (old new : Option ℕ) (links : List LinkState) (index : ℕ) (d : Departure)
     → finmap.get (apply (row_changes node timer event old new links index (Some d)) m) (coming_key links index d) ≡ Some (Arrive d.packet)
 row_coming m node timer event old new links index d =
-    let before = rto_timer_moved (timer_key node timer) event old new ++ made_at_home node links (leaving_over index (Some d)) in
+    let before = timer_moved (timer_key node timer) event old new ++ made_at_home node links (leaving_over index (Some d)) in
     ap (λ (x : Events). finmap.get x (coming_key links index d)) (apply-append before (sent_away links (leaving_over index (Some d))) m) ∙ get_here (apply before m) (coming_key links index d) (Some (Arrive d.packet))
 
 -- an arrival that a row sets is that of the packet that leaves

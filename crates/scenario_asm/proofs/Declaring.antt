@@ -5,8 +5,7 @@ use Rattle.std.specs.Option.{option_and_then}
 use Rattle.std.specs.List.{filter_map, cons_option, slice_get, list_all}
 use Rattle.std.proofs.lemmas.List.{append-nil}
 use Rattle.std.specs.Str.{bytes_eq}
-use Rattle.std.proofs.lemmas.Bool.{cases_Bool}
-use Rattle.std.proofs.lemmas.Bool.Decides.{nat_tests}
+use Rattle.std.proofs.lemmas.Bool.{cases_Bool, eqb-true}
 use Rattle.std.proofs.lemmas.Slice.Eq.{bytes_eq-Decides}
 use Rattle.sim_time.specs.declared.limits.TheConstants.{LATEST_END}
 use Rattle.scenario_image.specs.declared.limits.TheConstants.{MOST_NODES, MOST_LINKS, MOST_FLOWS, MOST_LOSE}
@@ -53,32 +52,24 @@ counted_says : {A : Type 0} (counted : Bool) (verdicts : List Verdict) (full : B
 counted_says true verdicts full value x is = refl
 counted_says false verdicts full value x is = absurd (err_not E3 x is)
 
-three_many : (n : ℕ) → (n == 3) ≡ true → 2 ≤ n
-three_many n is = let same : n ≡ 3 = grind (arith, nat_tests) in omega arith
-
-eight_many : (n : ℕ) → (n == 8) ≡ true → 2 ≤ n
-eight_many n is = let same : n ≡ 8 = grind (arith, nat_tests) in omega arith
-
-nine_many : (n : ℕ) → (n == 9) ≡ true → 2 ≤ n
-nine_many n is = let same : n ≡ 9 = grind (arith, nat_tests) in omega arith
-
-eleven_many : (n : ℕ) → (n == 11) ≡ true → 2 ≤ n
-eleven_many n is = let same : n ≡ 11 = grind (arith, nat_tests) in omega arith
+-- as many words as there are to be are two at least
+many_are : (n k : ℕ) → 2 ≤ k → (n == k) ≡ true → 2 ≤ n
+many_are n k many is = subst (λ m. 2 ≤ m) (sym (eqb-true n k is)) many
 
 either_many : (a b : Bool) (n : ℕ) → (a ≡ true → 2 ≤ n) → (b ≡ true → 2 ≤ n) → (a || b) ≡ true → 2 ≤ n
 either_many true b n first second is = first refl
 either_many false b n first second is = second is
 
 length_many : (t u : Bool) (n : ℕ) → (if t then n == 8 else (if u then n == 11 else (n == 8 || n == 11))) ≡ true → 2 ≤ n
-length_many true u n is = eight_many n is
-length_many false true n is = eleven_many n is
-length_many false false n is = either_many (n == 8) (n == 11) n (eight_many n) (eleven_many n) is
+length_many true u n is = many_are n 8 (omega arith) is
+length_many false true n is = many_are n 11 (omega arith) is
+length_many false false n is = either_many (n == 8) (n == 11) n (many_are n 8 (omega arith)) (many_are n 11 (omega arith)) is
 
 node_of : (known : Known) (words : List Word) (s : Statement) → nth words 0 ≡ codes "node" → node_statement known words ≡ Ok s → IsOf words s
 node_of known words s first says =
     let full = nat_le MOST_NODES (length known.kinds) in
     let value = Node (nth words 1) (unwrap_or (kind_named (nth words 2)) Router) in
-    let many = three_many (length words) (counted_says _ (node_verdicts known words) full value s says) in
+    let many = many_are (length words) 3 (omega arith) (counted_says _ (node_verdicts known words) full value s says) in
     let it : IsOf words value = (first, second_there words many) in
     subst (IsOf words) (judged_says _ (node_verdicts known words) full value s says).1 it
 
@@ -94,7 +85,7 @@ flow_of : (known : Known) (words : List Word) (s : Statement) → nth words 0 �
 flow_of known words s first says =
     let full = nat_le MOST_FLOWS (length known.flows) in
     let value = Flow (nth words 1) (flow_said known words) in
-    let many = either_many (length words == 9) (length words == 11) (length words) (nine_many (length words)) (eleven_many (length words)) (counted_says _ (flow_verdicts known words) full value s says) in
+    let many = either_many (length words == 9) (length words == 11) (length words) (many_are (length words) 9 (omega arith)) (many_are (length words) 11 (omega arith)) (counted_says _ (flow_verdicts known words) full value s says) in
     let it : IsOf words value = (first, second_there words many) in
     subst (IsOf words) (judged_says _ (flow_verdicts known words) full value s says).1 it
 
@@ -169,7 +160,7 @@ either_none false = refl
 
 no_words : (words : List Word) (first : Word) → (length words == 0) ≡ true → second_after first words ≡ None
 no_words [] first none = either_none (bytes_eq [] first)
-no_words (word ∷ words) first none = absurd (let same : suc (length words) ≡ 0 = grind (arith, nat_tests) in omega arith)
+no_words (word ∷ words) first none = absurd (let same : suc (length words) ≡ 0 = eqb-true (suc (length words)) 0 none in omega arith)
 
 said_second : (first : Word) (name : Statement → Option Word) → Seconds first name → (known : Known) (words : List Word) (read : Result Statement Fault) (said : Option Statement) → ((s : Statement) → read ≡ Ok s → IsOf words s) → as_said read ≡ Ok said → second_after first words ≡ option_and_then name said
 said_second first name seconds known words (Ok s) said right is = seconds words s (right s refl) ∙ ap (λ o. option_and_then name o) (ok_is (Some s) said is)

@@ -6,8 +6,7 @@ use Rattle.std.proofs.lemmas.List.Elements.{filter_map-append}
 use Rattle.std.proofs.lemmas.List.FromFn.{length-enumerate_from}
 use Rattle.std.proofs.lemmas.List.Folds.{list_any-append}
 use Rattle.std.proofs.lemmas.List.Sums.{fold-append}
-use Rattle.std.proofs.lemmas.Bool.{cases_Bool}
-use Rattle.std.proofs.lemmas.Bool.Decides.{nat_tests}
+use Rattle.std.proofs.lemmas.Bool.{cases_Bool, eq-eqb, ne_eqb}
 use Rattle.std.proofs.lemmas.Slice.Eq.{bytes_eq-Decides}
 use Rattle.std.proofs.lemmas.Option.{slice_get_within}
 use Rattle.std.specs.List.{filter_map, cons_option, slice_get, enumerate_from, list_any, position_from}
@@ -50,10 +49,10 @@ same_lost statements s none link = sym (none_more (lost_number link) statements 
 
 -- a link's loss, and another's
 lost_here : (link : ℕ) (lose : LoseLine) → lose.link ≡ link → lost_number link (Lose lose) ≡ Some lose.number
-lost_here link lose here = let same : (lose.link == link) ≡ true = grind (arith, nat_tests) in simp same
+lost_here link lose here = let same = eq-eqb lose.link link here in simp same
 
 lost_there : (link : ℕ) (lose : LoseLine) → lose.link ≢ link → lost_number link (Lose lose) ≡ None
-lost_there link lose there = let apart : (lose.link == link) ≡ false = grind (arith, nat_tests) in simp apart
+lost_there link lose there = let apart = ne_eqb lose.link link there in simp apart
 
 more_lost : (statements : List Statement) (lose : LoseLine) (link : ℕ) → lose.link ≡ link → lost_numbers link statements ++ lose.number ∷ [] ≡ lost_numbers link (statements ++ Lose lose ∷ [])
 more_lost statements lose link here = sym (some_more (lost_number link) statements (Lose lose) lose.number (lost_here link lose here))

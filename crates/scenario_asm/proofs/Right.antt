@@ -1,7 +1,6 @@
 -- What a line says without a fault is right.
 use Rattle.std.proofs.Common.{◌≡◌, ◌<◌, ℕ, ◌==◌, ◌&&◌, ◌||◌, not, nat_le, Bool, true, false, if◌then◌else◌, List, [], ◌∷◌, ◌++◌, length, is_some, option_map, Option, Some, None, Result, Ok, Err, ap, sym, ◌∙◌, refl, arith, subst, inl, inr}
-use Rattle.std.proofs.lemmas.Bool.{cases_Bool}
-use Rattle.std.proofs.lemmas.Bool.Decides.{nat_tests}
+use Rattle.std.proofs.lemmas.Bool.{cases_Bool, eqb-true, eqb-false, leb-false, not-true}
 use Rattle.std.specs.Option.{option_or, ForSome}
 use Rattle.std.specs.List.{slice_get, list_all}
 use Rattle.sim_time.specs.declared.limits.TheConstants.{LATEST_END}
@@ -99,7 +98,7 @@ router_is (Some Router) is = refl
 router_is None is = absurd (false_not is)
 
 from_is : (node : ℕ) (o : Option LinkPart) → is_from node o ≡ true → option_map (λ link. link.from) o ≡ Some node
-from_is node (Some part) is = let same : part.from ≡ node = grind (arith, nat_tests) in ap (λ n. Some n) same
+from_is node (Some part) is = ap (λ n. Some n) (eqb-true part.from node is)
 from_is node None is = absurd (false_not is)
 
 link_is : (o : Option LinkPart) → is_some o ≡ true → (part : LinkPart) × (o ≡ Some part)
@@ -115,10 +114,10 @@ and_yes true b is = (refl, is)
 and_yes false b is = absurd (false_not is)
 
 differs : (m n : ℕ) → not (m == n) ≡ true → m ≡ n → ⊥
-differs m n apart same = grind (arith, nat_tests)
+differs m n apart same = eqb-false m n (not-true (m == n) apart) same
 
 below_most : (n most : ℕ) → nat_le most n ≡ false → n < most
-below_most n most full = grind (arith, nat_tests)
+below_most n most full = leb-false most n full
 
 -- the node that a sender's, a receiver's, a router's name means
 sender_there : (kinds : List NodeKind) (item : Option Item) → is_sender (item_kind kinds item) ≡ true → slice_get kinds (item_number item) ≡ Some Sender

@@ -1,7 +1,6 @@
 -- Routes in a map: whether there is one, and one more at its place.
 use Rattle.std.proofs.Common.{◌≡◌, ℕ, ◌==◌, ◌&&◌, ◌||◌, Bool, true, false, cond, nat_lt, is_some, if◌then◌else◌, List, [], ◌∷◌, map, Option, Some, inl, inr, refl, ap, sym, ◌∙◌, arith}
-use Rattle.std.proofs.lemmas.Bool.{cases_Bool}
-use Rattle.std.proofs.lemmas.Bool.Decides.{nat_tests}
+use Rattle.std.proofs.lemmas.Bool.{cases_Bool, eq-eqb, eqb-false, eqb-true, ltb-true, ne_eqb}
 use Rattle.std.specs.declared.cmp.Ordering.TheVariants.{Less, Equal, Greater}
 use Rattle.std.specs.Ordering.{is_eq, nat_cmp, ordering_then, match_ordering}
 use Rattle.std.specs.Map.{lookup}
@@ -13,12 +12,12 @@ use Rattle.scenario_asm.specs.Routes.{as_route, placed}
 same_sym : (a x : ℕ) → (a == x) ≡ (x == a)
 same_sym a x =
     elim (cases_Bool (a == x)) [
-      | inl is ↦ let back : (x == a) ≡ true = grind (arith, nat_tests) in is ∙ sym back
-      | inr isn't ↦ let back : (x == a) ≡ false = grind (arith, nat_tests) in isn't ∙ sym back
+      | inl is ↦ is ∙ sym (eq-eqb x a (sym (eqb-true a x is)))
+      | inr isn't ↦ isn't ∙ sym (ne_eqb x a (λ e. eqb-false a x isn't (sym e)))
     ]
 
 below_not : (a x : ℕ) → nat_lt a x ≡ true → (a == x) ≡ false
-below_not a x below = grind (arith, nat_tests)
+below_not a x below = let less = ltb-true a x below in ne_eqb a x (λ e. omega (arith, e, less))
 
 -- two ends are those of an entry where both are
 both_same : (p q r s : Bool) → (p ≡ true → q ≡ false) → (r ≡ true → s ≡ false) → is_eq (ordering_then (cond p Less (cond q Equal Greater)) (cond r Less (cond s Equal Greater))) ≡ (q && s)

@@ -2,7 +2,7 @@
 use Rattle.std.proofs.Common.{◌≡◌, ◌<◌, ℕ, ◌==◌, ◌||◌, not, Bool, true, false, List, [], ◌∷◌, ◌++◌, length, filter, ap, ◌∙◌, refl, arith}
 use Rattle.std.specs.Prelude.{codes, flat_map}
 use Rattle.std.specs.List.{list_all, onto_first}
-use Rattle.std.proofs.lemmas.Bool.{and_parts, and_from, not-true}
+use Rattle.std.proofs.lemmas.Bool.{and_parts, and_from, eq-eqb, not-true}
 use Rattle.std.proofs.lemmas.Bool.Decides.{nat_tests}
 use Rattle.std.proofs.lemmas.List.{append-nil}
 use Rattle.std.proofs.lemmas.List.Folds.{list_all-append}
@@ -22,7 +22,7 @@ onto_piece : (end b : ℕ) (bs piece : List ℕ) (rest : List (List ℕ)) → no
 onto_piece end b bs piece rest other is = let isn't : (b == end) ≡ false = not-true (b == end) other in simp isn't (ap (onto_first b) is)
 
 same_byte : (b : ℕ) → (b == b) ≡ true
-same_byte b = grind (arith, nat_tests)
+same_byte b = eq-eqb b b refl
 
 -- a piece that a byte ends
 pub pieces_word : (end : ℕ) (piece rest : List ℕ) → is_free end piece ≡ true → pieces end (piece ++ end ∷ rest) ≡ piece ∷ pieces end rest

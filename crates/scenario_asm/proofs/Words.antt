@@ -4,8 +4,7 @@ use Rattle.std.specs.Prelude.{codes}
 use Rattle.std.specs.List.{list_all}
 use Rattle.std.specs.Str.{bytes_eq}
 use Rattle.std.proofs.lemmas.Grind.{common_steps}
-use Rattle.std.proofs.lemmas.Bool.Decides.{nat_tests}
-use Rattle.std.proofs.lemmas.Bool.{cases_lt}
+use Rattle.std.proofs.lemmas.Bool.{cases_lt, ne_eqb}
 use Rattle.std.proofs.lemmas.List.{take_at}
 use Rattle.sim_time.specs.declared.limits.TheConstants.{LATEST_END}
 use Rattle.scenario_image.specs.declared.limits.TheConstants.{MOST_LINKS, MOST_FLOWS}
@@ -23,7 +22,7 @@ pub front_is : {X : Type 0} (xs ys all : List X) (n : ℕ) → xs ++ ys ≡ all 
 front_is xs ys all n is many = sym (take_at xs ys n many) ∙ ap (λ l. take n l) is
 
 not_many : (n k : ℕ) → 12 ≤ n → k < 12 → (n == k) ≡ false
-not_many n k many few = grind (arith, nat_tests)
+not_many n k many few = ne_eqb n k (λ e. omega (arith, e, many, few))
 
 -- a long line is no statement
 sim_long : (words : List Word) → 12 ≤ length words → sim_at words ≡ Err E3
@@ -114,7 +113,7 @@ first_words_word known words =
     ]
 
 pub suc_not : (n : ℕ) → (suc n == 0) ≡ false
-suc_not n = grind (arith, nat_tests)
+suc_not n = ne_eqb (suc n) 0 (λ e. omega (arith, e))
 
 none_left : (words : List Word) → (length (take 12 words) == 0) ≡ (length words == 0)
 none_left [] = refl

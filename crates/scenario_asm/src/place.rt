@@ -11,7 +11,7 @@ use crate::lines::read_lines;
 use std::alloc::{AllocError, Global};
 
 /// The part of a line that is faulty.
-#[derive(Clone, Copy, Debug, PartialEq, Eq)]
+#[derive(Clone, Copy)]
 pub enum Part {
     /// The line as a whole: it has another number of words (E3), or is one statement too many (E9).
     Line,

@@ -6,7 +6,7 @@ use crate::limits::MOST_ROUTER_LINKS;
 use crate::parts::{FlowPart, LinkPart, NodeKind, ScenarioParts};
 
 /// How many links leave a node.
-fn count_outgoing(links: &[LinkPart], node: usize) -> usize
+pub fn count_outgoing(links: &[LinkPart], node: usize) -> usize
     ensures { result ≡ outgoing_count links.now node }
 {
     links
@@ -16,7 +16,7 @@ fn count_outgoing(links: &[LinkPart], node: usize) -> usize
 }
 
 /// How many flows name a node, at either end or at both.
-fn count_naming(flows: &[FlowPart], node: usize) -> usize
+pub fn count_naming(flows: &[FlowPart], node: usize) -> usize
     ensures { result ≡ naming_count flows.now node }
 {
     flows
@@ -26,7 +26,7 @@ fn count_naming(flows: &[FlowPart], node: usize) -> usize
 }
 
 /// Whether a node of this kind has its links and, where it is a flow's end, its flow.
-fn node_has_its_links(parts: &ScenarioParts, node: usize, kind: NodeKind) -> bool
+pub fn node_has_its_links(parts: &ScenarioParts, node: usize, kind: NodeKind) -> bool
     ensures { IsTrue result ↔ HasItsLinks parts.now node kind }
 {
     let outgoing = count_outgoing(parts.links.as_slice(), node);

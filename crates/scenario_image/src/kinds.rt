@@ -5,7 +5,7 @@ ghost use Rattle.scenario_image.specs.Kinds.{IsNode, link_source, HasFlowItsKind
 use crate::parts::{FlowPart, NodeKind, RoutePart, ScenarioParts};
 
 /// What a node does, if there is one of this number.
-pub(crate) fn kind_of(parts: &ScenarioParts, node: u16) -> Option<NodeKind>
+pub fn kind_of(parts: &ScenarioParts, node: u16) -> Option<NodeKind>
     ensures { result ≡ slice_get parts.now.nodes node }
 {
     parts.nodes.as_slice().get(usize::from(node)).copied()
@@ -22,7 +22,7 @@ fn is_node(parts: &ScenarioParts, kind: NodeKind, node: u16) -> bool
 }
 
 /// Whether a flow goes from a sender to a receiver.
-fn flow_has_its_kinds(parts: &ScenarioParts, flow: FlowPart) -> bool
+pub fn flow_has_its_kinds(parts: &ScenarioParts, flow: FlowPart) -> bool
     ensures { IsTrue result ↔ HasFlowItsKinds parts.now flow }
 {
     is_node(parts, NodeKind::Sender, flow.sender)
@@ -40,7 +40,7 @@ fn link_leaves(parts: &ScenarioParts, number: u16, node: u16) -> bool
 }
 
 /// Whether a route is a router's, for an end, over a link that leaves the router.
-fn route_has_its_kinds(parts: &ScenarioParts, route: RoutePart) -> bool
+pub fn route_has_its_kinds(parts: &ScenarioParts, route: RoutePart) -> bool
     ensures { IsTrue result ↔ HasRouteItsKinds parts.now route }
 {
     is_node(parts, NodeKind::Router, route.router)

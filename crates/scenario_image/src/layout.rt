@@ -39,7 +39,7 @@ pub(crate) fn behind(bytes: &[u8], first: usize) -> &[u8]
 }
 
 /// The number of two bytes behind the first of them.
-pub(crate) fn short_at(bytes: &[u8], first: usize) -> u16
+pub fn short_at(bytes: &[u8], first: usize) -> u16
     requires { first + 2 ≤ length bytes.now }
     ensures { result ≡ big_number 2 (drop first bytes.now) }
 {
@@ -55,7 +55,7 @@ pub(crate) fn number_at(bytes: &[u8], first: usize) -> u32
 }
 
 /// The number of eight bytes behind the first of them.
-pub(crate) fn long_at(bytes: &[u8], first: usize) -> u64
+pub fn long_at(bytes: &[u8], first: usize) -> u64
     requires { first + 8 ≤ length bytes.now }
     ensures { result ≡ big_number 8 (drop first bytes.now) }
 {
@@ -63,7 +63,7 @@ pub(crate) fn long_at(bytes: &[u8], first: usize) -> u64
 }
 
 /// The version whose layout is judged: the second exactly where the fourth byte is `2`.
-pub(crate) fn version_of(bytes: &[u8]) -> Version
+pub fn version_of(bytes: &[u8]) -> Version
     requires { HEADER ≤ length bytes.now }
     ensures { result ≡ version_in bytes.now }
 {
@@ -75,7 +75,7 @@ pub(crate) fn version_of(bytes: &[u8]) -> Version
 }
 
 /// How many nodes an image has by its header.
-pub(crate) fn node_count(bytes: &[u8]) -> usize
+pub fn node_count(bytes: &[u8]) -> usize
     requires { HEADER ≤ length bytes.now }
     ensures value { result ≡ nodes_in bytes.now }
     ensures bound { result < 65536 }
@@ -84,7 +84,7 @@ pub(crate) fn node_count(bytes: &[u8]) -> usize
 }
 
 /// How many links an image has by its header.
-pub(crate) fn link_count(bytes: &[u8]) -> usize
+pub fn link_count(bytes: &[u8]) -> usize
     requires { HEADER ≤ length bytes.now }
     ensures value { result ≡ links_in bytes.now }
     ensures bound { result < 65536 }
@@ -93,7 +93,7 @@ pub(crate) fn link_count(bytes: &[u8]) -> usize
 }
 
 /// How many flows an image has by its header.
-pub(crate) fn flow_count(bytes: &[u8]) -> usize
+pub fn flow_count(bytes: &[u8]) -> usize
     requires { HEADER ≤ length bytes.now }
     ensures value { result ≡ flows_in bytes.now }
     ensures bound { result < 65536 }
@@ -102,7 +102,7 @@ pub(crate) fn flow_count(bytes: &[u8]) -> usize
 }
 
 /// How many routes an image has by its header.
-pub(crate) fn route_count(bytes: &[u8]) -> usize
+pub fn route_count(bytes: &[u8]) -> usize
     requires { HEADER ≤ length bytes.now }
     ensures value { result ≡ routes_in bytes.now }
     ensures bound { result < 4294967296 }
@@ -120,7 +120,7 @@ pub(crate) fn link_size(bytes: &[u8]) -> usize
 }
 
 /// The bytes that a flow takes.
-pub(crate) fn flow_size(version: Version) -> usize
+pub fn flow_size(version: Version) -> usize
     ensures { result ≡ size_of_flow version }
 {
     match version {

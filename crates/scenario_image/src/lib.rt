@@ -1,17 +1,17 @@
 //! Scenarios: what is simulated, checked once.
 #![tactic(auto)]
 
-mod ends;
+pub mod ends;
 pub mod fault;
 pub mod guarantees;
-mod kinds;
+pub mod kinds;
 pub mod layout;
 pub mod limits;
 pub mod loading;
 pub mod parts;
 pub mod paths;
 pub mod plain;
-mod reading;
+pub mod reading;
 pub mod records;
 pub mod routes;
 pub mod saving;

@@ -191,7 +191,7 @@ fn routes_rise(parts: &ScenarioParts) -> bool
 }
 
 /// Whether each number of the parts is in its range, and the routes rise.
-pub(crate) fn is_in_limits(parts: &ScenarioParts) -> bool
+pub fn is_in_limits(parts: &ScenarioParts) -> bool
     ensures { IsTrue result ↔ IsInLimits parts.now }
 {
     is_between(1, LATEST_END, parts.end)

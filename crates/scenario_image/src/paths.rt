@@ -56,7 +56,7 @@ fn outgoing_link(links: &[LinkPart], node: u16) -> Option<usize>
 }
 
 /// The number of the link that a path takes from a node.
-fn hop_link(parts: &ScenarioParts, path: Path, node: u16) -> Option<usize>
+pub fn hop_link(parts: &ScenarioParts, path: Path, node: u16) -> Option<usize>
     requires { IsInLimits parts.now }
     ensures { result ≡ link_hopped parts.now path node }
 {
@@ -88,7 +88,7 @@ fn may_come_to(parts: &ScenarioParts, path: Path, node: u16, kind: NodeKind) -> 
 }
 
 /// Whether a path may come to a node. It may to one that is not there.
-fn may_pass(parts: &ScenarioParts, path: Path, node: u16) -> bool
+pub fn may_pass(parts: &ScenarioParts, path: Path, node: u16) -> bool
     requires { IsInLimits parts.now }
     ensures { IsTrue result ↔ MayPass parts.now path node }
 {

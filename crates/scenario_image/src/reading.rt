@@ -18,7 +18,7 @@ use sim_time::{CodelParameters, QueueKind, RENO, Variant};
 use std::alloc::{AllocError, Global};
 
 /// The node that a byte stands for.
-fn node_of(byte: u8) -> Option<NodeKind>
+pub fn node_of(byte: u8) -> Option<NodeKind>
     ensures { result ≡ node_of_byte byte }
 {
     match byte {
@@ -136,7 +136,7 @@ fn variant_at(version: Version, bytes: &[u8]) -> Option<Variant>
 }
 
 /// The flow at the front, with its variant.
-fn new_flow(bytes: &[u8], variant: Variant) -> FlowPart
+pub fn new_flow(bytes: &[u8], variant: Variant) -> FlowPart
     requires { FLOW ≤ length bytes.now }
     ensures { result ≡ flow_with bytes.now variant }
 {
@@ -184,7 +184,7 @@ fn flows_of(
 }
 
 /// The route at the front.
-fn route_of(bytes: &[u8]) -> RoutePart
+pub fn route_of(bytes: &[u8]) -> RoutePart
     requires { ROUTE ≤ length bytes.now }
     ensures { result ≡ route_at bytes.now }
 {

@@ -1,7 +1,7 @@
 //! Which of the queues a link has.
 
 /// CoDel's parameters (RFC 8289 section 4).
-#[derive(Clone, Copy, Debug, PartialEq, Eq)]
+#[derive(Clone, Copy)]
 pub struct CodelParameters {
     /// The acceptable standing delay, in nanoseconds: 1 to 10^10.
     pub target: u64,
@@ -12,7 +12,7 @@ pub struct CodelParameters {
 }
 
 /// How a link's queue drops packets.
-#[derive(Clone, Copy, Debug, PartialEq, Eq)]
+#[derive(Clone, Copy)]
 pub enum QueueKind {
     /// Only what comes while it is full.
     DropTail,

@@ -12,7 +12,7 @@ pub const LEAST_RATE: u64 = 1_000;
 pub const GREATEST_RATE: u64 = 1_000_000_000_000;
 
 /// The rate of a link: 1,000 to 10^12 bits a second.
-#[derive(Clone, Copy, Debug, PartialEq, Eq)]
+#[derive(Clone, Copy)]
 pub struct Rate {
     bits_a_second: u64,
 }

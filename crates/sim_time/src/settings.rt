@@ -3,7 +3,7 @@
 use crate::variant::Variant;
 
 /// What a sender is told before it sends anything.
-#[derive(Clone, Copy, Debug, PartialEq, Eq)]
+#[derive(Clone, Copy)]
 pub struct SenderSettings {
     /// Bytes of data in a segment: 1 to 9,000.
     pub mss: u64,

@@ -1,7 +1,7 @@
 //! Which of the senders a flow has.
 
 /// How large a sender's initial window is at most.
-#[derive(Clone, Copy, Debug, PartialEq, Eq)]
+#[derive(Clone, Copy)]
 pub enum Iw {
     /// Two to four segments (RFC 5681 section 3.1).
     Iw3,
@@ -10,7 +10,7 @@ pub enum Iw {
 }
 
 /// Which sender a flow has.
-#[derive(Clone, Copy, Debug, PartialEq, Eq)]
+#[derive(Clone, Copy)]
 pub struct Variant {
     /// Whether a partial acknowledgement leaves recovery on (NewReno, RFC 6582), or ends it as each new
     /// acknowledgement does (Reno, RFC 5681 section 3.2).

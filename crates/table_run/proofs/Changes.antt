@@ -14,7 +14,7 @@ use Rattle.node_core.specs.declared.event.Event.TheVariants.{Free, Arrive}
 use Rattle.node_core.specs.Timers.{timer_key, arrival_key, timer_cleared}
 use Rattle.node_core.specs.Part.{LinkState, link_at}
 use Rattle.node_core.specs.Pending.{Events, EventChange}
-use Rattle.node_core.specs.Row.{rto_timer_moved, leaving_over, made_at_home, sent_away}
+use Rattle.node_core.specs.Row.{timer_moved, leaving_over, made_at_home, sent_away}
 use Rattle.tournament.specs.Keyed.{apply, changed}
 use Rattle.tournament.proofs.Maps.{not_some, same_some, is_equal, get-changed, get_here, get_other, tied}
 
@@ -38,7 +38,7 @@ of_changed m k o q w e =
 -- a row: the timer of a node moves, and perhaps a packet leaves over one of its links
 abbrev pub row_changes : ℕ → Timer → Event → Option ℕ → Option ℕ → List LinkState → ℕ → Option Departure → List EventChange
 row_changes node timer event old new links index departure =
-    (rto_timer_moved (timer_key node timer) event old new ++ made_at_home node links (leaving_over index departure)) ++ sent_away links (leaving_over index departure)
+    (timer_moved (timer_key node timer) event old new ++ made_at_home node links (leaving_over index departure)) ++ sent_away links (leaving_over index departure)
 
 -- the key under which a packet arrives over a link
 abbrev pub coming : List LinkState → ℕ → Departure → Key
@@ -63,7 +63,7 @@ module _ (node : ℕ) (timer : Timer) (event : Event) (links : List LinkState) (
       (λ (h : (q ≢ timer_key node timer d) × (map.get m q ≡ Some w)). record { there = h.1; not_moved = λ t is same. h.0 (same ∙ ap (timer_key node timer) (sym (same_some d t is))) })
       (of_changed m (timer_key node timer d) None q w e)
 
-  of_rto_timer : (m : Events) (old new : Option ℕ) (departure : Option Departure) (q : Key) (w : Event) → map.get (apply (rto_timer_moved (timer_key node timer) event old new) m) q ≡ Some w
+  of_rto_timer : (m : Events) (old new : Option ℕ) (departure : Option Departure) (q : Key) (w : Event) → map.get (apply (timer_moved (timer_key node timer) event old new) m) q ≡ Some w
       → WasPending m node timer old q w ⊎ IsSet node timer event new links index departure q w
   of_rto_timer m old None departure q w e = inl (of_cleared m old q w (ap (λ (x : Events). map.get x q) (sym (apply-append (timer_cleared (timer_key node timer) old) [] m)) ∙ e))
   of_rto_timer m old (Some t) departure q w e =
@@ -74,17 +74,17 @@ module _ (node : ℕ) (timer : Timer) (event : Event) (links : List LinkState) (
 
   -- the row's changes, one part after another
   in_turn : (m : Events) (old new : Option ℕ) (departure : Option Departure) → apply (row_changes node timer event old new links index departure) m
-      ≡ apply (sent_away links (leaving_over index departure)) (apply (made_at_home node links (leaving_over index departure)) (apply (rto_timer_moved (timer_key node timer) event old new) m))
+      ≡ apply (sent_away links (leaving_over index departure)) (apply (made_at_home node links (leaving_over index departure)) (apply (timer_moved (timer_key node timer) event old new) m))
   in_turn m old new departure =
-      apply-append (rto_timer_moved (timer_key node timer) event old new ++ made_at_home node links (leaving_over index departure)) (sent_away links (leaving_over index departure)) m
-      ∙ ap (apply (sent_away links (leaving_over index departure))) (apply-append (rto_timer_moved (timer_key node timer) event old new) (made_at_home node links (leaving_over index departure)) m)
+      apply-append (timer_moved (timer_key node timer) event old new ++ made_at_home node links (leaving_over index departure)) (sent_away links (leaving_over index departure)) m
+      ∙ ap (apply (sent_away links (leaving_over index departure))) (apply-append (timer_moved (timer_key node timer) event old new) (made_at_home node links (leaving_over index departure)) m)
 
   -- what is pending after a row was before, or the row has set it
   pub of_row : (m : Events) (old new : Option ℕ) (departure : Option Departure) (q : Key) (w : Event) → map.get (apply (row_changes node timer event old new links index departure) m) q ≡ Some w
       → WasPending m node timer old q w ⊎ IsSet node timer event new links index departure q w
   of_row m old new None q w e = of_rto_timer m old new None q w (ap (λ (x : Events). map.get x q) (sym (in_turn m old new None)) ∙ e)
   of_row m old new (Some d) q w e =
-      let first = apply (rto_timer_moved (timer_key node timer) event old new) m in
+      let first = apply (timer_moved (timer_key node timer) event old new) m in
       ⊎_elim (λ (h : (q ≡ coming links index d) × (Some (Arrive d.packet) ≡ Some w)). inr (arrival d refl h.0 (sym (same_some (Arrive d.packet) w h.1))))
       (λ (h : (q ≢ coming links index d) × (map.get (changed first (timer_key node (BecomesFree index) d.free) (Some (Free (link_at links index).port.link))) q ≡ Some w)).
       ⊎_elim (λ (g : (q ≡ timer_key node (BecomesFree index) d.free) × (Some (Free (link_at links index).port.link) ≡ Some w)). inr (busy d refl g.0 (sym (same_some (Free (link_at links index).port.link) w g.1))))
@@ -101,7 +101,7 @@ module _ (node : ℕ) (timer : Timer) (event : Event) (links : List LinkState) (
     pub not_coming : (d : Departure) → departure ≡ Some d → q ≢ coming links index d
 
   rto_timer_aside : (m : Events) (old new : Option ℕ) (q : Key) → ((t : ℕ) → old ≡ Some t → q ≢ timer_key node timer t) → ((t : ℕ) → new ≡ Some t → q ≢ timer_key node timer t)
-      → map.get (apply (rto_timer_moved (timer_key node timer) event old new) m) q ≡ map.get m q
+      → map.get (apply (timer_moved (timer_key node timer) event old new) m) q ≡ map.get m q
   rto_timer_aside m None None q a b = refl
   rto_timer_aside m None (Some t) q a b = get_other m (timer_key node timer t) (Some event) q (b t refl)
   rto_timer_aside m (Some d) None q a b = get_other m (timer_key node timer d) None q (a d refl)
@@ -111,14 +111,14 @@ module _ (node : ℕ) (timer : Timer) (event : Event) (links : List LinkState) (
   row_aside m old new None q aside = ap (λ (x : Events). map.get x q) (in_turn m old new None) ∙ rto_timer_aside m old new q aside.not_cleared aside.not_set
   row_aside m old new (Some d) q aside =
       ap (λ (x : Events). map.get x q) (in_turn m old new (Some d))
-      ∙ get_other (changed (apply (rto_timer_moved (timer_key node timer) event old new) m) (timer_key node (BecomesFree index) d.free) (Some (Free (link_at links index).port.link))) (coming links index d) (Some (Arrive d.packet)) q (aside.not_coming d refl)
-      ∙ get_other (apply (rto_timer_moved (timer_key node timer) event old new) m) (timer_key node (BecomesFree index) d.free) (Some (Free (link_at links index).port.link)) q (aside.not_busy d refl)
+      ∙ get_other (changed (apply (timer_moved (timer_key node timer) event old new) m) (timer_key node (BecomesFree index) d.free) (Some (Free (link_at links index).port.link))) (coming links index d) (Some (Arrive d.packet)) q (aside.not_coming d refl)
+      ∙ get_other (apply (timer_moved (timer_key node timer) event old new) m) (timer_key node (BecomesFree index) d.free) (Some (Free (link_at links index).port.link)) q (aside.not_busy d refl)
       ∙ rto_timer_aside m old new q aside.not_cleared aside.not_set
 
   -- the link's timer is pending once a packet leaves
   pub row_busy : (m : Events) (old new : Option ℕ) (d : Departure) → map.get (apply (row_changes node timer event old new links index (Some d)) m) (timer_key node (BecomesFree index) d.free) ≡ Some (Free (link_at links index).port.link)
   row_busy m old new d =
-      let first = apply (rto_timer_moved (timer_key node timer) event old new) m in
+      let first = apply (timer_moved (timer_key node timer) event old new) m in
       ap (λ (x : Events). map.get x (timer_key node (BecomesFree index) d.free)) (in_turn m old new (Some d))
       ∙ get_other (changed first (timer_key node (BecomesFree index) d.free) (Some (Free (link_at links index).port.link))) (coming links index d) (Some (Arrive d.packet)) (timer_key node (BecomesFree index) d.free)
       (λ same. not_first (link_at links index).port.link (ap (λ (k : Key). k.source) same))
@@ -136,14 +136,14 @@ module _ (node : ℕ) (timer : Timer) (event : Event) (links : List LinkState) (
       not_first link e = omega (arith, e)
 
       later : (departure : Option Departure) → ((d : Departure) → departure ≡ Some d → timer_key node timer t ≢ timer_key node (BecomesFree index) d.free)
-          → map.get (apply (sent_away links (leaving_over index departure)) (apply (made_at_home node links (leaving_over index departure)) (apply (rto_timer_moved (timer_key node timer) event old (Some t)) m))) (timer_key node timer t)
-          ≡ map.get (apply (rto_timer_moved (timer_key node timer) event old (Some t)) m) (timer_key node timer t)
+          → map.get (apply (sent_away links (leaving_over index departure)) (apply (made_at_home node links (leaving_over index departure)) (apply (timer_moved (timer_key node timer) event old (Some t)) m))) (timer_key node timer t)
+          ≡ map.get (apply (timer_moved (timer_key node timer) event old (Some t)) m) (timer_key node timer t)
       later None apart = refl
       later (Some d) apart =
-          get_other (changed (apply (rto_timer_moved (timer_key node timer) event old (Some t)) m) (timer_key node (BecomesFree index) d.free) (Some (Free (link_at links index).port.link))) (coming links index d) (Some (Arrive d.packet)) (timer_key node timer t)
+          get_other (changed (apply (timer_moved (timer_key node timer) event old (Some t)) m) (timer_key node (BecomesFree index) d.free) (Some (Free (link_at links index).port.link))) (coming links index d) (Some (Arrive d.packet)) (timer_key node timer t)
           (λ same. not_first (link_at links index).port.link (ap (λ (k : Key). k.source) same))
-          ∙ get_other (apply (rto_timer_moved (timer_key node timer) event old (Some t)) m) (timer_key node (BecomesFree index) d.free) (Some (Free (link_at links index).port.link)) (timer_key node timer t) (apart d refl)
+          ∙ get_other (apply (timer_moved (timer_key node timer) event old (Some t)) m) (timer_key node (BecomesFree index) d.free) (Some (Free (link_at links index).port.link)) (timer_key node timer t) (apart d refl)
 
-      set : (old : Option ℕ) → map.get (apply (rto_timer_moved (timer_key node timer) event old (Some t)) m) (timer_key node timer t) ≡ Some event
+      set : (old : Option ℕ) → map.get (apply (timer_moved (timer_key node timer) event old (Some t)) m) (timer_key node timer t) ≡ Some event
       set None = get_here m (timer_key node timer t) (Some event)
       set (Some d) = get_here (changed m (timer_key node timer d) None) (timer_key node timer t) (Some event)

@@ -11,7 +11,7 @@ use Rattle.node_core.specs.declared.event.Event.{Event}
 use Rattle.node_core.specs.declared.role.Role.{Role}
 use Rattle.node_core.specs.Timers.{timer_key}
 use Rattle.node_core.specs.Part.{LinkState, PartState, link_at, no_link}
-use Rattle.node_core.specs.Row.{Effect, with_step, rto_timer_moved}
+use Rattle.node_core.specs.Row.{Effect, with_step, timer_moved}
 use Rattle.tournament.specs.Keyed.{apply}
 use Rattle.table_run.specs.State.{State, part_at, no_part, stepped}
 use Rattle.table_run.specs.Sound.{IsLinkOf}
@@ -30,7 +30,7 @@ pub record Shape : Type 0 where
 
 -- the effect of that
 abbrev pub shaped : PartState → Key → Shape → Effect
-shaped part k r = with_step part r.role (rto_timer_moved (timer_key k.node r.timer) r.event r.old r.new) r.index r.step
+shaped part k r = with_step part r.role (timer_moved (timer_key k.node r.timer) r.event r.old r.new) r.index r.step
 
 abbrev pub link_before : State → Key → Shape → LinkState
 link_before s k r = link_at (part_at s k.node).links r.index

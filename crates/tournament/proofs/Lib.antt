@@ -3,6 +3,7 @@ pub mod InOrder
 pub mod Maps
 pub mod Moments
 pub mod Replays
+pub mod Behind
 pub mod Winners
 pub mod Rising
 pub mod Timed

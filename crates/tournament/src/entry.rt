@@ -15,7 +15,7 @@ const FAR: Time = 1 << 51;
 const LAST_MOMENT: u64 = FAR * NODES;
 
 /// What a place has: a key, or none.
-#[derive(Clone, Copy, Debug, PartialEq, Eq)]
+#[derive(Clone, Copy)]
 pub struct Entry {
     /// The key, where there is one. Where there is none its time is the greatest.
     pub key: Key,

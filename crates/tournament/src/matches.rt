@@ -207,6 +207,20 @@ pub(crate) fn matches_above(
     let _root = rise_up(leaves, moments, winners, climb);
 }
 
+// A place for each node, where no match is played yet: the last half have their own.
+fn unplayed(alloc: Global, places: usize) -> Result<Vec<u32>, AllocError>
+    requires { places ≤ 2 ^ 31 }
+    ensures size { IfOk result (λ winners. length winners.items ≡ 2 * places) }
+    ensures within { IfOk result (λ winners. AreWithin places winners.items) }
+    ensures own { IfOk result (λ winners. AreOwn places winners.items) }
+{
+    let mut winners = vec![in alloc; 0u32; places]?;
+    for place in 0..places {
+        winners.push(place as u32)?;
+    }
+    Ok(winners)
+}
+
 /// The tree of these places: each match is played after those below it.
 pub(crate) fn all_matches(
     alloc: Global,
@@ -220,10 +234,7 @@ pub(crate) fn all_matches(
     ensures own { IfOk result (λ winners. AreOwn (length leaves.now) winners.items) }
     ensures won { IfOk result (λ winners. AllWon leaves.now winners.items) }
 {
-    let mut winners = vec![in alloc; 0u32; leaves.len()]?;
-    for place in 0..leaves.len() {
-        winners.push(place as u32)?;
-    }
+    let mut winners = unplayed(alloc, leaves.len())?;
     play_all(leaves, moments, &mut winners);
     Ok(winners)
 }

@@ -10,7 +10,7 @@ use std::marker::Model;
 
 /// A time, or none, at each of a number of places, and the least of them at hand, the lowest such
 /// place: for keys that at one time stand in the order of their places.
-#[derive(Debug, Drop)]
+#[derive(Drop)]
 pub struct Timetable {
     /// The words that tell the times and their places, and which places have none or a late one.
     tree: Vec<u64>,

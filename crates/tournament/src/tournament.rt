@@ -11,7 +11,7 @@ use std::alloc::{AllocError, Global};
 use std::marker::Model;
 
 /// A key, or none, at each of a number of places, and the least of them at hand.
-#[derive(Debug, Drop)]
+#[derive(Drop)]
 pub struct KeyTournament {
     /// What each place has.
     leaves: Vec<Entry>,

@@ -182,6 +182,19 @@ pub(crate) fn change(tree: &mut [u64], places: usize, place: usize, reported: Ti
     rise_up(tree, WordClimb { at: leaf, word });
 }
 
+// A word for each node, where none is chosen yet: the last half tell that so many places have no time.
+fn unchosen(alloc: Global, places: usize) -> Result<Vec<u64>, AllocError>
+    requires few { places ≤ 2 ^ 12 }
+    ensures size { IfOk result (λ tree. length tree.items ≡ 2 * places) }
+    ensures words { IfOk result (λ tree. AreVacant places tree.items) }
+{
+    let mut tree = vec![in alloc; 0u64; places]?;
+    for place in 0..places {
+        tree.push(word_of(NO_TIME, place))?;
+    }
+    Ok(tree)
+}
+
 /// The tree of so many places with no time. It has a root even where there is no place.
 pub(crate) fn no_times(alloc: Global, places: usize) -> Result<Vec<u64>, AllocError>
     requires few { places ≤ 2 ^ 12 }
@@ -192,10 +205,7 @@ pub(crate) fn no_times(alloc: Global, places: usize) -> Result<Vec<u64>, AllocEr
     ensures lesser { IfOk result (λ tree. AllLesser tree.items) }
 {
     let leaves = places.max(1);
-    let mut tree = vec![in alloc; 0u64; leaves]?;
-    for place in 0..leaves {
-        tree.push(word_of(NO_TIME, place))?;
-    }
+    let mut tree = unchosen(alloc, leaves)?;
     choose_all(leaves, &mut tree);
     Ok(tree)
 }

@@ -9,9 +9,6 @@ use Rattle.trace_text.specs.Chosen.{chosen_node, chosen_link, chosen_event}
 use Rattle.trace_text.specs.ChosenLines.{chosen_bytes}
 use Rattle.trace_text.specs.Dump.{links_in_order}
 
-pub three_parts : (a b c d : List ℕ) → a ++ b ++ c ++ d ≡ a ++ (b ++ c ++ d)
-three_parts a b c d = ap (λ l. l ++ d) (append_assoc a b c) ∙ append_assoc a (b ++ c) d
-
 pub all_chosen : (flow : Option ℕ) (first second third : List NodeState) (state : State) (old one two three : List ℕ)
     → parts_of first ≡ state.parts → parts_of second ≡ state.parts → net_pending third ≡ state.pending
     → one ≡ old ++ flat_map (chosen_node flow) (enumerate_from 0 (parts_of first))
@@ -21,5 +18,6 @@ pub all_chosen : (flow : Option ℕ) (first second third : List NodeState) (stat
 all_chosen flow first second third state old one two three nodes links events is_one is_two is_three =
     is_three
     ∙ ap (λ l. l ++ flat_map (chosen_event flow) (map.entries (net_pending third))) (is_two ∙ ap (λ l. l ++ flat_map (chosen_link flow) (links_in_order (parts_of second))) is_one)
-    ∙ three_parts old (flat_map (chosen_node flow) (enumerate_from 0 (parts_of first))) (flat_map (chosen_link flow) (links_in_order (parts_of second))) (flat_map (chosen_event flow) (map.entries (net_pending third)))
-    ∙ (λ i. old ++ (flat_map (chosen_node flow) (enumerate_from 0 (nodes i)) ++ flat_map (chosen_link flow) (links_in_order (links i)) ++ flat_map (chosen_event flow) (map.entries (events i))))
+    ∙ append_assoc (old ++ flat_map (chosen_node flow) (enumerate_from 0 (parts_of first))) (flat_map (chosen_link flow) (links_in_order (parts_of second))) (flat_map (chosen_event flow) (map.entries (net_pending third)))
+    ∙ append_assoc old (flat_map (chosen_node flow) (enumerate_from 0 (parts_of first))) (flat_map (chosen_link flow) (links_in_order (parts_of second)) ++ flat_map (chosen_event flow) (map.entries (net_pending third)))
+    ∙ (λ i. old ++ (flat_map (chosen_node flow) (enumerate_from 0 (nodes i)) ++ (flat_map (chosen_link flow) (links_in_order (links i)) ++ flat_map (chosen_event flow) (map.entries (events i)))))

@@ -1,12 +1,11 @@
 -- The lines of a dump in the parts in which they are appended.
-use Rattle.std.proofs.Common.{◌≡◌, ◌<◌, ◌≤◌, ◌==◌, ◌-◌, ◌+◌, ℕ, suc, List, [], ◌∷◌, ◌++◌, length, get_or, drop, codes, arith, append_assoc, append-nil, sym, ◌∙◌, ap}
+use Rattle.std.proofs.Common.{◌≡◌, ◌<◌, ◌≤◌, ◌==◌, ◌-◌, ◌+◌, ℕ, suc, List, ◌∷◌, ◌++◌, length, get_or, drop, arith, append_assoc, append-nil, sym, ◌∙◌, ap}
 use Rattle.std.proofs.lemmas.List.{drop_more}
 use Rattle.std.proofs.lemmas.List.Concat.{flat_map-append}
 use Rattle.std.specs.List.{flat_map, filter, range_with_len}
 use Rattle.node_core.specs.Part.{LinkState, PartState}
 use Rattle.node_core.specs.Node.{NodeState}
 use Rattle.net_machine.specs.Nodes.{parts_of}
-use Rattle.trace_text.specs.Words.{line_of_words, spaced_words}
 use Rattle.trace_text.specs.Dump.{links_numbered}
 
 -- what is appended for the first part leaves the second to be appended
@@ -40,29 +39,3 @@ pub none_left : (text : LinkState → List ℕ) (parts : List PartState) (k coun
 none_left text parts k count old out past so_far =
     let none : count - k ≡ 0 = omega (arith, past) in
     sym (append-nil out) ∙ ap (λ n. out ++ flat_map text (flat_map (links_numbered parts) (range_with_len k n))) (sym none) ∙ so_far
-
-spaced_words-append : (a b : List (List ℕ)) → spaced_words (a ++ b) ≡ spaced_words a ++ spaced_words b
-spaced_words-append a b = flat_map-append (λ word. codes " " ++ word) a b
-
-parted : (a b c d e f : List ℕ) → (a ++ (b ++ (c ++ (d ++ e)))) ++ f ≡ a ++ (b ++ (c ++ (d ++ (e ++ f))))
-parted a b c d e f = simp append_assoc
-
-joined : (a b c d : List ℕ) → (a ++ b ++ c) ++ d ≡ a ++ (b ++ (c ++ d))
-joined a b c d = simp append_assoc
-
--- a sender's line, from its end to its beginning
-pub sender_line : (number flow : List ℕ) (windows losses timer : List (List ℕ)) (none end with_timer with_losses with_windows with_flow with_role all : List ℕ)
-    → none ≡ [] → end ≡ codes "\n" ++ none → with_timer ≡ spaced_words timer ++ end → with_losses ≡ spaced_words losses ++ with_timer → with_windows ≡ spaced_words windows ++ with_losses
-    → with_flow ≡ flow ++ with_windows → with_role ≡ codes " sender " ++ with_flow → all ≡ codes "node " ++ number ++ with_role
-    → all ≡ line_of_words (codes "node" ∷ number ∷ codes "sender" ∷ flow ∷ windows ++ losses ++ timer)
-sender_line number flow windows losses timer none end with_timer with_losses with_windows with_flow with_role all n e t l w f r a =
-    a ∙ ap (λ x. codes "node " ++ number ++ x) (r ∙ ap (λ x. codes " sender " ++ x) (f ∙ ap (λ x. flow ++ x) words))
-    ∙ sym (parted (codes "node ") number (codes " sender ") flow (spaced_words (windows ++ losses ++ timer)) (codes "\n"))
-  where
-    end_is : end ≡ codes "\n"
-    end_is = e ∙ ap (λ x. codes "\n" ++ x) n
-
-    words : with_windows ≡ spaced_words (windows ++ losses ++ timer) ++ codes "\n"
-    words =
-        w ∙ ap (λ x. spaced_words windows ++ x) (l ∙ ap (λ x. spaced_words losses ++ x) (t ∙ ap (λ x. spaced_words timer ++ x) end_is))
-        ∙ sym (ap (λ x. x ++ codes "\n") (spaced_words-append (windows ++ losses) timer ∙ ap (λ x. x ++ spaced_words timer) (spaced_words-append windows losses)) ∙ joined (spaced_words windows) (spaced_words losses) (spaced_words timer) (codes "\n"))

@@ -1,5 +1,5 @@
 -- The lines of a dump that tell of one node, of one link or of one flow.
-use Rattle.std.specs.Prelude.{ℕ, ◌==◌, Bool, false, if◌then◌else◌, List, [], ◌++◌, Option, None, Some}
+use Rattle.std.specs.Prelude.{ℕ, ◌==◌, Bool, false, if◌then◌else◌, List, [], Option, None, Some}
 use Rattle.std.specs.List.{flat_map, enumerate_from, list_any, slice_get}
 use Rattle.std.specs.FinMap as map
 use Rattle.packet_chain.specs.Stamped.{Stamped}
@@ -14,6 +14,7 @@ use Rattle.table_run.specs.State.{State}
 use Rattle.net_machine.specs.Run.{Reached}
 use Rattle.trace_text.specs.declared.dump.DumpPart.{DumpPart}
 use Rattle.trace_text.specs.declared.dump.DumpPart.TheVariants.{Node, Link, Flow}
+use Rattle.trace_text.specs.Words.{◌+++◌}
 use Rattle.trace_text.specs.Dump.{node_line, link_line, links_numbered, links_in_order, event_line}
 
 -- nothing where there is no node
@@ -53,8 +54,8 @@ flow_event flow entry = if is_event_of flow entry.1 then event_line entry else [
 abbrev pub flow_bytes : ℕ → State → List ℕ
 flow_bytes flow state =
     flat_map (flow_node flow) (enumerate_from 0 state.parts)
-    ++ flat_map (flow_link flow) (links_in_order state.parts)
-    ++ flat_map (flow_event flow) (map.entries state.pending)
+    +++ flat_map (flow_link flow) (links_in_order state.parts)
+    +++ flat_map (flow_event flow) (map.entries state.pending)
 
 -- the lines of a part of the dump
 abbrev pub part_bytes : DumpPart → Reached → List ℕ

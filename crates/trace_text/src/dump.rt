@@ -1,26 +1,25 @@
 //! The dump: all that a net keeps, as text.
-ghost use Rattle.std.specs.Prelude.{◌≡◌, ◌++◌, [], ◌∷◌, codes, decimal, OnOk, OnErr};
-ghost use Rattle.trace_text.specs.Words.{line_of_words};
+ghost use Rattle.std.specs.Prelude.{◌≡◌, ◌++◌, OnOk, OnErr, string_bytes};
 ghost use Rattle.trace_text.specs.ChosenLines.{chosen_bytes};
 ghost use Rattle.trace_text.specs.Dump.{dump_bytes};
-ghost use Rattle.trace_text.specs.DumpParts.{flow_bytes, part_bytes};
+ghost use Rattle.trace_text.specs.DumpParts.{part_bytes};
 
-mod append;
 mod events;
 mod links;
 mod nodes;
+mod parts;
 
-use self::append::put_field;
-use self::events::append_events;
 pub use self::events::pending_events;
-use self::links::{append_links, append_numbered};
-use self::nodes::{append_nodes, append_numbered_node};
-use crate::backward::put_text;
+use self::events::write_events;
+pub use self::links::has_waiting;
+use self::links::{write_links, write_numbered};
+use self::nodes::{write_nodes, write_numbered_node};
+pub use self::parts::ByteText;
 use net_machine::Net;
-use std::alloc::{AllocError, Global};
+use std::alloc::AllocError;
 
 /// What the lines of a dump can tell of.
-#[derive(Clone, Copy, Debug, PartialEq, Eq)]
+#[derive(Clone, Copy)]
 pub enum DumpPart {
     /// The node of this number.
     Node(u16),
@@ -36,10 +35,9 @@ pub fn dump_text(net: &Net, out: &mut Vec<u8>) -> Result<(), AllocError>
     ensures ok { OnOk result (out.new.items ≡ out.old.items ++ dump_bytes net.now) }
     ensures err { OnErr result (out.new.items ≡ out.old.items) }
 {
-    let alloc = *out.allocator();
-    let mut dump = Vec::new(alloc);
-    append_dump(alloc, net, &mut dump)?;
-    out.extend_from_slice(&dump)
+    let mut text = String::new(*out.allocator());
+    write_dump(&mut text, net)?;
+    out.extend_from_slice(text.as_bytes())
 }
 
 /// Appends the lines of a dump that tell of a part of the net, or nothing.
@@ -47,67 +45,36 @@ pub fn part_text(net: &Net, part: DumpPart, out: &mut Vec<u8>) -> Result<(), All
     ensures ok { OnOk result (out.new.items ≡ out.old.items ++ part_bytes part net.now) }
     ensures err { OnErr result (out.new.items ≡ out.old.items) }
 {
-    let alloc = *out.allocator();
-    let mut lines = Vec::new(alloc);
-    append_part(alloc, net, part, &mut lines)?;
-    out.extend_from_slice(&lines)
+    let mut text = String::new(*out.allocator());
+    write_part(&mut text, net, part)?;
+    out.extend_from_slice(text.as_bytes())
 }
 
-/// Appends the lines of a part. Where memory is refused, some may have been appended.
-fn append_part(
-    alloc: Global,
-    net: &Net,
-    part: DumpPart,
-    out: &mut Vec<u8>,
-) -> Result<(), AllocError>
-    ensures { OnOk result (out.new.items ≡ out.old.items ++ part_bytes part net.now) }
+/// Writes the lines of a part. After an `Err`, as with all functions below, some may stand there.
+fn write_part(out: &mut String, net: &Net, part: DumpPart) -> Result<(), AllocError>
+    ensures { OnOk result (string_bytes out.new ≡ string_bytes out.old ++ part_bytes part net.now) }
 {
     match part {
-        DumpPart::Node(number) => append_numbered_node(number, net.nodes(), out),
-        DumpPart::Link(number) => append_numbered(None, number, net.nodes(), out),
-        DumpPart::Flow(number) => append_flow(alloc, net, number, out),
+        DumpPart::Node(number) => write_numbered_node(out, number, net.nodes()),
+        DumpPart::Link(number) => write_numbered(out, None, number, net.nodes()),
+        DumpPart::Flow(number) => write_lines(out, Some(number), net),
     }
 }
 
-/// Appends the lines of a flow. Where memory is refused, some may have been appended.
-fn append_flow(alloc: Global, net: &Net, flow: u16, out: &mut Vec<u8>) -> Result<(), AllocError>
-    ensures { OnOk result (out.new.items ≡ out.old.items ++ flow_bytes flow net.now.state) }
+/// Writes the dump of a net.
+fn write_dump(out: &mut String, net: &Net) -> Result<(), AllocError>
+    ensures { OnOk result (string_bytes out.new ≡ string_bytes out.old ++ dump_bytes net.now) }
 {
-    append_lines(alloc, Some(flow), net, out)?;
-    Ok(())
+    write!(out, "at {}\n", net.position())?;
+    write_lines(out, None, net)
 }
 
-/// Appends the dump of a net. Where memory is refused, a part of it may have been appended.
-fn append_dump(alloc: Global, net: &Net, out: &mut Vec<u8>) -> Result<(), AllocError>
-    ensures { OnOk result (out.new.items ≡ out.old.items ++ dump_bytes net.now) }
+/// Writes all lines of a dump behind the first, or those of a flow.
+fn write_lines(out: &mut String, flow: Option<u16>, net: &Net) -> Result<(), AllocError>
+    ensures { OnOk result (string_bytes out.new ≡ string_bytes out.old ++ chosen_bytes flow net.now.state) }
 {
-    append_position(net.position(), out)?;
-    append_lines(alloc, None, net, out)?;
+    write_nodes(out, flow, net.nodes())?;
+    write_links(out, flow, net.nodes())?;
+    write_events(out, flow, net.nodes())?;
     Ok(())
-}
-
-/// Appends all lines of a dump behind the first, or those of a flow. Where memory is refused, some may
-/// have been appended.
-fn append_lines(
-    alloc: Global,
-    flow: Option<u16>,
-    net: &Net,
-    out: &mut Vec<u8>,
-) -> Result<(), AllocError>
-    ensures { OnOk result (out.new.items ≡ out.old.items ++ chosen_bytes flow net.now.state) }
-{
-    append_nodes(flow, net.nodes(), out)?;
-    append_links(flow, net.nodes(), out)?;
-    append_events(alloc, flow, net.nodes(), out)?;
-    Ok(())
-}
-
-/// Appends how many events were run.
-fn append_position(position: u64, out: &mut Vec<u8>) -> Result<(), AllocError>
-    ensures { OnOk result (out.new.items ≡ out.old.items ++ line_of_words (codes "at" ∷ decimal position ∷ [])) }
-{
-    let mut bytes = [0; 24];
-    let at = put_text(&mut bytes, 24, b"\n");
-    let start = put_field(&mut bytes, at, b"at ", position);
-    out.extend_from_slice(&bytes[start..])
 }

@@ -3,7 +3,6 @@
 
 mod act;
 mod after;
-mod backward;
 mod digits;
 mod dump;
 mod end;
@@ -14,7 +13,7 @@ mod kept;
 mod line;
 mod page;
 
-pub use dump::{DumpPart, dump_text, part_text, pending_events};
+pub use dump::{ByteText, DumpPart, dump_text, has_waiting, part_text, pending_events};
 pub use end::end_text;
 pub use line::line_text;
 pub use page::Page;

@@ -16,7 +16,7 @@ use Rattle.window_core.specs.Sheaves.{SheafValue}
 use Rattle.window_core.specs.Window.{WindowValue, IsFrom, states_of}
 use Rattle.window_core.specs.Windows.{none_fired}
 use Rattle.window_engine.specs.declared.run_state.RunState.{RunState}
-use Rattle.window_engine.specs.RunStates.{AtRest, HasGroups, IsApart, RunsIn}
+use Rattle.window_engine.specs.RunStates.{AtRest, HasGroups, RunsIn}
 use Rattle.window_workers.specs.Edges.{IsAtEdge, StaysNet, edge_of, reached_in}
 use Rattle.window_engine.specs.Engines.{GoesOn}
 use Rattle.window_engine.proofs.Between.{net_is, opened_net}
@@ -36,13 +36,6 @@ begun_groups w net groups from none entries size = record {
   nodes = size ∙ nodes_at from.scenario w.position from.before net.state from.in_run.is_scenario from.in_run.comes;
   ahead_is = from.ahead_is ∙ ap (λ (l : List ℕ). lookahead (group_in l) from.scenario.links) entries;
 }
-
--- those that were asked for, with the least delay between them
-pub begun_has : (w : WindowValue) (net : Reached) (groups partition : List ℕ) (ahead : Option ℕ) → IsFrom net.state w → none_fired (states_of w.groups) ≡ true → w.entries ≡ partition → length partition ≡ length net.state.parts → groups ≡ partition → ahead ≡ w.ahead
-    → RunsIn groups ahead (reached_in w) × IsApart groups ahead w
-begun_has w net groups partition ahead from none entries size these between =
-    let r = begun_groups w net partition from none entries size in
-    (subst (λ (l : List ℕ). RunsIn l ahead (reached_in w)) (sym these) (subst (λ (a : Option ℕ). RunsIn partition a (reached_in w)) (sym between) r), (entries ∙ sym these, sym between))
 
 -- a copy is what was copied
 pub same_copy : {E : Type 0} (r : Result (List ℕ) E) (x y : List ℕ) → r ≡ Ok x → r ≡ Ok y → x ≡ y

@@ -20,14 +20,15 @@ use Rattle.window_engine.specs.declared.run_state.RunState.{RunState}
 use Rattle.window_engine.specs.declared.run_state.WriteFault.{WriteFault}
 use Rattle.window_engine.specs.declared.run_state.WriteFault.TheVariants.{Workers}
 use Rattle.window_workers.specs.declared.fault.WorkersFault.TheVariants.{CountFull}
-use Rattle.window_engine.specs.RunStates.{AtRest, HasEnded, IsApart, WindowsRest, RunsIn, Broke, Wrote, WroteFirst, fails_after, reported_as}
-use Rattle.window_workers.specs.Edges.{IsAtEdge, edge_of, reached_in}
+use Rattle.window_engine.specs.RunStates.{AtRest, HasEnded, Opens, WindowsRest, RunsIn, Broke, Wrote, WroteFirst, fails_after, reported_as}
+use Rattle.window_core.specs.Window.{WindowValue}
+use Rattle.window_workers.specs.Edges.{edge_of, reached_in}
 use Rattle.window_engine.specs.Engines.{GoesOn}
 use Rattle.window_text.specs.Puts.{TakesFirst}
-use Rattle.window_engine.specs.Singly.{CanStop, HasGone, IsBefore, IsGoing, key_of}
+use Rattle.window_engine.specs.Singly.{CanStop, HasGone, IsBefore, IsGoing, IsOn, key_of}
 use Rattle.window_text.specs.Text.{text_from}
 use Rattle.window_engine.proofs.Called.{broken_at}
-use Rattle.window_engine.proofs.Grouped.{runs_on}
+use Rattle.window_engine.proofs.Grouped.{runs_on, same_ahead}
 use Rattle.window_engine.proofs.TooMany.{earlier_full}
 use Rattle.window_engine.proofs.Whole.{below_later, below_more}
 use Rattle.window_engine.proofs.Writing.{broke_batch, broke_later, run_more, text_more, wrote_later, wrote_more, wrote_none}
@@ -134,14 +135,7 @@ module _ (until : ℕ) (old new : Reached) (text : List ℕ) (count : ℕ) (a b 
   pub broke_gone : (position : ℕ) → position ≡ new.position → TakesFirst count text a b → WroteFirst until old position count a b
   broke_gone position at took = broke_batch until old new position count (record { first = old.position + 1; lines = gone.lines }) text a b gone.early goes at gone.text_is took few
 
--- a run state whose events are run one after another by a net, which has gone on to here: they are committed and written
-pub record IsOn (until : ℕ) (old new : RunState) (net : Reached) (written now : ℕ) (a b : Option (List ℕ)) : Type 0 where
-  pub rest : new ≡ record old { position = net.position; granularity = new.granularity }
-  pub count : ℕ
-  pub written_is : now ≡ written + count
-  pub wrote : Wrote until (reached_in old.window) net count a b
-  pub few : net.position ≤ MOST_EVENTS
-
+-- events that are run one after another by a net, which has gone on to here
 pub on_first : (until : ℕ) (c : RunState) (net : Reached) (written : ℕ) (a : Option (List ℕ)) → AtRest c → net ≡ reached_in c.window → IsOn until c c net written written a a
 on_first until c net written a r is =
     let at : net.position ≡ c.window.position = ap (λ (n : Reached). n.position) is in
@@ -165,38 +159,36 @@ module _ (until : ℕ) (old c : RunState) (net : Reached) (written now : ℕ) (a
   on_end r = let w = o.wrote in run_end (length w.lines) (edge_of old.window) net.state w.lines w.is_run ∙ sym r.end
 
   -- some events more
-  pub on_more : (d : RunState) (to : Reached) (more total : ℕ) (e : Option (List ℕ)) → Wrote until net to more b e → d ≡ record c { position = to.position; granularity = d.granularity } → total ≡ now + more → to.position ≤ MOST_EVENTS → IsOn until old d to written total a e
-  on_more d to more total e wrote rest total_is few =
+  pub on_more : (bound : ℕ) (d : RunState) (to : Reached) (more total : ℕ) (e : Option (List ℕ)) → bound ≤ until → Wrote bound net to more b e → d ≡ record c { position = to.position; granularity = d.granularity } → total ≡ now + more → to.position ≤ MOST_EVENTS → IsOn until old d to written total a e
+  on_more bound d to more total e upto wrote rest total_is few =
       let count = o.count in
       let was = o.written_is in
       record {
         rest = rest ∙ ap (λ (x : RunState). record x { position = to.position; granularity = d.granularity }) o.rest;
         count = count + more;
         written_is = omega (arith, was, total_is);
-        wrote = wrote_more until (reached_in old.window) net to count more a b e o.wrote wrote;
+        wrote = wrote_more until (reached_in old.window) net to count more a b e o.wrote (wrote_later bound until net to more b e upto wrote);
         few = few;
       }
 
 -- what a call has written, where windows before that were written too
-module _ (until bound : ℕ) (began old c : RunState) (net : Reached) (written now : ℕ) (known a b : Option (List ℕ)) (r : WindowsRest until began old written known a) (o : IsOn bound old c net written now a b) (upto : bound ≤ until) where
+module _ (until : ℕ) (began old c : RunState) (net : Reached) (written now : ℕ) (known a b : Option (List ℕ)) (r : WindowsRest until began old written known a) (o : IsOn until old c net written now a b) where
   abbrev from : Reached
   from = reached_in began.window
 
   pub all_written : Wrote until from net now known b
   all_written =
       subst (λ (n : ℕ). Wrote until from net n known b) (sym o.written_is)
-      (wrote_more until from (reached_in old.window) net written o.count known a b r.wrote (wrote_later bound until (reached_in old.window) net o.count a b upto o.wrote))
-
-  later : (workers at : ℕ) (e : Option (List ℕ)) (fault : WriteFault) → 0 < workers → Broke 1 bound net at b e fault → Broke workers until net at b e fault
-  later workers at e fault some broke = broke_later 1 workers bound until net at b e fault (omega (arith, some)) upto broke
+      (wrote_more until from (reached_in old.window) net written o.count known a b r.wrote o.wrote)
 
   -- the call ends by a fault in those that follow
-  pub broken_on : (workers : ℕ) (d : RunState) (e : Option (List ℕ)) (fault : WriteFault) (f g h : ℕ) → 0 < workers → Broke 1 bound net d.position b e fault → (fault ≡ Workers CountFull → HasTooMany net) → g ≡ f → h ≡ fails_after {T = ℕ} (Err fault) g
+  pub broken_on : (workers bound : ℕ) (d : RunState) (e : Option (List ℕ)) (fault : WriteFault) (f g h : ℕ) → 0 < workers → bound ≤ until → Broke 1 bound net d.position b e fault → (fault ≡ Workers CountFull → HasTooMany net) → g ≡ f → h ≡ fails_after {T = ℕ} (Err fault) g
       → d.groups ≡ c.groups → d.ahead ≡ c.ahead → HasEnded workers until began d (Err (reported_as now fault)) known e f h
-  broken_on workers d e fault f g h some broke full same fails groups ahead =
+  broken_on workers bound d e fault f g h some upto broke full same fails groups ahead =
       let all_groups : d.groups ≡ began.groups = groups ∙ ap (λ (x : RunState). x.groups) o.rest ∙ r.groups in
       let all_ahead : d.ahead ≡ began.ahead = ahead ∙ ap (λ (x : RunState). x.ahead) o.rest ∙ r.ahead in
-      broken_at workers until began d net now known b e fault f g h all_written o.few (later workers d.position e fault some broke) full same fails all_groups all_ahead
+      let later = broke_later 1 workers bound until net d.position b e fault (omega (arith, some)) upto broke in
+      broken_at workers until began d net now known b e fault f g h all_written o.few later full same fails all_groups all_ahead
 
   -- the nodes are in the groups that were asked for
   pub runs_there : RunsIn c.groups c.ahead net
@@ -205,35 +197,32 @@ module _ (until bound : ℕ) (began old c : RunState) (net : Reached) (written n
       let there = runs_on old.groups old.ahead (reached_in old.window) net w.lines r.has.run w.is_run w.position_is in
       subst (λ (x : RunState). RunsIn x.groups x.ahead net) (sym o.rest) there
 
-  pub few_there : groups_of c.groups ≤ 64
+  few_there : groups_of c.groups ≤ 64
   few_there =
       let few : groups_of old.groups ≤ 64 = subst (λ (l : List ℕ). groups_of l ≤ 64) r.has.apart.0 r.rest.groups in
       subst (λ (x : RunState). groups_of x.groups ≤ 64) (sym o.rest) few
 
   -- a window is open again
-  pub taken_up : (d : RunState) → IsAtEdge d.window → reached_in d.window ≡ net → d.window.end ≡ net.state.end → IsApart c.groups c.ahead d.window → d ≡ record c { window = d.window } → WindowsRest until began d now known b
-  taken_up d edge is end apart rest =
-      let same : d ≡ record old { position = net.position; granularity = c.granularity; window = d.window } = rest ∙ ap (λ (x : RunState). record x { window = d.window }) o.rest in
-      let at : d.position ≡ net.position = ap (λ (x : RunState). x.position) same in
-      let window_at : d.window.position ≡ net.position = ap (λ (n : Reached). n.position) is in
-      let groups : d.groups ≡ c.groups = ap (λ (x : RunState). x.groups) rest in
-      let ahead : d.ahead ≡ c.ahead = ap (λ (x : RunState). x.ahead) rest in
-      let w = o.wrote in
-      let ends : net.state.end ≡ old.window.end = run_end (length w.lines) (edge_of old.window) net.state w.lines w.is_run in
+  pub taken_up : (w : WindowValue) → Opens net c.groups w → WindowsRest until began (record c { window = w }) now known b
+  taken_up w opens =
+      let at : c.position ≡ net.position = ap (λ (x : RunState). x.position) o.rest in
+      let window_at : w.position ≡ net.position = ap (λ (n : Reached). n.position) opens.net_is in
+      let gone = o.wrote in
+      let ends : net.state.end ≡ old.window.end = run_end (length gone.lines) (edge_of old.window) net.state gone.lines gone.is_run in
       let few = o.few in
       record {
         rest = record {
-          edge = edge;
+          edge = opens.edge;
           committed = at ∙ sym window_at;
           few = omega (arith, few, at);
-          end = ap (λ (x : RunState). x.end) same ∙ r.rest.end ∙ sym ends ∙ sym end;
-          groups = subst (λ (l : List ℕ). groups_of l ≤ 64) (sym apart.0) few_there;
+          end = ap (λ (x : RunState). x.end) o.rest ∙ r.rest.end ∙ sym ends ∙ sym opens.end;
+          groups = subst (λ (l : List ℕ). groups_of l ≤ 64) (sym opens.entries) few_there;
         };
         has = record {
-          run = subst (λ (n : Reached). RunsIn d.groups d.ahead n) (sym is) (subst (λ (l : List ℕ). RunsIn l d.ahead net) (sym groups) (subst (λ (x : Option ℕ). RunsIn c.groups x net) (sym ahead) runs_there));
-          apart = (apart.0 ∙ sym groups, apart.1 ∙ sym ahead);
+          run = subst (λ (n : Reached). RunsIn c.groups c.ahead n) (sym opens.net_is) runs_there;
+          apart = (opens.entries, same_ahead c.groups c.ahead w.ahead net runs_there opens.ahead);
         };
-        wrote = subst (λ (n : Reached). Wrote until from n now known b) (sym is) all_written;
-        groups = ap (λ (x : RunState). x.groups) same ∙ r.groups;
-        ahead = ap (λ (x : RunState). x.ahead) same ∙ r.ahead;
+        wrote = subst (λ (n : Reached). Wrote until from n now known b) (sym opens.net_is) all_written;
+        groups = ap (λ (x : RunState). x.groups) o.rest ∙ r.groups;
+        ahead = ap (λ (x : RunState). x.ahead) o.rest ∙ r.ahead;
       }

@@ -54,6 +54,15 @@ pub record RunsIn (groups : List ℕ) (ahead : Option ℕ) (net : Reached) : Typ
 abbrev pub IsApart : List ℕ → Option ℕ → WindowValue → Type 0
 IsApart groups ahead w = (w.entries ≡ groups) × (w.ahead ≡ ahead)
 
+-- a window has opened on a net whose nodes are in these groups
+pub record Opens (net : Reached) (groups : List ℕ) (w : WindowValue) : Type 0 where
+  pub edge : IsAtEdge w
+  pub net_is : reached_in w ≡ net
+  pub end : w.end ≡ net.state.end
+  pub entries : w.entries ≡ groups
+  pub ahead : (p : ScenarioParts) (before : List TraceLine) → IsScenario p → ComesTo p net.position before net.state → w.ahead ≡ lookahead (group_in groups) p.links
+  pub run : RunsIn groups w.ahead (reached_in w)
+
 -- the nodes are in the groups that were asked for
 pub record HasGroups (c : RunState) : Type 0 where
   pub run : RunsIn c.groups c.ahead (reached_in c.window)

@@ -3,13 +3,17 @@ use Rattle.std.specs.Prelude.{◌≡◌, ◌≤◌, ◌<◌, ◌+◌, ◌⊎◌,
 use Rattle.std.specs.Option.{option_map}
 use Rattle.std.proofs.Common.{arith}
 use Rattle.sim_time.specs.declared.key.Key.{Key}
+use Rattle.sim_time.specs.declared.limits.TheConstants.{MOST_EVENTS}
 use Rattle.node_core.specs.declared.event.Event.{Event}
 use Rattle.node_core.specs.TraceLine.{TraceLine}
 use Rattle.table_run.specs.State.{State, due, run}
 use Rattle.net_machine.specs.Run.{Reached}
 use Rattle.window_core.specs.Windows.{AreBelow}
+use Rattle.window_engine.specs.declared.run_state.RunState.{RunState}
 use Rattle.window_engine.specs.Engines.{AreWhole, NoneBelow}
+use Rattle.window_engine.specs.RunStates.{Wrote}
 use Rattle.window_text.specs.Text.{text_from}
+use Rattle.window_workers.specs.Edges.{reached_in}
 
 abbrev pub key_of : Option (Key × Event) → Option Key
 key_of o = option_map (λ (entry : Key × Event). entry.0) o
@@ -50,3 +54,11 @@ pub record HasGone (until : ℕ) (old new : Reached) (text : List ℕ) : Type 0 
   pub early : AreBelow until lines
   pub whole : AreWhole lines new.state
   pub text_is : text ≡ text_from (old.position + 1) lines
+
+-- a run state whose events are run one after another by a net, which has gone on to here: they are committed and written
+pub record IsOn (until : ℕ) (old new : RunState) (net : Reached) (written now : ℕ) (a b : Option (List ℕ)) : Type 0 where
+  pub rest : new ≡ record old { position = net.position; granularity = new.granularity }
+  pub count : ℕ
+  pub written_is : now ≡ written + count
+  pub wrote : Wrote until (reached_in old.window) net count a b
+  pub few : net.position ≤ MOST_EVENTS

@@ -16,14 +16,14 @@ ghost use Rattle.window_engine.specs.Engines.{GoesOn, NoneBelow, Commits, IsNext
 use crate::advance::finish;
 use crate::fault::{EngineFault, Stop, engine_fault};
 use crate::granularity::Granularity;
-use crate::run_state::RunState;
+use crate::run_state::{RunState, split};
 use net_machine::Net;
 use scenario_image::Scenario;
 use sim_time::Time;
 use std::alloc::{AllocError, Global};
 use std::marker::Model;
 use std::snapshot::Snapshot;
-use window_core::{Batch, Partition, Sheaf, Window};
+use window_core::{Batch, Partition, Sheaf};
 use window_text::Sink;
 use window_workers::{Gate, Hands, WindowWorkers};
 
@@ -102,24 +102,21 @@ impl Engine {
         let _many = partition.groups();
         let position = net.position();
         let end = net.end();
-        let groups = partition.copy()?;
-        match Window::new(alloc, net, partition) {
-            Ok(window) => Ok(Engine {
-                run_state: RunState {
-                    groups,
-                    ahead: window.lookahead(),
-                    granularity: Granularity::new(),
-                    window,
-                    end,
-                    position,
-                    sheaf: Sheaf::new(alloc, 0),
-                    alloc,
-                },
-                failed: false,
-                shared: 0,
-            }),
-            Err(_) => Err(AllocError),
-        }
+        let window = split(alloc, net, &partition)?;
+        Ok(Engine {
+            run_state: RunState {
+                groups: partition,
+                ahead: window.lookahead(),
+                granularity: Granularity::new(),
+                window,
+                end,
+                position,
+                sheaf: Sheaf::new(alloc, 0),
+                alloc,
+            },
+            failed: false,
+            shared: 0,
+        })
     }
 
     /// How many events of the run are committed.

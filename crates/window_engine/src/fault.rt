@@ -6,7 +6,7 @@ use std::alloc::AllocError;
 use window_workers::WorkersFault;
 
 /// Why windows were not run, or not written. Each later call answers `Failed`.
-#[derive(Clone, Copy, PartialEq, Eq, Debug, Drop)]
+#[derive(Clone, Copy, PartialEq, Drop)]
 pub enum EngineFault {
     /// There was no memory.
     NoMemory,
@@ -46,7 +46,7 @@ pub(crate) fn engine_fault(fault: WorkersFault) -> EngineFault
 }
 
 /// Where a run of windows ended.
-#[derive(Clone, Copy, PartialEq, Eq, Debug)]
+#[derive(Clone, Copy, PartialEq)]
 pub enum Stop {
     /// At the run's end: no event below it is left.
     End,

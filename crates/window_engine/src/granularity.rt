@@ -23,7 +23,7 @@ const LONGEST: u64 = 1_048_576;
 const LATE: u64 = 4;
 
 /// How many groups of a window threads ran.
-#[derive(Clone, Copy, Debug, PartialEq, Eq, Drop)]
+#[derive(Clone, Copy, Drop)]
 pub struct Turnout {
     /// How many the thread ran that ran most of them.
     pub most: usize,
@@ -49,7 +49,7 @@ impl Turnout {
 }
 
 /// What windows held.
-#[derive(Clone, Copy, Debug, PartialEq, Eq)]
+#[derive(Clone, Copy)]
 pub enum Load {
     /// There were too few windows to say.
     Unknown,
@@ -100,7 +100,7 @@ pub fn next_stretch(last: u64, nodes: usize, groups: usize) -> u64 {
 }
 
 /// Whether events are run one after another, what windows held since that was chosen, and how often threads came late.
-#[derive(Clone, Copy, Debug, Drop)]
+#[derive(Clone, Copy, Drop)]
 pub(crate) struct Granularity {
     /// Whether events are run one after another.
     single: bool,

@@ -1,15 +1,16 @@
 //! The net on its way, with what is used again from window to window.
-ghost use Rattle.std.specs.Prelude.{◌≡◌, ◌+◌, ◌<◌, ◌≤◌, Some, None, IfOk, IfErr, IfSome};
+ghost use Rattle.std.specs.Prelude.{◌≡◌, ◌+◌, ◌<◌, ◌≤◌, Some, None, IfOk, IfErr, IfSome, length};
 ghost use Rattle.table_run.specs.State.{due};
 ghost use Rattle.window_workers.specs.Edges.{IsAtEdge, edge_of};
 ghost use Rattle.window_engine.specs.Engines.{IsNext, IsStop, next_time};
-ghost use Rattle.window_engine.specs.RunStates.{CanTell, reported_as};
+ghost use Rattle.window_engine.specs.RunStates.{CanTell, Opens, reported_as};
 
 use crate::fault::{EngineFault, Stop, engine_fault};
 use crate::granularity::{Granularity, Turnout};
 use crate::slice::next_slice;
+use net_machine::Net;
 use sim_time::Time;
-use std::alloc::Global;
+use std::alloc::{AllocError, Global};
 use window_core::{Partition, Sheaf, Window};
 use window_workers::{WindowWorkers, WorkersFault};
 
@@ -56,7 +57,7 @@ pub(crate) struct WindowPlan {
 }
 
 /// Why a window was not run, or not written.
-#[derive(Clone, Copy, Debug, Drop)]
+#[derive(Clone, Copy, Drop)]
 pub(crate) enum WriteFault {
     /// The workers' fault. Of the window that they ran no event is committed.
     Workers(WorkersFault),
@@ -74,6 +75,17 @@ pub(crate) fn reported(fault: WriteFault, written: u128) -> EngineFault
         WriteFault::Sink(count) => EngineFault::Sink {
             written: written + count,
         },
+    }
+}
+
+/// A net by groups: its first window opens. A refusal gives the net up.
+pub(crate) fn split(alloc: Global, net: Net, groups: &Partition) -> Result<Window, AllocError>
+    requires { length groups.now ≡ length net.state.parts }
+    ensures { IfOk result (Opens net groups.now) }
+{
+    match Window::new(alloc, net, groups.copy().unwrap()) {
+        Ok(window) => Ok(window),
+        Err(_) => Err(AllocError),
     }
 }
 

@@ -3,16 +3,15 @@
 //! them.
 ghost use Rattle.std.specs.Prelude.{◌≡◌, ◌<◌, ◌≤◌, [], IfOk, IfErr, OnOk};
 ghost use Rattle.window_core.specs.Full.{HasTooMany};
-ghost use Rattle.window_core.specs.Partition.{groups_of};
 ghost use Rattle.window_engine.specs.Calls.{HasRested};
-ghost use Rattle.window_engine.specs.RunStates.{Broke, HasEnded, IsApart, RunsIn, Wrote, fails_after};
+ghost use Rattle.window_engine.specs.RunStates.{Broke, HasEnded, Wrote, fails_after};
 ghost use Rattle.window_workers.specs.Edges.{IsAtEdge, reached_in};
 ghost use Rattle.window_workers.specs.WindowOutcomes.{IsWorkersFault};
-ghost use Rattle.window_engine.specs.Singly.{HasGone};
+ghost use Rattle.window_engine.specs.Singly.{HasGone, IsOn};
 
 use crate::call::Call;
 use crate::fault::EngineFault;
-use crate::run_state::{RunState, WriteFault, reported};
+use crate::run_state::{RunState, WriteFault, reported, split};
 use net_machine::{Due, Net, StepFault};
 use net_watch::{Watch, run_watched};
 use node_core::Line;
@@ -39,14 +38,17 @@ struct Single {
 }
 
 impl Single {
-    /// A net with memory for what it tells.
-    fn new(alloc: Global, net: Net) -> Result<Single, AllocError>
-        ensures { IfOk result (λ single. single.net ≡ net) }
+    /// The net where windows ended, with memory for what it tells.
+    fn new(alloc: Global, window: &Window) -> Result<Single, AllocError>
+        requires { IsAtEdge window.now }
+        ensures { IfOk result (λ single. single.net ≡ reached_in window.now) }
     {
+        let _reached = window.position();
+        let page = Page::new(alloc, AT_ONCE.saturating_mul(LINE_BYTES))?;
         Ok(Single {
-            net,
+            net: window.edge()?,
             line: Line::new(alloc),
-            page: Page::new(alloc, AT_ONCE.saturating_mul(LINE_BYTES))?,
+            page,
         })
     }
 }
@@ -149,26 +151,6 @@ fn run_some(
 }
 
 impl RunState {
-    /// Has a net, which goes on from where the windows ended, by groups again.
-    fn take_up(&mut self, net: Net) -> Result<(), AllocError>
-        requires runs { RunsIn self.old.groups self.old.ahead net }
-        requires few { groups_of self.old.groups ≤ 64 }
-        ensures edge { OnOk result (IsAtEdge self.new.window) }
-        ensures net { OnOk result (reached_in self.new.window ≡ net) }
-        ensures end { OnOk result (self.new.window.end ≡ net.state.end) }
-        ensures apart { OnOk result (IsApart self.old.groups self.old.ahead self.new.window) }
-        ensures rest { self.new ≡ record self.old { window = self.new.window } }
-    {
-        let groups = self.groups.copy()?;
-        match Window::new(self.alloc, net, groups) {
-            Ok(window) => {
-                self.window = window;
-                Ok(())
-            }
-            Err(_) => Err(AllocError),
-        }
-    }
-
     /// Runs some events of a net that has gone on from where windows ended, commits them and writes their text. The answer
     /// is how many bytes went out.
     fn write_some<S: Sink>(
@@ -199,6 +181,37 @@ impl RunState {
         }
     }
 
+    /// Runs events of a net that is where windows ended, commits them and writes their text: as many as the granularity
+    /// says, or until none is left below a moment.
+    fn run_singly<S: Sink>(
+        &mut self,
+        call: &Call<S>,
+        single: &mut Single,
+        written: &mut u128,
+        sink: &mut S,
+    ) -> Result<(), EngineFault>
+        requires rests { HasRested S.contents S.failures call.now self.old written.old sink.old }
+        requires net { single.old.net ≡ reached_in self.old.window }
+        ensures on { OnOk result (IsOn call.now.until self.old self.new single.new.net written.old written.new (S.contents sink.old) (S.contents sink.new)) }
+        ensures failures { OnOk result (S.failures sink.new ≡ S.failures sink.old) }
+        ensures ended { IfErr result (λ fault. HasEnded call.now.workers.workers call.now.until call.now.began.value self.new (Err fault) (S.contents call.now.known.value) (S.contents sink.new) (S.failures call.now.known.value) (S.failures sink.new)) }
+    {
+        let bound = call.until.min(self.end);
+        let mut more = true;
+        while more && self.granularity.is_single() {
+            let before = self.position;
+            let put = self.write_some(single, bound, sink);
+            let _reached = single.net.position();
+            match put {
+                Ok(count) => *written += count,
+                Err(fault) => return Err(reported(fault, *written)),
+            }
+            more = self.position != before;
+            self.granularity.count_singly(self.position - before);
+        }
+        Ok(())
+    }
+
     /// Goes on one event at a time from where windows ended, for as many events as the granularity says or until none
     /// is left below a moment; then the net is by groups again. Where memory for the net as one is refused, windows go
     /// on at once; where it is refused for the groups, the call ends by that.
@@ -213,31 +226,18 @@ impl RunState {
         ensures on { OnOk result (self.old.window.position ≤ self.new.window.position) }
         ensures ended { IfErr result (λ fault. HasEnded call.now.workers.workers call.now.until call.now.began.value self.new (Err fault) (S.contents call.now.known.value) (S.contents sink.new) (S.failures call.now.known.value) (S.failures sink.new)) }
     {
-        let _reached = self.window.position();
-        let Ok(net) = self.window.edge() else {
+        let Ok(mut single) = Single::new(self.alloc, &self.window) else {
             self.granularity.go_by_windows();
             return Ok(());
         };
-        let Ok(mut single) = Single::new(self.alloc, net) else {
-            self.granularity.go_by_windows();
-            return Ok(());
+        match self.run_singly(call, &mut single, written, sink) {
+            Ok(()) => {}
+            Err(fault) => return Err(fault),
+        }
+        let Ok(window) = split(self.alloc, single.net, &self.groups) else {
+            return Err(EngineFault::NoMemory);
         };
-        let bound = call.until.min(self.end);
-        let mut more = true;
-        while more && self.granularity.is_single() {
-            let before = self.position;
-            let put = self.write_some(&mut single, bound, sink);
-            let _reached = single.net.position();
-            match put {
-                Ok(count) => *written += count,
-                Err(fault) => return Err(reported(fault, *written)),
-            }
-            more = self.position != before;
-            self.granularity.count_singly(self.position - before);
-        }
-        match self.take_up(single.net) {
-            Ok(()) => Ok(()),
-            Err(_) => Err(EngineFault::NoMemory),
-        }
+        self.window = window;
+        Ok(())
     }
 }

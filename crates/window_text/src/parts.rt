@@ -41,7 +41,7 @@ pub struct Parts {
 }
 
 /// A part: shares of the lines from one on up to another.
-#[derive(Clone, Copy, Debug, PartialEq, Eq)]
+#[derive(Clone, Copy)]
 pub(crate) struct PartRange {
     /// Its first share.
     pub from: usize,

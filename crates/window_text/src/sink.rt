@@ -7,7 +7,7 @@ ghost use Rattle.window_text.specs.Over.{written_through, write_failures};
 use std::io::Write;
 
 /// A sink did not take what it was given.
-#[derive(Clone, Copy, Debug, Drop)]
+#[derive(Clone, Copy, Drop)]
 pub struct SinkFail;
 
 /// Where bytes go. It counts its failures, in 64 bits; at its greatest value the count stays.

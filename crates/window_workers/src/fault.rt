@@ -6,7 +6,7 @@ use std::alloc::AllocError;
 use window_core::GroupFault;
 
 /// Why workers did not run a window.
-#[derive(Clone, Copy, PartialEq, Eq, Debug, Drop)]
+#[derive(Clone, Copy, Drop)]
 pub enum WorkersFault {
     /// There was no memory.
     NoMemory,

@@ -65,7 +65,7 @@ pub trait Hands {
 }
 
 /// The calling thread alone. It starts no thread and waits for none.
-#[derive(Clone, Copy, Debug, Drop)]
+#[derive(Clone, Copy, Drop)]
 pub struct Alone;
 
 impl Hands for Alone {

@@ -1,77 +1,27 @@
 //! Paths that break or return.
-ghost use Rattle.std.specs.Prelude.{◌≡◌, ◌↔◌, IsTrue, IfSome, IfOk, Some, length};
+ghost use Rattle.std.specs.Prelude.{◌≡◌, IfSome, IfOk, Some, length};
 ghost use Rattle.std.specs.List.{slice_get};
 ghost use Rattle.scenario_image.specs.Kinds.{link_target};
-ghost use Rattle.scenario_image.specs.Paths.{outgoing_link as link_out_of, route_link as link_of_route, hop_link as link_hopped, MayComeTo, MayPass};
+ghost use Rattle.scenario_image.specs.Limits.{IsInLimits};
+ghost use Rattle.scenario_image.specs.Paths.{hop_link as link_hopped};
 ghost use Rattle.scenario_image.specs.declared.parts.FlowPart.{FlowPart};
 ghost use Rattle.explanations.specs.Counterexample.{flow_path, ArePassed, IsStopped, IsPathEnd, IsShown, path_fault};
 
 use crate::counterexample::{Counterexample, Packets, PathEnd};
-use scenario_image::{FlowPart, LinkPart, NodeKind, Path, ScenarioParts};
+use scenario_image::limits::is_in_limits;
+use scenario_image::paths::{hop_link, may_pass};
+use scenario_image::{Path, ScenarioParts};
 use std::alloc::{AllocError, Global};
-
-/// The number of the link of a router's route for a destination.
-fn route_link(parts: &ScenarioParts, router: u16, destination: u16) -> Option<u16>
-    ensures { result ≡ link_of_route parts.now.routes router destination }
-{
-    let routes = parts.routes.as_slice();
-    let route = routes.iter().find(|route| route.router == router
-        && route.destination == destination)?;
-    Some(route.link)
-}
-
-/// The number of the link that leaves a node, the first where there are several.
-fn outgoing_link(links: &[LinkPart], node: u16) -> Option<usize>
-    ensures { result ≡ link_out_of links.now node }
-{
-    links.iter().position(|link| link.from == node)
-}
-
-/// The number of the link that a path takes from a node.
-fn hop_link(parts: &ScenarioParts, path: Path, node: u16) -> Option<usize>
-    ensures { result ≡ link_hopped parts.now path node }
-{
-    if node == path.start {
-        return outgoing_link(parts.links.as_slice(), node);
-    }
-    route_link(parts, node, path.end).map(usize::from)
-}
 
 /// The link that a path takes from a node, and the node that it comes to.
 fn hop_from(parts: &ScenarioParts, path: Path, node: u16) -> Option<(usize, u16)>
+    requires { IsInLimits parts.now }
     ensures over { IfSome result (λ hop. link_hopped parts.now path node ≡ Some hop.0) }
     ensures comes { IfSome result (λ hop. link_target parts.now.links hop.0 ≡ Some hop.1) }
 {
     let link = hop_link(parts, path, node)?;
     let part = parts.links.as_slice().get(link)?;
     Some((link, part.to))
-}
-
-/// What a node does, if there is one of this number.
-fn kind_of(parts: &ScenarioParts, node: u16) -> Option<NodeKind>
-    ensures { result ≡ slice_get parts.now.nodes node }
-{
-    parts.nodes.as_slice().get(usize::from(node)).copied()
-}
-
-/// Whether a path may come to a node of this kind.
-fn may_come_to(parts: &ScenarioParts, path: Path, node: u16, kind: NodeKind) -> bool
-    ensures { IsTrue result ↔ MayComeTo parts.now path node kind }
-{
-    match kind {
-        NodeKind::Router => route_link(parts, node, path.end).is_some(),
-        NodeKind::Sender | NodeKind::Receiver => node == path.end,
-    }
-}
-
-/// Whether a path may come to a node. It may to one that is not there.
-fn may_pass(parts: &ScenarioParts, path: Path, node: u16) -> bool
-    ensures { IsTrue result ↔ MayPass parts.now path node }
-{
-    match kind_of(parts, node) {
-        Some(kind) => may_come_to(parts, path, node, kind),
-        None => true,
-    }
 }
 
 /// Where a node stands among some.
@@ -84,7 +34,8 @@ fn place_of(nodes: &[u16], node: u16) -> Option<usize>
 /// Whether a path that passed some nodes stops at the one that it comes to: `Some(false)` where it may not
 /// come there, and `Some(true)` where it was there.
 fn stops_at(parts: &ScenarioParts, path: Path, passed: &[u16], node: u16) -> Option<bool>
-    requires { ArePassed parts.now path passed.now }
+    requires limits { IsInLimits parts.now }
+    requires passed { ArePassed parts.now path passed.now }
     ensures { IfSome result (IsStopped parts.now path (length passed.now) node) }
 {
     if !may_pass(parts, path, node) {
@@ -96,6 +47,7 @@ fn stops_at(parts: &ScenarioParts, path: Path, passed: &[u16], node: u16) -> Opt
 
 /// Where a path first comes to a node that it may not come to or was at before, if it does.
 fn stop_of(alloc: Global, parts: &ScenarioParts, path: Path) -> Result<Option<PathEnd>, AllocError>
+    requires { IsInLimits parts.now }
     ensures { IfOk result (λ found. IfSome found (IsPathEnd parts.now path)) }
 {
     let mut passed = Vec::new(alloc);
@@ -127,7 +79,8 @@ fn path_of_packets(
     path: Path,
     again: bool,
 ) -> Result<Option<Counterexample>, AllocError>
-    requires { (part : FlowPart) × (slice_get parts.now.flows flow ≡ Some part) × (path ≡ flow_path packets part) }
+    requires limits { IsInLimits parts.now }
+    requires flow { (part : FlowPart) × (slice_get parts.now.flows flow ≡ Some part) × (path ≡ flow_path packets part) }
     ensures { IfOk result (λ found. IfSome found (IsShown parts.now (path_fault again))) }
 {
     match stop_of(alloc, parts, path)? {
@@ -140,7 +93,7 @@ fn path_of_packets(
     }
 }
 
-/// The first path that returns, or that breaks.
+/// The first path that returns, or that breaks, of parts whose numbers are in their ranges.
 pub(super) fn path_that(
     alloc: Global,
     parts: &ScenarioParts,
@@ -148,6 +101,9 @@ pub(super) fn path_that(
 ) -> Result<Option<Counterexample>, AllocError>
     ensures { IfOk result (λ found. IfSome found (IsShown parts.now (path_fault again))) }
 {
+    if !is_in_limits(parts) {
+        return Ok(None);
+    }
     for (number, flow) in parts.flows.as_slice().iter().enumerate() {
         let data = path_of_packets(
             alloc,

@@ -1,7 +1,7 @@
 //! Where a line stands among several lists.
 
 /// A list, by its number, and where in it.
-#[derive(Clone, Copy, Debug, PartialEq, Eq)]
+#[derive(Clone, Copy)]
 pub struct Spot {
     /// The number of the list.
     pub list: usize,

@@ -42,6 +42,21 @@ impl Cursor {
         })
     }
 
+    /// A cursor behind so many lines, with room for so many groups.
+    fn with_room(alloc: Global, at: usize, places: usize) -> Result<Cursor, AllocError>
+        requires { places ≤ 2 ^ 31 }
+        ensures nexts { IfOk result (λ cursor. length cursor.nexts ≡ places) }
+        ensures moments { IfOk result (λ cursor. length cursor.moments ≡ places) }
+        ensures ranks { IfOk result (λ cursor. length cursor.ranks ≡ places) }
+    {
+        Ok(Cursor {
+            at,
+            nexts: vec![in alloc; 0usize; places]?,
+            moments: vec![in alloc; 0u64; places]?,
+            tournament: KeyTournament::new(alloc, places)?,
+        })
+    }
+
     /// Has room for so many groups. Where memory is refused it stays.
     pub(super) fn fit(&mut self, alloc: Global, places: usize) -> Result<(), AllocError>
         requires { places ≤ 2 ^ 31 }
@@ -50,17 +65,12 @@ impl Cursor {
         ensures ranks { OnOk result (length self.new.ranks ≡ places) }
         ensures err { OnErr result (self.new ≡ self.old) }
     {
-        if self.nexts.len() == places
-            && self.moments.len() == places
-            && self.tournament.places() == places
+        if self.nexts.len() != places
+            || self.moments.len() != places
+            || self.tournament.places() != places
         {
-            return Ok(());
+            *self = Cursor::with_room(alloc, self.at, places)?;
         }
-        let nexts = vec![in alloc; 0usize; places]?;
-        let moments = vec![in alloc; 0u64; places]?;
-        self.tournament = KeyTournament::new(alloc, places)?;
-        self.nexts = nexts;
-        self.moments = moments;
         Ok(())
     }
 

@@ -6,7 +6,7 @@ ghost use Rattle.reno_sender.specs.Laws.{IsAckFor};
 ghost use Rattle.reno_sender.specs.AckRun.{IsAckRun};
 ghost use Rattle.reno_sender.specs.PlanView.{planned_of};
 ghost use Rattle.reno_sender.specs.LossRecovery.{advanced, new_acknowledgement, window_after};
-ghost use Rattle.reno_sender.specs.Table.{acknowledged};
+ghost use Rattle.reno_sender.specs.Table.{acknowledged, duplicated, newly_acknowledged};
 
 use super::duplicates::{early_duplicate, further_duplicate, repeated_duplicate, third_duplicate};
 use super::is_partial;
@@ -103,7 +103,42 @@ pub(crate) fn take_run(fields: &mut SenderFields, ack: u64, now: Time, run: AckR
     send_run(fields, run.count, now);
 }
 
-/// An acknowledgement: new, old, or the first, second, third or a further duplicate.
+/// An acknowledgement of new data, which may be a partial one.
+#[inline(always)]
+fn newly_acknowledged(fields: &SenderFields, ack: u64, now: Time) -> Plan
+    requires sound { IsSound fields.now }
+    requires moment { IsMoment now }
+    requires ack { IsAckFor fields.now ack now }
+    requires new { fields.now.una < ack }
+    ensures { planned_of result ≡ newly_acknowledged fields.now ack now }
+{
+    if is_partial(fields, ack) {
+        partial_acknowledgement(fields, ack, now)
+    } else {
+        new_acknowledgement(fields, ack, now)
+    }
+}
+
+/// A duplicate: in recovery, or the third, the first or second, or a further one.
+#[inline(always)]
+fn duplicated(fields: &SenderFields, now: Time) -> Plan
+    requires sound { IsSound fields.now }
+    requires moment { IsMoment now }
+    requires outstanding { fields.now.una < fields.now.nxt }
+    ensures { planned_of result ≡ duplicated fields.now now }
+{
+    if fields.recovery {
+        further_duplicate(fields, now)
+    } else if fields.dups == 2 {
+        third_duplicate(fields, now)
+    } else if fields.dups < 2 {
+        early_duplicate(fields, now)
+    } else {
+        repeated_duplicate(fields)
+    }
+}
+
+/// An acknowledgement: of new data, old, or a duplicate.
 #[tactic(auto, unfolding(crate::specs::Table::acknowledged))]
 pub(crate) fn acknowledged(fields: &SenderFields, ack: u64, now: Time) -> Plan
     requires sound { IsSound fields.now }
@@ -112,20 +147,10 @@ pub(crate) fn acknowledged(fields: &SenderFields, ack: u64, now: Time) -> Plan
     ensures { planned_of result ≡ acknowledged fields.now ack now }
 {
     if ack > fields.una {
-        if is_partial(fields, ack) {
-            partial_acknowledgement(fields, ack, now)
-        } else {
-            new_acknowledgement(fields, ack, now)
-        }
+        newly_acknowledged(fields, ack, now)
     } else if ack < fields.una || fields.una == fields.nxt {
         Plan::nothing(fields)
-    } else if fields.recovery {
-        further_duplicate(fields, now)
-    } else if fields.dups == 2 {
-        third_duplicate(fields, now)
-    } else if fields.dups < 2 {
-        early_duplicate(fields, now)
     } else {
-        repeated_duplicate(fields)
+        duplicated(fields, now)
     }
 }

@@ -1,5 +1,5 @@
 //! The lines of the pending events.
-ghost use Rattle.std.specs.Prelude.{◌≡◌, ◌++◌, IfOk, OnOk};
+ghost use Rattle.std.specs.Prelude.{◌≡◌, ◌++◌, IfOk, OnOk, string_bytes};
 ghost use Rattle.std.specs.List.{flat_map};
 ghost use Rattle.std.specs.FinMap as map;
 ghost use Rattle.net_machine.specs.Nodes.{pendings, net_pending, IsPlaced};
@@ -8,44 +8,42 @@ ghost use Rattle.trace_text.specs.Chosen.{chosen_event};
 ghost use Rattle.trace_text.specs.Dump.{event_line};
 ghost use Rattle.trace_text.specs.DumpParts.{is_event_of};
 
-use crate::event::{write_event, write_key};
-use crate::forward::write_text;
+use super::parts::Due;
 use net_machine::Net;
 use node_core::{Event, Node};
 use sim_time::Key;
 use std::alloc::{AllocError, Global};
 
-/// Appends the line of each event that is pending at one of the nodes, in the order of keys, or of
+/// Writes the line of each event that is pending at one of the nodes, in the order of keys, or of
 /// those of a flow.
-pub(super) fn append_events(
-    alloc: Global,
+pub(super) fn write_events(
+    out: &mut String,
     flow: Option<u16>,
     nodes: &[Node],
-    out: &mut Vec<u8>,
 ) -> Result<(), AllocError>
     requires { IsPlaced nodes.now }
-    ensures { OnOk result (out.new.items ≡ out.old.items
+    ensures { OnOk result (string_bytes out.new ≡ string_bytes out.old
         ++ flat_map (chosen_event flow) (map.entries (net_pending nodes.now))) }
 {
-    let pending = in_order(alloc, nodes)?;
+    let pending = in_order(*out.allocator(), nodes)?;
     for (key, event) in &pending {
-        append_chosen(flow, key, event, out)?;
+        write_chosen(out, flow, key, event)?;
     }
     Ok(())
 }
 
-/// Appends the line of a pending event, where it is one of the flow that is asked for.
-fn append_chosen(
+/// Writes the line of a pending event, where it is one of the flow that is asked for.
+fn write_chosen(
+    out: &mut String,
     flow: Option<u16>,
     key: &Key,
     event: &Event,
-    out: &mut Vec<u8>,
 ) -> Result<(), AllocError>
-    ensures { OnOk result (out.new.items ≡ out.old.items ++ chosen_event flow (key.now, event.now)) }
+    ensures { OnOk result (string_bytes out.new ≡ string_bytes out.old ++ chosen_event flow (key.now, event.now)) }
 {
     match flow {
         Some(flow) if !is_event_of(flow, event) => Ok(()),
-        _ => append_event(key, event, out),
+        _ => write_event(out, key, event),
     }
 }
 
@@ -89,14 +87,14 @@ fn node_by_node(alloc: Global, nodes: &[Node]) -> Result<Vec<(Key, Event)>, Allo
     Ok(all)
 }
 
-/// Appends the line of a pending event.
-fn append_event(key: &Key, event: &Event, out: &mut Vec<u8>) -> Result<(), AllocError>
-    ensures { OnOk result (out.new.items ≡ out.old.items ++ event_line (key.now, event.now)) }
+/// Writes the line of a pending event.
+fn write_event(out: &mut String, key: &Key, event: &Event) -> Result<(), AllocError>
+    ensures { OnOk result (string_bytes out.new ≡ string_bytes out.old ++ event_line (key.now, event.now)) }
 {
-    let mut bytes = [0; 104];
-    let at = write_text(&mut bytes, 0, b"event");
-    let at = write_key(&mut bytes, at, key);
-    let at = write_event(&mut bytes, at, event);
-    let end = write_text(&mut bytes, at, b"\n");
-    out.extend_from_slice(&bytes[..end])
+    let due = Due(*event);
+    write!(
+        out,
+        "event {} {} {} {}{due}\n",
+        key.time, key.node, key.source, key.number
+    )
 }

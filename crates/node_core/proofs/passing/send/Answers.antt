@@ -17,7 +17,7 @@ pub set_timer-requires : goal.set_timer-requires
 set_timer-requires c =
     let key = c.args.line.now.key in
     let event_queue = c.args.event_queue.now in
-    omega (arith, ap (λ (s : EventQueueState). length s.timers) c.take-arrived.ensures.state, length_cleared key event_queue.timers, next_within key c.args.line.now.event c.args.links.now.items event_queue c.args.out.now c.requires.next 0 c.requires.can.linked, c.requires.can.rto_timer)
+    omega (arith, ap (λ (s : EventQueueState). length s.timers) c.take-arrived.ensures.state, length_cleared key event_queue.timers, next_within key c.args.line.now.event c.args.links.now.items event_queue c.args.out.now c.requires.next 0 c.requires.can.linked, c.requires.can.end_timer)
 
 pub offer_behind-requires-clause-room : goal.offer_behind-requires-clause-room
 offer_behind-requires-clause-room c =
@@ -56,7 +56,7 @@ returns-clause-passed c =
     let moved : c.set_timer.new.self ≡ middle = c.set_timer.ensures ∙ ap (λ (s : EventQueueState). moved_to s (timer_number sending.timer) sending.time) c.take-arrived.ensures.state in
     let was = c.is_busy-was_busy.ensures in
     let free = c.next_free.ensures ∙ ap (λ (p : PortState). p.next_free) c.port.ensures.value ∙ ap (λ (l : LinkState). l.port.next_free) c.offer_behind.ensures.link_is ∙ ap (λ (s : PortStep). s.port.next_free) same in
-    let timer = rto_timer_apart (after_take event_queue key) (timer_number sending.timer) sending.time can.rto_timer ∙ link_timer_stays event_queue key event sending.timer next.due can.moves ∙ next_timer key event links event_queue c.args.out.now next 0 ∙ ap (λ (l : LinkState). l.port.next_free) (sym is) in
+    let timer = rto_timer_apart (after_take event_queue key) (timer_number sending.timer) sending.time can.end_timer ∙ link_timer_stays event_queue key event sending.timer next.due can.moves ∙ next_timer key event links event_queue c.args.out.now next 0 ∙ ap (λ (l : LinkState). l.port.next_free) (sym is) in
     let exit = next_exit key event links event_queue c.args.out.now next 0 ∙ ap (λ (l : LinkState). l.port.link) (sym is) in
     rw (← c.out.view_is) (has_passed 0 (λ (p : PortState). offered_all now p (sent_by_end sending)) links old c.offer_behind.new.self middle c.follow.new.event_queue chains c.chain-chain.result.now c.offer_behind.new.out c.args.line.now.acts.acts c.offer_behind.new.acts.acts c.follow.result is
     (c.offer_behind.ensures.link_is ∙ ap (λ (s : PortStep). record old { port = s.port }) same)

@@ -5,6 +5,9 @@ use Rattle.node_core.specs.Row.{data_packet}
 use Rattle.node_core.proofs.Runs.{few_in_cells, few_sent}
 use Rattle.node_core.proofs.sender_node.send_behind.Goals as goal
 
+pub commit_lent-requires : goal.commit_lent-requires
+commit_lent-requires c = c.requires
+
 pub returns-clause-sends : goal.returns-clause-sends
 returns-clause-sends c =
     let plan = c.args.plan.now in

@@ -3,8 +3,22 @@ use Rattle.reno_sender.specs.declared.fields.SenderFields.{SenderFields}
 use Rattle.reno_sender.specs.PlanView.{sent_of}
 use Rattle.node_core.specs.Links.{packets_of}
 use Rattle.node_core.specs.Row.{data_packet}
-use Rattle.node_core.proofs.Runs.{few_in_cells, few_sent, read_run}
+use Rattle.node_core.proofs.Runs.{few_in_cells, few_sent, read_all, read_run}
 use Rattle.node_core.proofs.sender_node.send_plan.Goals as goal
+
+pub segments-requires-clause-mss : goal.segments-requires-clause-mss
+segments-requires-clause-mss c = omega (arith, ap (λ (s : SenderFields). s.mss) c.as_fields.ensures.value, c.as_fields.ensures.well_made.sound.mss_most)
+
+pub segments-requires-clause-numbers : goal.segments-requires-clause-numbers
+segments-requires-clause-numbers c =
+    let all = read_all c.args.plan.now c.as_fields.ensures.well_made c.as_fields.result.now.mss c.first.result c.count-2.result (ap (λ (s : SenderFields). s.mss) c.as_fields.ensures.value) c.first.ensures.value c.count-2.ensures.value in
+    omega (arith, all)
+
+pub segments-requires-clause-few : goal.segments-requires-clause-few
+segments-requires-clause-few c = omega (arith, c.count-2.ensures.value, c.count-2.ensures.well_made.few)
+
+pub commit_lent-requires : goal.commit_lent-requires
+commit_lent-requires c = c.requires
 
 pub returns-clause-sends : goal.returns-clause-sends
 returns-clause-sends c =

@@ -6,6 +6,10 @@ use Rattle.reno_sender.proofs.AckRuns.{count_is}
 use Rattle.reno_sender.proofs.Rows.{fill_in_total}
 use Rattle.reno_sender.proofs.loss_recovery.acknowledgement.take_run.Goals as goal
 
+pub send_run-requires-clause-sound : goal.send_run-requires-clause-sound
+send_run-requires-clause-sound c =
+    rw c.advance.ensures (advanced_keeps c.args.fields.now c.args.ack c.args.now c.requires.sound c.requires.moment c.requires.ack c.requires.run.new).sound
+
 pub send_run-requires-clause-in_total : goal.send_run-requires-clause-in_total
 send_run-requires-clause-in_total c =
     let f = c.args.fields.now in

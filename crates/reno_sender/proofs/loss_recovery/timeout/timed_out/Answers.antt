@@ -1,5 +1,10 @@
 use Rattle.reno_sender.proofs.Multiples.{multiple_next, multiple_below}
+use Rattle.reno_sender.proofs.Rows.{ended_sound}
 use Rattle.reno_sender.proofs.loss_recovery.timeout.timed_out.Goals as goal
+
+pub resend-requires-clause-sound : goal.resend-requires-clause-sound
+resend-requires-clause-sound c =
+    rw (c.backed_off-rto.ensures, c.lowered_at-ssthresh.ensures, c.recover_at_loss.ensures) (ended_sound c.args.fields.now c.args.now c.requires.sound c.requires.moment c.requires.set)
 
 pub resend-requires-clause-back : goal.resend-requires-clause-back
 resend-requires-clause-back c =

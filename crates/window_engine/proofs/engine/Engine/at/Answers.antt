@@ -1,28 +1,33 @@
-use Rattle.std.proofs.Common.{◌∙◌, ◌≤◌, ◌≡◌, ap, arith, subst, sym, ℕ, List}
+use Rattle.std.proofs.Common.{◌∙◌, ◌≤◌, ap, arith, subst, sym, ℕ, List, Option}
+use Rattle.net_machine.specs.Run.{Reached}
 use Rattle.window_core.specs.Partition.{groups_of}
-use Rattle.window_engine.proofs.Between.{net_at, opened_net}
-use Rattle.window_engine.proofs.Grouped.{begun_has, same_copy}
+use Rattle.window_engine.specs.RunStates.{RunsIn}
+use Rattle.window_engine.proofs.Between.{net_at}
+use Rattle.window_workers.specs.Edges.{reached_in}
 use Rattle.window_engine.proofs.engine.Engine.at.Goals as goal
 
-pub returns-in-Ok-clause-net : goal.returns-in-Ok-clause-net
-returns-in-Ok-clause-net c =
-    ap (λ (n : ℕ). net_at c.in-Ok.window n) c.position-position.ensures.count ∙ opened_net c.in-Ok.window c.args.net c.in-Ok.ensures.from c.in-Ok.ensures.unfired
+pub returns-clause-net : goal.returns-clause-net
+returns-clause-net c =
+    let e = c.in_ok-window.ensures in
+    ap (λ (n : ℕ). net_at c.in_ok-window.window n) (c.position-position.ensures.count ∙ sym (ap (λ (n : Reached). n.position) e.net_is)) ∙ e.net_is
 
 pub invariant_of-result : goal.invariant_of-result
 invariant_of-result c _ =
-    let e = c.in-Ok.ensures in
+    let e = c.in_ok-window.ensures in
     let at = c.position-position.ensures.count in
     let fits = c.position-position.ensures.is_run.position_fits in
     let many = c.groups-many.ensures.count in
     let most = c.groups-many.ensures.most in
-    let these : c.in_ok-groups.groups ≡ c.args.partition = same_copy c.copy.result _ _ c.in_ok-groups.was c.copy.ensures in
-    let has = begun_has c.in-Ok.window c.args.net c.in_ok-groups.groups c.args.partition _ e.from e.unfired e.entries c.requires these c.lookahead.ensures in (
+    let between = c.lookahead.ensures in (
       record {
-        edge = record { inside = e.inside; unfired = e.unfired; until = e.until };
-        committed = at ∙ sym e.position;
+        edge = e.edge;
+        committed = at ∙ sym (ap (λ (n : Reached). n.position) e.net_is);
         few = omega (arith, at, fits);
         end = c.end-end.ensures ∙ sym e.end;
         groups = subst (λ (l : List ℕ). groups_of l ≤ 64) (sym e.entries) (omega (arith, many, most));
       },
-      record { run = has.0; apart = has.1 },
+      record {
+        run = subst (λ (a : Option ℕ). RunsIn c.args.partition a (reached_in c.in_ok-window.window)) (sym between) e.run;
+        apart = (e.entries, sym between);
+      },
     )
