@@ -1,8 +1,0 @@
-//! Tests of senders and receivers, by public calls alone, so that no library is proved a second time with
-//! its tests.
-#![tactic(auto)]
-
-#[cfg(test)]
-mod receivers;
-#[cfg(test)]
-mod senders;

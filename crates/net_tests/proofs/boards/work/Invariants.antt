@@ -1,5 +1,0 @@
-use Rattle.work_board.specs.Seats.{IsOf, HoldsNothing}
-use Rattle.net_tests.proofs.boards.work.Given as goal
-
-abbrev pub invariant-loop-turn : goal.invariant-loop-turn
-invariant-loop-turn l = IsOf l.board l.seat × HoldsNothing l.seat

@@ -1,0 +1,5 @@
+use Rattle.std.proofs.Common.{◌≡◌, false}
+use Rattle.tests_nets.proofs.windows.acting.follows.Given as goal
+
+abbrev pub invariant-loop-action : goal.invariant-loop-action
+invariant-loop-action g l = l.window.out ≡ false
