@@ -1,18 +1,16 @@
 -- Lists of which one element passes a test, and the entries of what is pending.
-use Rattle.std.proofs.Common.{◌≡◌, ◌≢◌, ℕ, zero, suc, ◌<◌, Bool, true, false, cond, T, ◌||◌, List, [], ◌∷◌, ◌++◌, map as each, length, get_or, refl, sym, ap, ◌∙◌, Option, Some, None, is_none, not, arith, inl, inr, ◌⊎◌, true≢false}
+use Rattle.std.proofs.Common.{◌≡◌, ◌≢◌, ℕ, zero, suc, ◌<◌, Bool, true, false, cond, T, ◌||◌, List, [], ◌∷◌, ◌++◌, map as each, length, get_or, refl, sym, ap, ◌∙◌, Some, None, arith, inl, inr, ◌⊎◌, true≢false}
 use Rattle.std.proofs.lemmas.Bool.{or_right}
 use Rattle.std.proofs.lemmas.List.Folds.{list_any-append}
 use Rattle.std.specs.List.{list_any}
-use Rattle.std.specs.Option.{option_or}
 use Rattle.std.specs.FinMap as map
 use Rattle.std.specs.FinMap.{get-entries, entries_sorted, find}
 use Rattle.std.specs.FinMap.Entries.{below_all}
 use Rattle.std.specs.Ordering.{eq_by_cmp, is_eq}
 use Rattle.sim_time.specs.declared.key.Key.{Key}
 use Rattle.sim_time.specs.Keys.{key_cmp}
-use Rattle.sim_time.proofs.Order.{exact_keys}
 use Rattle.tournament.specs.Keyed.{IsInOrder}
-use Rattle.tournament.proofs.Maps.{not_some, same_some, is_equal, is_less, both_of, untied, tied}
+use Rattle.tournament.proofs.Maps.{not_some, same_some, is_less, both_of, untied, tied}
 use Rattle.node_core.specs.declared.event.Event.{Event}
 use Rattle.node_core.specs.Pending.{Events}
 

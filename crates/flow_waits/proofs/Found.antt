@@ -1,5 +1,5 @@
 -- Where a flow becomes stalled in a run.
-use Rattle.std.proofs.Common.{◌≡◌, ◌≢◌, ℕ, ◌+◌, ◌-◌, ◌<◌, ◌≤◌, ◌==◌, ◌&&◌, ◌||◌, Bool, true, false, not, List, [], ◌∷◌, length, get_or, refl, sym, ap, subst, ◌∙◌, Option, Some, None, is_none, arith, inl, inr, ◌⊎◌, ⊎_elim, true≢false, eqb-true, eq-eqb}
+use Rattle.std.proofs.Common.{◌≡◌, ◌≢◌, ℕ, ◌-◌, ◌<◌, ◌≤◌, ◌==◌, ◌&&◌, ◌||◌, Bool, true, false, not, List, [], ◌∷◌, length, get_or, refl, sym, ap, subst, ◌∙◌, Some, is_none, arith, inl, inr, ◌⊎◌, ⊎_elim, true≢false, eqb-true, eq-eqb}
 use Rattle.std.proofs.lemmas.Bool.{cases_eq, cases_lt, not-false, and_from, and_parts}
 use Rattle.std.proofs.lemmas.List.{get_or-set_same, get_or-set_other, length-set}
 use Rattle.std.proofs.Math.ListN.{get_or-eq_default}

@@ -1,3 +1,4 @@
+mod Gathered
 mod Reported
 pub mod Any
 pub mod Waiting

@@ -1,5 +1,5 @@
 -- Arrivals and starts that are pending are so after another event, and a packet that leaves is under way.
-use Rattle.std.proofs.Common.{◌≡◌, ◌≢◌, ℕ, ◌+◌, ◌<◌, ◌≤◌, List, [], ◌∷◌, ◌++◌, length, refl, sym, ap, subst, ◌∙◌, Option, Some, None, arith}
+use Rattle.std.proofs.Common.{◌≡◌, ◌≢◌, ℕ, ◌+◌, ◌<◌, List, [], ◌∷◌, ◌++◌, length, refl, ap, ◌∙◌, Option, Some, None, arith}
 use Rattle.std.specs.List.{AllByRecursion}
 use Rattle.std.specs.FinMap as map
 use Rattle.sim_time.specs.declared.key.Key.{Key}
@@ -10,14 +10,14 @@ use Rattle.port.specs.Port.{Departure}
 use Rattle.node_core.specs.declared.timer.Timer.{Timer}
 use Rattle.node_core.specs.declared.timer.Timer.TheVariants.{Free as BecomesFree}
 use Rattle.node_core.specs.declared.event.Event.{Event}
-use Rattle.node_core.specs.declared.event.Event.TheVariants.{Start, Free, Arrive}
+use Rattle.node_core.specs.declared.event.Event.TheVariants.{Start, Arrive}
 use Rattle.node_core.specs.Timers.{timer_key, timer_number}
 use Rattle.node_core.specs.Part.{LinkState, link_at}
 use Rattle.node_core.specs.Pending.{Events, EventChange}
 use Rattle.node_core.specs.TraceLine.{TraceLine}
-use Rattle.node_core.specs.Row.{Effect, Leaving, home_changes, sent_away, arrives, changes_of}
+use Rattle.node_core.specs.Row.{Effect, Leaving, home_changes, sent_away, arrives}
 use Rattle.tournament.specs.Keyed.{apply}
-use Rattle.tournament.proofs.Maps.{not_some, get_here, get_other}
+use Rattle.tournament.proofs.Maps.{get_here, get_other}
 use Rattle.table_run.specs.State.{State, part_at, stepped}
 use Rattle.table_run.specs.Sound.{IsSoundAt}
 use Rattle.table_run.proofs.Due.{IsDue}

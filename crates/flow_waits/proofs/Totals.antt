@@ -1,5 +1,5 @@
 -- A sender that has all bytes acknowledged has so after each row.
-use Rattle.std.proofs.Common.{◌≡◌, ℕ, ◌-◌, ◌≤◌, ◌==◌, Bool, true, false, cond, refl, sym, ap, ◌∙◌, Option, Some, None, arith, List, [], ◌∷◌, set, get_or, zero, suc}
+use Rattle.std.proofs.Common.{◌≡◌, ℕ, ◌≤◌, ◌==◌, Bool, true, false, cond, refl, sym, ap, ◌∙◌, Option, Some, None, arith, List, [], ◌∷◌, set, get_or, zero, suc}
 use Rattle.std.specs.Prelude.{nat_lt, is_some}
 use Rattle.std.specs.Option.{option_or}
 use borrow.Author.Tests.{ltb-false}

@@ -1,5 +1,5 @@
 -- A packet of a flow that waits at a link: after a row it waits still, or leaves, or a link that became free has dropped it.
-use Rattle.std.proofs.Common.{◌≡◌, ◌≢◌, ℕ, ◌+◌, ◌-◌, ◌<◌, ◌≤◌, ◌==◌, Bool, true, cond, List, [], ◌∷◌, ◌++◌, map as each, length, get_or, set, refl, sym, ap, subst, ◌∙◌, Option, Some, None, arith, inl, inr, ◌⊎◌, ⊎_elim, true≢false}
+use Rattle.std.proofs.Common.{◌≡◌, ◌≢◌, ℕ, ◌+◌, ◌-◌, ◌<◌, ◌==◌, Bool, true, cond, List, [], ◌∷◌, ◌++◌, map as each, length, refl, sym, ap, subst, ◌∙◌, Option, Some, None, ⊎_elim, true≢false}
 use Rattle.std.proofs.Math.Bool.{or-false}
 use Rattle.std.proofs.lemmas.Bool.{cases_eq, cond_both}
 use Rattle.std.proofs.lemmas.List.{get_or-set_same, get_or-set_other}
@@ -12,12 +12,12 @@ use Rattle.packet_chain.specs.declared.packet.Kind.TheVariants.{Data, Ack}
 use Rattle.packet_chain.specs.Stamped.{Stamped}
 use Rattle.aqm.specs.declared.queue.Queue.{Queue}
 use Rattle.aqm.specs.Laws.{listed}
-use Rattle.aqm.specs.Queue.{waiting_in, refuses, offered_to, take_reason, taken_from}
+use Rattle.aqm.specs.Queue.{waiting_in, refuses, take_reason, taken_from}
 use Rattle.aqm.proofs.Front.{takes_the_front}
 use Rattle.aqm.proofs.Stays.{enters_last, refused_stays}
 use Rattle.port.specs.declared.acts.Act.{Act}
 use Rattle.port.specs.Losses.{is_lost}
-use Rattle.port.specs.Port.{PortState, PortStep, Departure, begun, dropped_for, taken, only, with_packet, entered, offered_one, offered_all}
+use Rattle.port.specs.Port.{PortState, PortStep, Departure, begun, dropped_for, taken, only, with_packet, offered_one, offered_all}
 use Rattle.reno_sender.specs.declared.fields.SenderFields.{SenderFields}
 use Rattle.reno_receiver.specs.Received.{ReceiverState, timer_came}
 use Rattle.node_core.specs.declared.event.Event.{Event}
@@ -29,7 +29,7 @@ use Rattle.node_core.specs.Pending.{EventChange}
 use Rattle.node_core.specs.RouteTable.{exit_for}
 use Rattle.node_core.specs.Row.{Effect, Leaving, leaving_over, with_step, quiet, ack_of, row, start_row, rto_row, delack_row, arrival_row, at_sender, at_receiver, passed_on}
 use Rattle.flow_waits.specs.Stalled.{is_drop_of, may_stall}
-use Rattle.flow_waits.proofs.Any.{any_append, any_left, any_right, any_each}
+use Rattle.flow_waits.proofs.Any.{any_append, any_left, any_each}
 
 abbrev pub is_of : ℕ → Stamped → Bool
 is_of flow cell = cell.0.flow == flow

@@ -1,29 +1,18 @@
 -- How a flow stands, and the words that say it.
-use Rattle.std.specs.Prelude.{ℕ, ◌==◌, ◌+◌, min, Bool, nat_lt, nat_le, if◌then◌else◌, List, [], ◌∷◌, ◌++◌, codes, decimal, Option, None, Some}
+use Rattle.std.specs.Prelude.{ℕ, ◌==◌, ◌+◌, min, Bool, nat_lt, nat_le, if◌then◌else◌, List, [], ◌∷◌, codes, decimal, Option, None, Some}
 use Rattle.std.specs.Option.{option_or}
 use Rattle.sim_time.specs.declared.key.Key.{Key}
 use Rattle.reno_sender.specs.declared.fields.SenderFields.{SenderFields}
 use Rattle.reno_sender.specs.Fields.{total, flight_size}
 use Rattle.node_core.specs.declared.event.Event.{Event}
 use Rattle.node_core.specs.declared.event.Event.TheVariants.{Start, Rto, DelAck, Free, Arrive}
+use Rattle.trace_text.specs.Words.{◌+++◌}
 use Rattle.flow_waits.specs.declared.timer.FlowTimer.{FlowTimer}
 use Rattle.flow_waits.specs.declared.timer.FlowTimer.TheVariants.{Starts, Retransmission, DelayedAcknowledgement}
 use Rattle.flow_waits.specs.declared.timer.DueTimer.{DueTimer}
 use Rattle.flow_waits.specs.declared.flow_status.FlowStatus.{FlowStatus}
 use Rattle.flow_waits.specs.declared.flow_status.FlowStatus.TheVariants.{NotStarted, Complete, Stalled, SentAll, SendsNoMore, MaySend}
 use Rattle.flow_waits.specs.Stalled.{is_unfinished}
-
--- a number behind a text
-abbrev pub numbered : List ℕ → ℕ → List ℕ
-numbered before n = before ++ decimal n
-
--- a number between two texts
-abbrev pub between : List ℕ → ℕ → List ℕ → List ℕ
-between before n after = numbered before n ++ after
-
--- a count between two texts, of which the second is another for a count of one
-abbrev pub count_text : List ℕ → ℕ → List ℕ → List ℕ → List ℕ
-count_text before n one other = between before n (if n == 1 then one else other)
 
 -- a timer, where it is one of a flow that is asked for
 abbrev pub timer_if : Bool → FlowTimer → Option FlowTimer
@@ -71,56 +60,53 @@ abbrev pub flow_status_of : Option ℕ → Bool → SenderFields → FlowStatus
 flow_status_of (Some time) packets f = NotStarted time
 flow_status_of None packets f = started_status packets f
 
--- what wakes a flow that is stalled
-abbrev pub timer_pairs : FlowTimer → List ℕ
-timer_pairs Starts = codes "its start"
-timer_pairs Retransmission = codes "its retransmission timer"
-timer_pairs DelayedAcknowledgement = codes "its delayed acknowledgement"
+-- the word behind a count, which is another for a count of one
+abbrev pub plural : ℕ → List ℕ → List ℕ → List ℕ
+plural n one other = if n == 1 then one else other
 
-abbrev pub awaited_text : Option DueTimer → List ℕ
-awaited_text None = codes "nothing goes on with it\n"
-awaited_text (Some due) = timer_pairs due.timer ++ between (codes " is due at ") due.time (codes " ns\n")
+-- what wakes a flow that is stalled
+abbrev pub timer_name : FlowTimer → List ℕ
+timer_name Starts = codes "its start"
+timer_name Retransmission = codes "its retransmission timer"
+timer_name DelayedAcknowledgement = codes "its delayed acknowledgement"
+
+abbrev pub wake_text : Option DueTimer → List ℕ
+wake_text None = codes "nothing goes on with it"
+wake_text (Some due) = timer_name due.timer +++ codes " is due at " +++ decimal due.time +++ codes " ns"
 
 -- of a flow that is stalled: its duplicate acknowledgements
 abbrev pub stalled_text : ℕ → Option DueTimer → List ℕ
 stalled_text dups timer =
-    count_text (codes " is stalled: ") dups (codes " duplicate acknowledgement, and ") (codes " duplicate acknowledgements, and ") ++ awaited_text timer
+    codes " is stalled: " +++ decimal dups +++ codes " duplicate acknowledgement" +++ plural dups (codes "") (codes "s") +++ codes ", and " +++ wake_text timer +++ codes "\n"
 
 -- the bytes of a flow
 abbrev pub complete_text : ℕ → List ℕ
-complete_text total = count_text (codes " is complete: all ") total (codes " byte is acknowledged\n") (codes " bytes are acknowledged\n")
+complete_text total = codes " is complete: all " +++ decimal total +++ codes " " +++ plural total (codes "byte is") (codes "bytes are") +++ codes " acknowledged\n"
 
 -- and those of them that are acknowledged
 abbrev pub sent_text : ℕ → ℕ → List ℕ
 sent_text total una =
-    count_text (codes " has sent all ") total (codes " byte: ") (codes " bytes: ") ++ count_text [] una (codes " is acknowledged\n") (codes " are acknowledged\n")
+    codes " has sent all " +++ decimal total +++ codes " " +++ plural total (codes "byte") (codes "bytes") +++ codes ": "
+    +++ decimal una +++ codes " " +++ plural una (codes "is") (codes "are") +++ codes " acknowledged\n"
 
 -- the bytes that are sent and not acknowledged, and those of one more segment
-abbrev pub flight_text : List ℕ → ℕ → ℕ → List ℕ
-flight_text before flight mss = count_text before flight (codes " byte") (codes " bytes") ++ numbered (codes " in flight, a segment of ") mss
+abbrev pub flight_text : ℕ → ℕ → List ℕ
+flight_text flight mss = decimal flight +++ codes " " +++ plural flight (codes "byte") (codes "bytes") +++ codes " in flight, a segment of " +++ decimal mss
 
-abbrev pub begun_text : List ℕ → SenderFields → List ℕ
-begun_text before f = flight_text before (flight_size f) f.mss
+-- of a flow into whose window one more segment does not fit, with the window that is the least, and of one into whose window it fits
+abbrev pub full_text : ℕ → ℕ → List ℕ → ℕ → List ℕ
+full_text flight mss window bytes = codes " sends no more: " +++ flight_text flight mss +++ codes ", " +++ window +++ codes " " +++ decimal bytes +++ codes "\n"
 
--- the congestion window, in bytes
-abbrev pub cwnd_text : SenderFields → List ℕ
-cwnd_text f = between (codes ", cwnd ") f.cwnd (codes "\n")
-
--- the window that is the least: the congestion window, or the receiver's
-abbrev pub window_text : SenderFields → List ℕ
-window_text f = if nat_le f.cwnd f.rwnd then cwnd_text f else between (codes ", rwnd ") f.rwnd (codes "\n")
-
-abbrev pub full_text : SenderFields → List ℕ
-full_text f = begun_text (codes " sends no more: ") f ++ window_text f
-
-abbrev pub open_text : SenderFields → List ℕ
-open_text f = begun_text (codes " may send at its next acknowledgement: ") f ++ cwnd_text f
+abbrev pub open_text : ℕ → ℕ → ℕ → List ℕ
+open_text flight mss cwnd = codes " may send at its next acknowledgement: " +++ flight_text flight mss +++ codes ", cwnd " +++ decimal cwnd +++ codes "\n"
 
 -- how a flow stands; of one that is stalled also which timer is due first
 abbrev pub flow_status_text : SenderFields → Option DueTimer → FlowStatus → List ℕ
-flow_status_text f timer (NotStarted time) = between (codes " is not started: it starts at ") time (codes " ns\n")
+flow_status_text f timer (NotStarted time) = codes " is not started: it starts at " +++ decimal time +++ codes " ns\n"
 flow_status_text f timer Complete = complete_text (total f)
 flow_status_text f timer Stalled = stalled_text f.dups timer
 flow_status_text f timer SentAll = sent_text (total f) f.una
-flow_status_text f timer SendsNoMore = full_text f
-flow_status_text f timer MaySend = open_text f
+flow_status_text f timer SendsNoMore =
+    if nat_le f.cwnd f.rwnd then full_text (flight_size f) f.mss (codes "cwnd") f.cwnd
+    else full_text (flight_size f) f.mss (codes "rwnd") f.rwnd
+flow_status_text f timer MaySend = open_text (flight_size f) f.mss f.cwnd

@@ -1,5 +1,5 @@
 -- What a flow waits for in a state of a net: how it stands, where its packets are, and its timers.
-use Rattle.std.specs.Prelude.{ℕ, ◌==◌, Bool, if◌then◌else◌, List, [], ◌∷◌, ◌++◌, codes, Option, None, Some}
+use Rattle.std.specs.Prelude.{ℕ, ◌==◌, Bool, if◌then◌else◌, List, [], ◌∷◌, ◌++◌, filter, codes, decimal, Option, None, Some}
 use Rattle.std.specs.List.{flat_map, enumerate_from}
 use Rattle.std.specs.FinMap as map
 use Rattle.packet_chain.specs.declared.packet.Packet.{Packet}
@@ -11,14 +11,17 @@ use Rattle.node_core.specs.declared.event.Event.{Event}
 use Rattle.node_core.specs.declared.event.Event.TheVariants.{Start, Rto, DelAck, Free, Arrive}
 use Rattle.node_core.specs.Part.{LinkState, PartState}
 use Rattle.table_run.specs.State.{State}
+use Rattle.trace_text.specs.Words.{◌+++◌}
 use Rattle.trace_text.specs.Line.{kind_name}
-use Rattle.trace_text.specs.Dump.{links_in_order}
+use Rattle.trace_text.specs.Dump.{numbers_below}
 use Rattle.flow_waits.specs.declared.names.ScenarioNames.{ScenarioNames}
 use Rattle.flow_waits.specs.declared.timer.FlowTimer.{FlowTimer}
 use Rattle.flow_waits.specs.declared.timer.FlowTimer.TheVariants.{Starts, Retransmission, DelayedAcknowledgement}
 use Rattle.flow_waits.specs.Stalled.{sender_of, start_due, has_packets}
-use Rattle.flow_waits.specs.Names.{NameList, named}
-use Rattle.flow_waits.specs.FlowStatus.{numbered, between, own_timer, first_timer, flow_status_of, flow_status_text}
+use Rattle.flow_waits.specs.Names.{NameList, part_name, named}
+use Rattle.flow_waits.specs.FlowStatus.{own_timer, first_timer, flow_status_of, flow_status_text}
+use Rattle.flow_waits.specs.declared.awaited.Awaited.{Awaited}
+use Rattle.flow_waits.specs.declared.awaited.Awaited.TheVariants.{Waits, Arrives, IsDue}
 
 -- the first line; none where no node sends the flow
 abbrev pub sender_line : NameList → ℕ → Option ℕ → Bool → List (Key × Event) → Option SenderFields → List ℕ
@@ -30,69 +33,69 @@ abbrev pub flow_status_line : NameList → ℕ → List PartState → List (Key 
 flow_status_line flows flow parts pending =
     sender_line flows flow (start_due flow pending) (has_packets flow parts pending) pending (sender_of flow parts)
 
--- a packet, behind a comma and a space: what it carries, and its number
-abbrev pub next_packet : Packet → List ℕ
-next_packet packet = numbered (codes ", " ++ kind_name packet.kind ++ codes " ") packet.number
-
 -- a packet of the flow that waits at a place of a link's queue
-abbrev pub waiting_one : NameList → ℕ → ℕ → ℕ × Stamped → List ℕ
-waiting_one links flow link placed =
-    if placed.1.0.flow == flow
-    then next_packet placed.1.0 ++ numbered (codes " at place ") placed.0 ++ named (codes " of link ") links link
-    else []
+abbrev pub waiting_one : ℕ → ℕ → ℕ × Stamped → List Awaited
+waiting_one flow link placed = if placed.1.0.flow == flow then Waits placed.1.0 placed.0 link ∷ [] else []
 
 -- those of a link, from the head of its queue on, which is place 1
-abbrev pub places_waiting_at : NameList → ℕ → LinkState → List ℕ
-places_waiting_at links flow link = flat_map (waiting_one links flow link.port.link) (enumerate_from 1 (waiting_in link.port.queue))
+abbrev pub waiting_at : ℕ → LinkState → List Awaited
+waiting_at flow link = flat_map (waiting_one flow link.port.link) (enumerate_from 1 (waiting_in link.port.queue))
+
+-- those of the link of a number, where it is one of these
+unfoldable pub waiting_from : ℕ → ℕ → List LinkState → List Awaited
+waiting_from flow number links = flat_map (waiting_at flow) (filter (λ (link : LinkState). link.port.link == number) links)
+
+-- at whatever node it is
+abbrev pub waiting_numbered : ℕ → List PartState → ℕ → List Awaited
+waiting_numbered flow parts number = flat_map (λ (part : PartState). waiting_from flow number part.links) parts
 
 -- a packet of the flow that is under way, with the node and the moment at which it arrives
-abbrev pub arriving : NameList → ℕ → Key → Packet → List ℕ
-arriving nodes flow key packet =
-    if packet.flow == flow
-    then next_packet packet ++ named (codes " to node ") nodes key.node ++ between (codes " at ") key.time (codes " ns")
-    else []
+abbrev pub arriving : ℕ → Key → Event → List Awaited
+arriving flow key (Start own) = []
+arriving flow key (Rto own) = []
+arriving flow key (DelAck own) = []
+arriving flow key (Free link) = []
+arriving flow key (Arrive packet) = if packet.flow == flow then Arrives packet key.node key.time ∷ [] else []
 
-abbrev pub under_way_one : NameList → ℕ → Key → Event → List ℕ
-under_way_one nodes flow key (Start own) = []
-under_way_one nodes flow key (Rto own) = []
-under_way_one nodes flow key (DelAck own) = []
-under_way_one nodes flow key (Free link) = []
-under_way_one nodes flow key (Arrive packet) = arriving nodes flow key packet
+-- a timer of the flow
+abbrev pub due_if : ℕ → Option FlowTimer → List Awaited
+due_if time None = []
+due_if time (Some timer) = IsDue (record { time = time; timer = timer }) ∷ []
 
--- a timer, behind a comma and a space
-abbrev pub next_timer : FlowTimer → List ℕ
-next_timer Starts = codes ", start at "
-next_timer Retransmission = codes ", rto at "
-next_timer DelayedAcknowledgement = codes ", delack at "
+abbrev pub due : ℕ → Key → Event → List Awaited
+due flow key event = due_if key.time (own_timer flow event)
 
-abbrev pub timer_one : ℕ → Option FlowTimer → List ℕ
-timer_one time None = []
-timer_one time (Some timer) = between (next_timer timer) time (codes " ns")
+-- a packet: what it carries, and its number
+abbrev pub packet_text : Packet → List ℕ
+packet_text packet = kind_name packet.kind +++ codes " " +++ decimal packet.number
 
--- a line of texts, each behind a comma and a space but the first; no line where there is no text
-abbrev pub list_line : List ℕ → List ℕ → List ℕ
-list_line heading [] = []
-list_line heading (comma ∷ []) = []
-list_line heading (comma ∷ space ∷ texts) = heading ++ texts ++ codes "\n"
+abbrev pub timer_word : FlowTimer → List ℕ
+timer_word Starts = codes "start"
+timer_word Retransmission = codes "rto"
+timer_word DelayedAcknowledgement = codes "delack"
 
--- the flow's packets that wait, link by link in rising number
-abbrev pub waiting_line : NameList → ℕ → List PartState → List ℕ
-waiting_line links flow parts = list_line (codes "waits: ") (flat_map (places_waiting_at links flow) (links_in_order parts))
+abbrev pub awaited_text : ScenarioNames → Awaited → List ℕ
+awaited_text names (Waits packet place link) = packet_text packet +++ codes " at place " +++ decimal place +++ codes " of link " +++ part_name names.links link
+awaited_text names (Arrives packet node time) = packet_text packet +++ codes " to node " +++ part_name names.nodes node +++ codes " at " +++ decimal time +++ codes " ns"
+awaited_text names (IsDue due) = timer_word due.timer +++ codes " at " +++ decimal due.time +++ codes " ns"
 
--- the flow's packets under way, in the order of the keys of their arrivals
-abbrev pub under_way_line : NameList → ℕ → List (Key × Event) → List ℕ
-under_way_line nodes flow pending =
-    list_line (codes "under way: ") (flat_map (λ (entry : Key × Event). under_way_one nodes flow entry.0 entry.1) pending)
+-- a line of them, with commas between them; no line where there are none
+abbrev pub further_text : ScenarioNames → List Awaited → List ℕ
+further_text names rest = flat_map (λ it. codes ", " ++ awaited_text names it) rest +++ codes "\n"
 
--- the flow's timers, in the order of their keys
-abbrev pub timers_line : ℕ → List (Key × Event) → List ℕ
-timers_line flow pending =
-    list_line (codes "alarms: ") (flat_map (λ (entry : Key × Event). timer_one entry.0.time (own_timer flow entry.1)) pending)
+unfoldable pub list_line : List ℕ → ScenarioNames → List Awaited → List ℕ
+list_line heading names [] = []
+list_line heading names (it ∷ rest) = heading +++ awaited_text names it +++ further_text names rest
 
--- of the nodes, and what is pending in the order of keys
+-- of the nodes, and what is pending in the order of keys: the flow's packets that wait, link by link in rising number, those under way in the order of the keys of their arrivals, and its timers in the order of their keys
+unfoldable pub lists_text : ScenarioNames → ℕ → List PartState → List (Key × Event) → List ℕ
+lists_text names flow parts pending =
+    list_line (codes "waits: ") names (flat_map (waiting_numbered flow parts) (numbers_below 1024))
+    ++ list_line (codes "under way: ") names (flat_map (λ (entry : Key × Event). arriving flow entry.0 entry.1) pending)
+    ++ list_line (codes "alarms: ") names (flat_map (λ (entry : Key × Event). due flow entry.0 entry.1) pending)
+
 abbrev pub waits_in : ScenarioNames → ℕ → List PartState → List (Key × Event) → List ℕ
-waits_in names flow parts pending =
-    flow_status_line names.flows flow parts pending ++ waiting_line names.links flow parts ++ under_way_line names.nodes flow pending ++ timers_line flow pending
+waits_in names flow parts pending = flow_status_line names.flows flow parts pending ++ lists_text names flow parts pending
 
 abbrev pub waits_bytes : ScenarioNames → ℕ → State → List ℕ
 waits_bytes names flow state = waits_in names flow state.parts (map.entries state.pending)

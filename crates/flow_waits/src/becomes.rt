@@ -48,21 +48,13 @@ fn some_stalls_by_drop(alloc: Global, net: &Net, acts: &[Act]) -> Result<bool, A
     ensures { IfOk result (λ stalled. stalled ≡ list_any (is_stalled_by_drop net.now.state) acts.now) }
 {
     for act in acts {
-        if is_stalled_by_drop(alloc, net, act)? {
-            return Ok(true);
+        if let Act::Dropped(_, _, packet) = act {
+            if is_stalled(alloc, net, packet.flow)? {
+                return Ok(true);
+            }
         }
     }
     Ok(false)
-}
-
-/// Whether an act drops a packet whose flow is stalled.
-fn is_stalled_by_drop(alloc: Global, net: &Net, act: &Act) -> Result<bool, AllocError>
-    ensures { IfOk result (λ stalled. stalled ≡ is_stalled_by_drop net.now.state act.now) }
-{
-    match act {
-        Act::Tx(_, _) => Ok(false),
-        Act::Dropped(_, _, packet) => is_stalled(alloc, net, packet.flow),
-    }
 }
 
 /// Whether an event leaves a flow with less that goes on with it.
@@ -81,20 +73,5 @@ fn may_stall(flow: u16, event: &Event, acts: &[Act]) -> bool
 fn has_drop_of(flow: u16, acts: &[Act]) -> bool
     ensures { result ≡ list_any (is_drop_of flow) acts.now }
 {
-    for act in acts {
-        if is_drop_of(flow, act) {
-            return true;
-        }
-    }
-    false
-}
-
-/// Whether an act drops a packet of a flow.
-fn is_drop_of(flow: u16, act: &Act) -> bool
-    ensures { result ≡ is_drop_of flow act.now }
-{
-    match act {
-        Act::Tx(_, _) => false,
-        Act::Dropped(_, _, packet) => packet.flow == flow,
-    }
+    acts.iter().any(|act| matches!(act, Act::Dropped(_, _, packet) if packet.flow == flow))
 }

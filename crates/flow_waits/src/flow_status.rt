@@ -1,8 +1,9 @@
 //! How a flow stands.
 ghost use Rattle.std.specs.Prelude.{◌≡◌};
-ghost use Rattle.flow_waits.specs.FlowStatus.{sending_status, started_status, flow_status_of};
+ghost use Rattle.reno_sender.specs.Fields.{total, flight_size};
+ghost use Rattle.flow_waits.specs.Stalled.{is_unfinished};
+ghost use Rattle.flow_waits.specs.FlowStatus.{flow_status_of};
 
-use crate::bytes::{is_unfinished, total, window, with_next};
 use reno_sender::Sender;
 use sim_time::Time;
 
@@ -28,35 +29,36 @@ pub(crate) enum FlowStatus {
 pub(crate) fn flow_status_of(start: Option<Time>, packets: bool, sender: &Sender) -> FlowStatus
     ensures { result ≡ flow_status_of start packets sender.now }
 {
+    let s = sender.as_fields();
     match start {
         Some(time) => FlowStatus::NotStarted(time),
-        None => started_status(packets, sender),
+        None if !is_unfinished(sender) => FlowStatus::Complete,
+        None if !packets => FlowStatus::Stalled,
+        None if s.nxt == total(sender) => FlowStatus::SentAll,
+        None if s.cwnd.min(s.rwnd) < flight_size(sender) + s.mss => FlowStatus::SendsNoMore,
+        None => FlowStatus::MaySend,
     }
 }
 
-/// How a flow stands that was started.
-fn started_status(packets: bool, sender: &Sender) -> FlowStatus
-    ensures { result ≡ started_status packets sender.now }
-{
-    if !is_unfinished(sender) {
-        return FlowStatus::Complete;
-    }
-    if !packets {
-        return FlowStatus::Stalled;
-    }
-    sending_status(sender)
-}
-
-/// How a flow stands that is neither complete nor stalled.
-fn sending_status(sender: &Sender) -> FlowStatus
-    ensures { result ≡ sending_status sender.now }
+/// The bytes of the whole flow.
+pub(crate) fn total(sender: &Sender) -> u64
+    ensures { result ≡ total sender.now }
 {
     let fields = sender.as_fields();
-    if fields.nxt == total(sender) {
-        return FlowStatus::SentAll;
-    }
-    if window(sender) < with_next(sender) {
-        return FlowStatus::SendsNoMore;
-    }
-    FlowStatus::MaySend
+    fields.segments * fields.mss
+}
+
+/// Whether bytes are still to be acknowledged.
+pub(crate) fn is_unfinished(sender: &Sender) -> bool
+    ensures { result ≡ is_unfinished sender.now }
+{
+    sender.as_fields().una < total(sender)
+}
+
+/// The bytes that are sent and not acknowledged (RFC 5681 section 2).
+pub(crate) fn flight_size(sender: &Sender) -> u64
+    ensures { result ≡ flight_size sender.now }
+{
+    let fields = sender.as_fields();
+    fields.nxt - fields.una
 }

@@ -1,15 +1,11 @@
 //! What a flow waits for in a state of a net, as text, and whether it is stalled.
 #![tactic(auto)]
 
-mod append;
+mod awaited;
 mod becomes;
-mod bytes;
-mod ends;
 mod flow_status;
 pub mod guarantees;
-mod lists;
 mod names;
-mod packets;
 mod queues;
 mod sentence;
 mod stalled;

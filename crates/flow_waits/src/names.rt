@@ -6,7 +6,9 @@ ghost use Rattle.flow_waits.specs.Names.{part_name};
 
 use itoa::Buffer;
 use std::alloc::{AllocError, Global};
+use std::fmt;
 use std::marker::Model;
+use trace_text::ByteText;
 
 /// The names of all parts of a sort, in the order of their numbers; none of an image.
 #[derive(Drop)]
@@ -105,4 +107,23 @@ pub struct ScenarioNames {
     pub links: PartNames,
     /// The flows' names.
     pub flows: PartNames,
+}
+
+/// How the part of a number is called, by the names of its sort.
+#[derive(Drop)]
+pub(crate) struct PartName<'a>(pub(crate) &'a PartNames, pub(crate) u16);
+
+impl fmt::Display for PartName<'_> {
+    ghost use Rattle.std.specs.Prelude.{Some};
+
+    ghost output = { λ part. Some (part_name part.0.now part.1) };
+
+    fn fmt<W: fmt::Write>(&self, f: &mut fmt::Formatter<W>) -> fmt::Result {
+        let name = self.0.get(usize::from(self.1));
+        if name.len() == 0 {
+            write!(f, "{}", self.1)
+        } else {
+            ByteText(name).fmt(f)
+        }
+    }
 }

@@ -1,141 +1,132 @@
 //! The words that say how a flow stands.
-ghost use Rattle.std.specs.Prelude.{◌≡◌, ◌++◌, OnOk};
-ghost use Rattle.flow_waits.specs.FlowStatus.{timer_pairs, awaited_text, complete_text, stalled_text, sent_text, flight_text, begun_text, cwnd_text, window_text, full_text, open_text, flow_status_text};
+ghost use Rattle.std.specs.Prelude.{◌≡◌, ◌++◌, OnOk, Some, string_bytes};
+ghost use Rattle.flow_waits.specs.FlowStatus.{plural, timer_name, wake_text, flight_text, complete_text, stalled_text, sent_text, full_text, open_text, flow_status_text};
 
-use crate::append::{append_between, append_count, append_numbered};
-use crate::bytes::{flight_size, total};
-use crate::flow_status::FlowStatus;
+use crate::flow_status::{FlowStatus, flight_size, total};
 use crate::timer::{DueTimer, FlowTimer};
 use reno_sender::Sender;
 use std::alloc::AllocError;
+use std::fmt;
 
-/// Appends how a flow stands; of one that is stalled also which timer is due first. After an `Err`, as with all
+/// The word behind a count, which is another for a count of one.
+#[derive(Drop)]
+struct Plural(u64, &'static str, &'static str);
+
+impl fmt::Display for Plural {
+    ghost output = { λ word. Some (plural word.0 word.1.now word.2.now) };
+
+    fn fmt<W: fmt::Write>(&self, f: &mut fmt::Formatter<W>) -> fmt::Result {
+        f.write_str(if self.0 == 1 { self.1 } else { self.2 })
+    }
+}
+
+/// What wakes a flow that is stalled.
+#[derive(Drop)]
+struct Wake(Option<DueTimer>);
+
+impl fmt::Display for Wake {
+    ghost output = { λ wake. Some (wake_text wake.0) };
+
+    fn fmt<W: fmt::Write>(&self, f: &mut fmt::Formatter<W>) -> fmt::Result {
+        match self.0 {
+            None => f.write_str("nothing goes on with it"),
+            Some(due) => write!(f, "{} is due at {} ns", timer_name(due.timer), due.time),
+        }
+    }
+}
+
+/// How a timer is called there.
+fn timer_name(timer: FlowTimer) -> &'static str
+    ensures { result.now ≡ timer_name timer }
+{
+    match timer {
+        FlowTimer::Starts => "its start",
+        FlowTimer::Retransmission => "its retransmission timer",
+        FlowTimer::DelayedAcknowledgement => "its delayed acknowledgement",
+    }
+}
+
+/// The bytes in flight, and those of one more segment.
+#[derive(Drop)]
+struct Flight(u64, u64);
+
+impl fmt::Display for Flight {
+    ghost output = { λ bytes. Some (flight_text bytes.0 bytes.1) };
+
+    fn fmt<W: fmt::Write>(&self, f: &mut fmt::Formatter<W>) -> fmt::Result {
+        let bytes = Plural(self.0, "byte", "bytes");
+        write!(f, "{} {bytes} in flight, a segment of {}", self.0, self.1)
+    }
+}
+
+/// Writes how a flow stands; of one that is stalled also which timer is due first. After an `Err`, as with all
 /// functions here, a part of the text may stand there.
-pub(crate) fn append_flow_status(
+pub(crate) fn write_flow_status(
+    out: &mut String,
     sender: &Sender,
     timer: Option<DueTimer>,
     flow_status: FlowStatus,
-    out: &mut Vec<u8>,
 ) -> Result<(), AllocError>
-    ensures { OnOk result (out.new.items ≡ out.old.items ++ flow_status_text sender.now timer flow_status) }
+    ensures { OnOk result (string_bytes out.new ≡ string_bytes out.old ++ flow_status_text sender.now timer flow_status) }
 {
+    let s = sender.as_fields();
+    let flight = Flight(flight_size(sender), s.mss);
     match flow_status {
-        FlowStatus::NotStarted(time) => {
-            append_between(b" is not started: it starts at ", time, b" ns\n", out)
-        }
-        FlowStatus::Complete => append_complete(total(sender), out),
-        FlowStatus::Stalled => append_stalled(sender.as_fields().dups, timer, out),
-        FlowStatus::SentAll => append_sent(total(sender), sender.as_fields().una, out),
-        FlowStatus::SendsNoMore => append_full(sender, out),
-        FlowStatus::MaySend => append_open(sender, out),
+        FlowStatus::NotStarted(time) => write!(out, " is not started: it starts at {time} ns\n"),
+        FlowStatus::Complete => write_complete(out, total(sender)),
+        FlowStatus::Stalled => write_stalled(out, s.dups, timer),
+        FlowStatus::SentAll => write_sent(out, total(sender), s.una),
+        FlowStatus::SendsNoMore if s.cwnd <= s.rwnd => write_full(out, flight, "cwnd", s.cwnd),
+        FlowStatus::SendsNoMore => write_full(out, flight, "rwnd", s.rwnd),
+        FlowStatus::MaySend => write_open(out, flight, s.cwnd),
     }
 }
 
 /// Of a flow that is complete: its bytes.
-fn append_complete(total: u64, out: &mut Vec<u8>) -> Result<(), AllocError>
-    ensures { OnOk result (out.new.items ≡ out.old.items ++ complete_text total) }
+fn write_complete(out: &mut String, total: u64) -> Result<(), AllocError>
+    ensures { OnOk result (string_bytes out.new ≡ string_bytes out.old ++ complete_text total) }
 {
-    append_count(
-        b" is complete: all ",
-        total,
-        b" byte is acknowledged\n",
-        b" bytes are acknowledged\n",
+    let are = Plural(total, "byte is", "bytes are");
+    write!(out, " is complete: all {total} {are} acknowledged\n")
+}
+
+/// Of a flow that is stalled: its duplicate acknowledgements, and what wakes it.
+fn write_stalled(out: &mut String, dups: u64, timer: Option<DueTimer>) -> Result<(), AllocError>
+    ensures { OnOk result (string_bytes out.new ≡ string_bytes out.old ++ stalled_text dups timer) }
+{
+    let more = Plural(dups, "", "s");
+    let wake = Wake(timer);
+    write!(
         out,
+        " is stalled: {dups} duplicate acknowledgement{more}, and {wake}\n"
     )
 }
 
-/// Of a flow that is stalled: its duplicate acknowledgements.
-fn append_stalled(dups: u64, timer: Option<DueTimer>, out: &mut Vec<u8>) -> Result<(), AllocError>
-    ensures { OnOk result (out.new.items ≡ out.old.items ++ stalled_text dups timer) }
-{
-    append_count(
-        b" is stalled: ",
-        dups,
-        b" duplicate acknowledgement, and ",
-        b" duplicate acknowledgements, and ",
-        out,
-    )?;
-    append_awaited(timer, out)
-}
-
-/// What wakes it.
-fn append_awaited(timer: Option<DueTimer>, out: &mut Vec<u8>) -> Result<(), AllocError>
-    ensures { OnOk result (out.new.items ≡ out.old.items ++ awaited_text timer) }
-{
-    match timer {
-        None => out.extend_from_slice(b"nothing goes on with it\n"),
-        Some(due) => {
-            out.extend_from_slice(timer_pairs(due.timer))?;
-            append_between(b" is due at ", due.time, b" ns\n", out)
-        }
-    }
-}
-
-/// A timer's name in that text.
-fn timer_pairs(timer: FlowTimer) -> &'static [u8]
-    ensures { result.now ≡ timer_pairs timer }
-{
-    match timer {
-        FlowTimer::Starts => b"its start",
-        FlowTimer::Retransmission => b"its retransmission timer",
-        FlowTimer::DelayedAcknowledgement => b"its delayed acknowledgement",
-    }
-}
-
 /// Of a flow that has sent all its bytes: these, and those of them that are acknowledged.
-fn append_sent(total: u64, una: u64, out: &mut Vec<u8>) -> Result<(), AllocError>
-    ensures { OnOk result (out.new.items ≡ out.old.items ++ sent_text total una) }
+fn write_sent(out: &mut String, total: u64, una: u64) -> Result<(), AllocError>
+    ensures { OnOk result (string_bytes out.new ≡ string_bytes out.old ++ sent_text total una) }
 {
-    append_count(b" has sent all ", total, b" byte: ", b" bytes: ", out)?;
-    append_count(b"", una, b" is acknowledged\n", b" are acknowledged\n", out)
+    let bytes = Plural(total, "byte", "bytes");
+    let are = Plural(una, "is", "are");
+    write!(
+        out,
+        " has sent all {total} {bytes}: {una} {are} acknowledged\n"
+    )
 }
 
-/// Of a flow into whose window one more segment does not fit.
-fn append_full(sender: &Sender, out: &mut Vec<u8>) -> Result<(), AllocError>
-    ensures { OnOk result (out.new.items ≡ out.old.items ++ full_text sender.now) }
+/// Of a flow into whose window one more segment does not fit: the window that is the least.
+fn write_full(out: &mut String, flight: Flight, window: &str, bytes: u64) -> Result<(), AllocError>
+    ensures { OnOk result (string_bytes out.new ≡ string_bytes out.old ++ full_text flight.0 flight.1 window.now bytes) }
 {
-    append_begun(b" sends no more: ", sender, out)?;
-    append_window(sender, out)
+    write!(out, " sends no more: {flight}, {window} {bytes}\n")
 }
 
-/// Of a flow into whose window one more segment fits.
-fn append_open(sender: &Sender, out: &mut Vec<u8>) -> Result<(), AllocError>
-    ensures { OnOk result (out.new.items ≡ out.old.items ++ open_text sender.now) }
+/// Of a flow into whose window one more segment fits: the congestion window.
+fn write_open(out: &mut String, flight: Flight, cwnd: u64) -> Result<(), AllocError>
+    ensures { OnOk result (string_bytes out.new ≡ string_bytes out.old ++ open_text flight.0 flight.1 cwnd) }
 {
-    append_begun(b" may send at its next acknowledgement: ", sender, out)?;
-    append_cwnd(sender, out)
-}
-
-/// The congestion window.
-fn append_cwnd(sender: &Sender, out: &mut Vec<u8>) -> Result<(), AllocError>
-    ensures { OnOk result (out.new.items ≡ out.old.items ++ cwnd_text sender.now) }
-{
-    append_between(b", cwnd ", sender.as_fields().cwnd, b"\n", out)
-}
-
-/// The bytes that are sent and not acknowledged, behind a text, and those of one more segment.
-fn append_begun(before: &[u8], sender: &Sender, out: &mut Vec<u8>) -> Result<(), AllocError>
-    ensures { OnOk result (out.new.items ≡ out.old.items ++ begun_text before.now sender.now) }
-{
-    append_flight(before, flight_size(sender), sender.as_fields().mss, out)
-}
-
-/// So many bytes in flight, and those of a segment.
-fn append_flight(before: &[u8], flight: u64, mss: u64, out: &mut Vec<u8>) -> Result<(), AllocError>
-    ensures { OnOk result (out.new.items ≡ out.old.items ++ flight_text before.now flight mss) }
-{
-    append_count(before, flight, b" byte", b" bytes", out)?;
-    append_numbered(b" in flight, a segment of ", mss, out)
-}
-
-/// The window that is the least.
-fn append_window(sender: &Sender, out: &mut Vec<u8>) -> Result<(), AllocError>
-    ensures { OnOk result (out.new.items ≡ out.old.items ++ window_text sender.now) }
-{
-    let fields = sender.as_fields();
-    if fields.cwnd <= fields.rwnd {
-        append_cwnd(sender, out)
-    } else {
-        append_between(b", rwnd ", fields.rwnd, b"\n", out)
-    }
+    write!(
+        out,
+        " may send at its next acknowledgement: {flight}, cwnd {cwnd}\n"
+    )
 }

@@ -1,6 +1,6 @@
 //! The timers of a flow.
 ghost use Rattle.std.specs.Prelude.{◌≡◌};
-ghost use Rattle.flow_waits.specs.FlowStatus.{own_timer, first_timer, timer_if};
+ghost use Rattle.flow_waits.specs.FlowStatus.{own_timer, first_timer};
 
 use node_core::Event;
 use sim_time::{Key, Time};
@@ -31,10 +31,8 @@ pub(crate) fn first_timer(flow: u16, pending: &[(Key, Event)]) -> Option<DueTime
 {
     for (key, event) in pending {
         if let Some(timer) = own_timer(flow, event) {
-            return Some(DueTimer {
-                time: key.time,
-                timer,
-            });
+            let time = key.time;
+            return Some(DueTimer { time, timer });
         }
     }
     None
@@ -45,16 +43,9 @@ pub(crate) fn own_timer(flow: u16, event: &Event) -> Option<FlowTimer>
     ensures { result ≡ own_timer flow event.now }
 {
     match event {
-        Event::Start(own) => timer_if(*own == flow, FlowTimer::Starts),
-        Event::Rto(own) => timer_if(*own == flow, FlowTimer::Retransmission),
-        Event::DelAck(own) => timer_if(*own == flow, FlowTimer::DelayedAcknowledgement),
-        Event::Free(_) | Event::Arrive(_) => None,
+        Event::Start(own) if *own == flow => Some(FlowTimer::Starts),
+        Event::Rto(own) if *own == flow => Some(FlowTimer::Retransmission),
+        Event::DelAck(own) if *own == flow => Some(FlowTimer::DelayedAcknowledgement),
+        _ => None,
     }
-}
-
-/// A timer, where it is one of a flow that is asked for.
-fn timer_if(is_own: bool, timer: FlowTimer) -> Option<FlowTimer>
-    ensures { result ≡ timer_if is_own timer }
-{
-    if is_own { Some(timer) } else { None }
 }

@@ -1,16 +1,13 @@
 //! What a flow waits for.
-ghost use Rattle.std.specs.Prelude.{◌≡◌, ◌++◌, OnOk, OnErr};
+ghost use Rattle.std.specs.Prelude.{◌≡◌, ◌++◌, OnOk, OnErr, string_bytes};
 ghost use Rattle.net_machine.specs.Nodes.{parts_of};
-ghost use Rattle.flow_waits.specs.Waits.{flow_status_line, waiting_line, under_way_line, timers_line, waits_in, waits_bytes};
+ghost use Rattle.flow_waits.specs.Waits.{flow_status_line, waits_bytes};
 
-use crate::append::append_named;
-use crate::ends::{sender_of, start_of};
+use crate::awaited::write_lists;
 use crate::flow_status::flow_status_of;
-use crate::lists::{append_list, append_timers, append_under_way};
-use crate::names::{PartNames, ScenarioNames};
-use crate::packets::has_packets;
-use crate::queues::append_waiting;
-use crate::sentence::append_flow_status;
+use crate::names::{PartName, ScenarioNames};
+use crate::sentence::write_flow_status;
+use crate::stalled::{is_under_way, is_waiting, sender_of, start_of};
 use crate::timer::first_timer;
 use net_machine::Net;
 use node_core::{Event, Node};
@@ -29,99 +26,31 @@ pub fn waits_text(
     ensures ok { OnOk result (out.new.items ≡ out.old.items ++ waits_bytes names.now flow net.now.state) }
     ensures err { OnErr result (out.new.items ≡ out.old.items) }
 {
-    let mut lines = Vec::new(*out.allocator());
-    append_waits(net, names, flow, &mut lines)?;
-    out.extend_from_slice(&lines)
-}
-
-/// Appends what a flow waits for. After an `Err`, as with all functions below, some lines may stand there.
-fn append_waits(
-    net: &Net,
-    names: &ScenarioNames,
-    flow: u16,
-    out: &mut Vec<u8>,
-) -> Result<(), AllocError>
-    ensures { OnOk result (out.new.items ≡ out.old.items ++ waits_bytes names.now flow net.now.state) }
-{
     let pending = pending_events(*out.allocator(), net)?;
-    append_lines(names, flow, net.nodes(), &pending, out)
+    let mut text = String::new(*out.allocator());
+    write_status_line(&mut text, names, flow, net.nodes(), &pending)?;
+    write_lists(&mut text, names, flow, net.nodes(), &pending)?;
+    out.extend_from_slice(text.as_bytes())
 }
 
-/// Appends it of the nodes, and what is pending at them in the order of keys.
-fn append_lines(
+/// Writes how the flow stands, where a node sends it. After an `Err` a part of it may stand there.
+fn write_status_line(
+    out: &mut String,
     names: &ScenarioNames,
     flow: u16,
     nodes: &[Node],
     pending: &[(Key, Event)],
-    out: &mut Vec<u8>,
 ) -> Result<(), AllocError>
-    ensures { OnOk result (out.new.items ≡ out.old.items ++ waits_in names.now flow (parts_of nodes.now) pending.now) }
-{
-    append_flow_status_line(&names.flows, flow, nodes, pending, out)?;
-    append_waiting_line(&names.links, flow, nodes, out)?;
-    append_under_way_line(&names.nodes, flow, pending, out)?;
-    append_timers_line(flow, pending, out)
-}
-
-/// Appends how the flow stands.
-fn append_flow_status_line(
-    names: &PartNames,
-    flow: u16,
-    nodes: &[Node],
-    pending: &[(Key, Event)],
-    out: &mut Vec<u8>,
-) -> Result<(), AllocError>
-    ensures { OnOk result (out.new.items ≡ out.old.items ++ flow_status_line names.now flow (parts_of nodes.now) pending.now) }
+    ensures { OnOk result (string_bytes out.new ≡ string_bytes out.old ++ flow_status_line names.now.flows flow (parts_of nodes.now) pending.now) }
 {
     let start = start_of(flow, pending);
-    let packets = has_packets(flow, nodes, pending);
+    let packets = is_waiting(flow, nodes) || is_under_way(flow, pending);
     match sender_of(flow, nodes) {
         Some(sender) => {
-            append_named(b"flow ", names, flow, out)?;
-            let flow_status = flow_status_of(start, packets, &sender);
-            append_flow_status(&sender, first_timer(flow, pending), flow_status, out)
+            write!(out, "flow {}", PartName(&names.flows, flow))?;
+            let status = flow_status_of(start, packets, &sender);
+            write_flow_status(out, &sender, first_timer(flow, pending), status)
         }
         None => Ok(()),
     }
-}
-
-/// Appends the flow's packets that wait.
-fn append_waiting_line(
-    names: &PartNames,
-    flow: u16,
-    nodes: &[Node],
-    out: &mut Vec<u8>,
-) -> Result<(), AllocError>
-    ensures { OnOk result (out.new.items ≡ out.old.items ++ waiting_line names.now flow (parts_of nodes.now)) }
-{
-    let mut texts = Vec::new(*out.allocator());
-    append_waiting(names, flow, nodes, &mut texts)?;
-    append_list(b"waits: ", &texts, out)
-}
-
-/// Appends the flow's packets under way.
-fn append_under_way_line(
-    names: &PartNames,
-    flow: u16,
-    pending: &[(Key, Event)],
-    out: &mut Vec<u8>,
-) -> Result<(), AllocError>
-    ensures { OnOk result (out.new.items ≡ out.old.items ++ under_way_line names.now flow pending.now) }
-{
-    let mut texts = Vec::new(*out.allocator());
-    append_under_way(names, flow, pending, &mut texts)?;
-    append_list(b"under way: ", &texts, out)
-}
-
-/// Appends the flow's timers.
-fn append_timers_line(
-    flow: u16,
-    pending: &[(Key, Event)],
-    out: &mut Vec<u8>,
-) -> Result<(), AllocError>
-    ensures { OnOk result (out.new.items ≡ out.old.items ++ timers_line flow pending.now) }
-{
-    let mut texts = Vec::new(*out.allocator());
-    append_timers(flow, pending, &mut texts)?;
-    append_list(b"alarms: ", &texts, out)
 }

@@ -1,7 +1,6 @@
-use Rattle.std.proofs.Common.{◌≡◌, ◌&&◌, ◌∙◌, Bool, true, false, sym, ap}
+use Rattle.std.proofs.Common.{◌≡◌, ◌&&◌, ◌∙◌, true, false, sym, ap}
 use Rattle.std.proofs.lemmas.Result.{IfOk-weaker}
 use Rattle.node_core.specs.TraceLine.{shown}
-use Rattle.port.specs.declared.acts.Act.{Act}
 use Rattle.flow_waits.specs.Stalled.{is_stalled, becomes_stalled, may_stall}
 use Rattle.flow_waits.proofs.Found.{found_by_step}
 use Rattle.flow_waits.proofs.becomes.becomes_stalled.Goals as goal
