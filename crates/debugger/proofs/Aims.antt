@@ -12,9 +12,10 @@ use Rattle.node_core.specs.TraceLine.{TraceLine}
 use Rattle.node_core.specs.declared.line.After.{After}
 use Rattle.debugger.specs.declared.breaks.Break.{Break}
 use Rattle.debugger.specs.declared.breaks.StallOf.{StallOf}
+use Rattle.debugger.specs.declared.values.Value.TheVariants.{Queue, Wait, Count, Rto, Dups}
 use Rattle.debugger.specs.declared.values.Values.{Values}
 use Rattle.debugger.specs.Breaks.{Stalls, IsHit, asks_unshown, AsksUnshown}
-use Rattle.debugger.specs.Values.{MeetsKept, asks_kept}
+use Rattle.debugger.specs.Values.{MeetsKept, asked_of, asks_kept}
 use Rattle.debugger.specs.Seen.{MeetsStates, asks_states}
 use Rattle.debugger.specs.Courses.{HasNone}
 use Rattle.debugger.specs.Aims.{IsMet, LineHit, EndsIn, GoesTo}
@@ -70,21 +71,21 @@ of_right false b none is = none is
 
 none_kept : (v : Values) (after : After) → (IsTrue (asks_kept v) → ⊥) → MeetsKept v after
 none_kept v after none = record {
-  rto = not_asked _ v.rto (of_left (is_some v.rto) (is_some v.dups) none);
-  dups = not_asked _ v.dups (of_right (is_some v.rto) (is_some v.dups) none);
+  rto = not_asked _ (asked_of v Rto) (of_left (is_some (asked_of v Rto)) (is_some (asked_of v Dups)) none);
+  dups = not_asked _ (asked_of v Dups) (of_right (is_some (asked_of v Rto)) (is_some (asked_of v Dups)) none);
 }
 
 none_states : (v : Values) (before : State) (line : TraceLine) (after : State) → (IsTrue (asks_states v) → ⊥) → MeetsStates v before line after
 none_states v before line after none =
-    let first = of_left (is_some v.queue || is_some v.wait) (is_some v.count || is_some v.change) none in
-    let second = of_right (is_some v.queue || is_some v.wait) (is_some v.count || is_some v.change) none in
+    let first = of_left (is_some (asked_of v Queue) || is_some (asked_of v Wait)) (is_some (asked_of v Count) || is_some v.change) none in
+    let second = of_right (is_some (asked_of v Queue) || is_some (asked_of v Wait)) (is_some (asked_of v Count) || is_some v.change) none in
     record {
       links = record {
-        queue = not_asked _ v.queue (of_left (is_some v.queue) (is_some v.wait) first);
-        wait = not_asked _ v.wait (of_right (is_some v.queue) (is_some v.wait) first);
-        count = not_asked _ v.count (of_left (is_some v.count) (is_some v.change) second);
+        queue = not_asked _ (asked_of v Queue) (of_left (is_some (asked_of v Queue)) (is_some (asked_of v Wait)) first);
+        wait = not_asked _ (asked_of v Wait) (of_right (is_some (asked_of v Queue)) (is_some (asked_of v Wait)) first);
+        count = not_asked _ (asked_of v Count) (of_left (is_some (asked_of v Count)) (is_some v.change) second);
       };
-      change = not_asked _ v.change (of_right (is_some v.count) (is_some v.change) second);
+      change = not_asked _ v.change (of_right (is_some (asked_of v Count)) (is_some v.change) second);
     }
 
 module _ (breaks : List Break) (none : AsksUnshown breaks → ⊥) (start : State) where

@@ -29,17 +29,20 @@ use Rattle.table_run.proofs.Runs.{of_step}
 use Rattle.net_machine.specs.Nodes.{parts_of}
 use Rattle.net_machine.specs.Run.{Reached, IsRun, Stepped}
 use Rattle.flow_waits.specs.Stalled.{sender_if, sender_for, sender_of}
-use Rattle.debugger.specs.declared.values.LinkBound.{LinkBound}
-use Rattle.debugger.specs.declared.values.FlowValue.{FlowValue}
-use Rattle.debugger.specs.declared.values.FlowValue.TheVariants.{Sender, Next}
+use Rattle.debugger.specs.declared.values.Asked.{Asked}
+use Rattle.debugger.specs.declared.values.Reading.{Reading}
+use Rattle.debugger.specs.declared.values.Reading.TheVariants.{Nothing}
+use Rattle.debugger.specs.declared.values.Value.{Value as AnyValue}
+use Rattle.debugger.specs.declared.values.Value.TheVariants.{Queue, Wait, Count}
 use Rattle.debugger.specs.declared.values.ValueOf.{ValueOf}
 use Rattle.debugger.specs.declared.values.Values.{Values}
 use Rattle.debugger.specs.declared.seen.SeenLink.{SeenLink}
 use Rattle.debugger.specs.declared.seen.SeenValue.{SeenValue}
 use Rattle.debugger.specs.declared.seen.Seen.{Seen}
-use Rattle.debugger.specs.declared.seen.Asked.{Asked}
-use Rattle.debugger.specs.declared.seen.Asked.TheVariants.{Link, Value}
-use Rattle.debugger.specs.Seen.{link_among, link_in, offered_in, next_if, next_for, next_in, sender_value, value_for, value_in, has_link, keeps_value, has_asked, first_with, node_of, seen_link, seen_value, seen_in, sees_at, HasSameNodes}
+use Rattle.debugger.specs.declared.seen.Sought.{Sought}
+use Rattle.debugger.specs.declared.seen.Sought.TheVariants.{Link, Value}
+use Rattle.debugger.specs.Values.{asked_of, is_next, number_or_nothing}
+use Rattle.debugger.specs.Seen.{link_among, link_in, offered_in, next_if, next_for, next_in, read_sender, value_for, value_in, has_link, has_asked, first_with, node_of, seen_link, seen_value, seen_in, sees_at, HasSameNodes}
 
 -- THE FLOW OF A NODE
 
@@ -252,17 +255,24 @@ module _ (number : ℕ) where
 pub link_there : (number : ℕ) (s : State) → link_in number s.parts ≡ link_among number (part_at s (node_of (Link number) s)).links
 link_there number s = link_first number s.parts ∙ first_there (own_link number) refl s.parts
 
-value_of : (value : FlowValue) (flow : ℕ) (s : State) → value_in value flow s ≡ value_for value flow (part_at s (first_with (λ part. keeps_value value flow part.role) s.parts))
-value_of (Sender value) flow s = ap (option_map (sender_value value)) (sender_first flow s.parts ∙ first_there (own_sender flow) refl s.parts)
-value_of Next flow s = next_first flow s.parts ∙ first_there (own_next flow) refl s.parts
+value_of : (next : Bool) (value : AnyValue) (flow : ℕ) (s : State) →
+    cond next (number_or_nothing (next_in flow s.parts)) (read_sender value (sender_of flow s.parts))
+    ≡ cond next
+    (number_or_nothing (own_next flow (part_at s (first_with (λ part. cond next (is_some (own_next flow part)) (is_some (own_sender flow part))) s.parts))))
+    (read_sender value (own_sender flow (part_at s (first_with (λ part. cond next (is_some (own_next flow part)) (is_some (own_sender flow part))) s.parts))))
+value_of true value flow s = ap number_or_nothing (next_first flow s.parts ∙ first_there (own_next flow) refl s.parts)
+value_of false value flow s = ap (read_sender value) (sender_first flow s.parts ∙ first_there (own_sender flow) refl s.parts)
 
-pub value_there : (asked : ValueOf) (s : State) → value_in asked.value asked.flow s ≡ value_for asked.value asked.flow (part_at s (node_of (Value asked) s))
-value_there asked s = value_of asked.value asked.flow s
+pub value_there : (asked : ValueOf) (s : State) → value_in asked.value asked.of s ≡ value_for asked.value asked.of (part_at s (node_of (Value asked) s))
+value_there asked s = value_of (is_next asked.value) asked.value asked.of s
 
 -- no value lies past the last node
-pub no_value : (value : FlowValue) (flow : ℕ) → value_for value flow no_part ≡ None
-no_value (Sender value) flow = refl
-no_value Next flow = refl
+none_past : (next : Bool) (value : AnyValue) (flow : ℕ) → cond next (number_or_nothing (own_next flow no_part)) (read_sender value (own_sender flow no_part)) ≡ Nothing
+none_past true value flow = refl
+none_past false value flow = refl
+
+pub no_value : (value : AnyValue) (flow : ℕ) → value_for value flow no_part ≡ Nothing
+no_value value flow = none_past (is_next value) value flow
 
 -- the part at a node of a net, and past its last
 module _ (s : State) (nodes : List NodeState) (parts : parts_of nodes ≡ s.parts) (node : ℕ) where
@@ -284,15 +294,17 @@ module _ (s : State) (k : Key) (v : Event) (there : k.node < length s.parts) whe
   abbrev new : State
   new = stepped s k effect
 
-  keeps_on : (value : FlowValue) (flow : ℕ) → keeps_value value flow effect.part.role ≡ keeps_value value flow (part_at s k.node).role
-  keeps_on (Sender value) flow = (end_stays flow (part_at s k.node) k v).sends
-  keeps_on Next flow = (end_stays flow (part_at s k.node) k v).receives
+  keeps_on : (next : Bool) (flow : ℕ) →
+      cond next (is_some (own_next flow effect.part)) (is_some (own_sender flow effect.part))
+      ≡ cond next (is_some (own_next flow (part_at s k.node))) (is_some (own_sender flow (part_at s k.node)))
+  keeps_on true flow = (end_stays flow (part_at s k.node) k v).receives
+  keeps_on false flow = (end_stays flow (part_at s k.node) k v).sends
 
-  has_on : (what : Asked) → has_asked what effect.part ≡ has_asked what (part_at s k.node)
+  has_on : (what : Sought) → has_asked what effect.part ≡ has_asked what (part_at s k.node)
   has_on (Link number) = links_stay number (part_at s k.node) k v
-  has_on (Value asked) = keeps_on asked.value asked.flow
+  has_on (Value asked) = keeps_on (is_next asked.value) asked.of
 
-  node_stays : (what : Asked) → node_of what s ≡ node_of what new
+  node_stays : (what : Sought) → node_of what s ≡ node_of what new
   node_stays what = sym (stays (has_asked what) s.parts k.node effect.part (has_on what))
 
   offered_stays : (number : ℕ) → node_of (Link number) s ≢ k.node → offered_in number s ≡ offered_in number new
@@ -302,16 +314,19 @@ module _ (s : State) (k : Key) (v : Event) (there : k.node < length s.parts) whe
       ∙ sym (first_elsewhere (own_link number) refl s.parts k.node effect.part (links_stay number (part_at s k.node) k v) other)
       ∙ sym (link_first number new.parts))
 
-  value_stays : (value : FlowValue) (flow : ℕ) → first_with (λ part. keeps_value value flow part.role) s.parts ≢ k.node → value_in value flow s ≡ value_in value flow new
-  value_stays (Sender value) flow other =
-      ap (option_map (sender_value value))
+  value_stays : (next : Bool) (value : AnyValue) (flow : ℕ) → first_with (λ part. cond next (is_some (own_next flow part)) (is_some (own_sender flow part))) s.parts ≢ k.node →
+      cond next (number_or_nothing (next_in flow s.parts)) (read_sender value (sender_of flow s.parts))
+      ≡ cond next (number_or_nothing (next_in flow new.parts)) (read_sender value (sender_of flow new.parts))
+  value_stays true value flow other =
+      ap number_or_nothing
+      (next_first flow s.parts
+      ∙ sym (first_elsewhere (own_next flow) refl s.parts k.node effect.part (end_stays flow (part_at s k.node) k v).receives other)
+      ∙ sym (next_first flow new.parts))
+  value_stays false value flow other =
+      ap (read_sender value)
       (sender_first flow s.parts
       ∙ sym (first_elsewhere (own_sender flow) refl s.parts k.node effect.part (end_stays flow (part_at s k.node) k v).sends other)
       ∙ sym (sender_first flow new.parts))
-  value_stays Next flow other =
-      next_first flow s.parts
-      ∙ sym (first_elsewhere (own_next flow) refl s.parts k.node effect.part (end_stays flow (part_at s k.node) k v).receives other)
-      ∙ sym (next_first flow new.parts)
 
 -- what holds of each event of a node that is there
 pub of_line : (G : State → State → ℕ → Type 0) (before after : Reached) (line : TraceLine) → IsRun before → Stepped before (Some line) after
@@ -322,7 +337,7 @@ of_line G before after line is stepped_to from =
     let there = node_within is.scenario before.position is.lines s is.is_scenario is.is k v due_is in
     subst (λ (t : State). G s t line.key.node) (sym new_is) (subst (λ n. G s (stepped s k (effect_of s (k, v))) n) (sym (ap (λ (l : TraceLine). l.key.node) line_is)) (from s k v there)))
 
-pub node_same : (before after : Reached) (line : TraceLine) (what : Asked) → IsRun before → Stepped before (Some line) after → node_of what before.state ≡ node_of what after.state
+pub node_same : (before after : Reached) (line : TraceLine) (what : Sought) → IsRun before → Stepped before (Some line) after → node_of what before.state ≡ node_of what after.state
 node_same before after line what is stepped_to =
     of_line (λ s t n. node_of what s ≡ node_of what t) before after line is stepped_to (λ s k v there. node_stays s k v there what)
 
@@ -330,9 +345,9 @@ pub offered_elsewhere : (before after : Reached) (line : TraceLine) (number : �
 offered_elsewhere before after line number is stepped_to =
     of_line (λ s t n. node_of (Link number) s ≢ n → offered_in number s ≡ offered_in number t) before after line is stepped_to (λ s k v there. offered_stays s k v there number)
 
-pub value_elsewhere : (before after : Reached) (line : TraceLine) (asked : ValueOf) → IsRun before → Stepped before (Some line) after → node_of (Value asked) before.state ≢ line.key.node → value_in asked.value asked.flow before.state ≡ value_in asked.value asked.flow after.state
+pub value_elsewhere : (before after : Reached) (line : TraceLine) (asked : ValueOf) → IsRun before → Stepped before (Some line) after → node_of (Value asked) before.state ≢ line.key.node → value_in asked.value asked.of before.state ≡ value_in asked.value asked.of after.state
 value_elsewhere before after line asked is stepped_to =
-    of_line (λ s t n. node_of (Value asked) s ≢ n → value_in asked.value asked.flow s ≡ value_in asked.value asked.flow t) before after line is stepped_to (λ s k v there. value_stays s k v there asked.value asked.flow)
+    of_line (λ s t n. node_of (Value asked) s ≢ n → value_in asked.value asked.of s ≡ value_in asked.value asked.of t) before after line is stepped_to (λ s k v there. value_stays s k v there (is_next asked.value) asked.value asked.of)
 
 -- ALL THAT A BREAKPOINT SEES
 
@@ -343,7 +358,7 @@ neither false b e = (refl, e)
 same_link : {n n' : ℕ} {o o' : Option ℕ} → n ≡ n' → o ≡ o' → ◌≡◌ {A = SeenLink} (record { node = n; offered = o }) (record { node = n'; offered = o' })
 same_link e f i = record { node = e i; offered = f i }
 
-same_value : {n n' : ℕ} {o o' : Option ℕ} → n ≡ n' → o ≡ o' → ◌≡◌ {A = SeenValue} (record { node = n; value = o }) (record { node = n'; value = o' })
+same_value : {n n' : ℕ} {o o' : Reading} → n ≡ n' → o ≡ o' → ◌≡◌ {A = SeenValue} (record { node = n; value = o }) (record { node = n'; value = o' })
 same_value e f i = record { node = e i; value = f i }
 
 same_seen : {a b c a' b' c' : SeenLink} {d d' : SeenValue} → a ≡ a' → b ≡ b' → c ≡ c' → d ≡ d' → ◌≡◌ {A = Seen} (record { queue = a; wait = b; count = c; change = d }) (record { queue = a'; wait = b'; count = c'; change = d' })
@@ -353,9 +368,9 @@ module _ (before after : Reached) (line : TraceLine) (is : IsRun before) (steppe
   as_many : length before.state.parts ≡ length after.state.parts
   as_many = of_line (λ s t n. length s.parts ≡ length t.parts) before after line is stepped_to (λ s k v there. sym (length-set s.parts k.node (effect_of s (k, v)).part))
 
-  link_node : (asked : Option LinkBound) → (seen_link before.state asked).node ≡ (seen_link after.state asked).node
+  link_node : (asked : Option Asked) → (seen_link before.state asked).node ≡ (seen_link after.state asked).node
   link_node None = as_many
-  link_node (Some bound) = node_same before after line (Link bound.link) is stepped_to
+  link_node (Some asked) = node_same before after line (Link asked.of) is stepped_to
 
   value_node : (asked : Option ValueOf) → (seen_value before.state asked).node ≡ (seen_value after.state asked).node
   value_node None = as_many
@@ -363,12 +378,12 @@ module _ (before after : Reached) (line : TraceLine) (is : IsRun before) (steppe
 
   -- it stays at the nodes at which it was
   pub same_nodes : (v : Values) → HasSameNodes (seen_in before.state v) (seen_in after.state v)
-  same_nodes v = record { queue = link_node v.queue; wait = link_node v.wait; count = link_node v.count; change = value_node v.change }
+  same_nodes v = record { queue = link_node (asked_of v Queue); wait = link_node (asked_of v Wait); count = link_node (asked_of v Count); change = value_node v.change }
 
-  other_link : (asked : Option LinkBound) → ((seen_link before.state asked).node == line.key.node) ≡ false → seen_link before.state asked ≡ seen_link after.state asked
+  other_link : (asked : Option Asked) → ((seen_link before.state asked).node == line.key.node) ≡ false → seen_link before.state asked ≡ seen_link after.state asked
   other_link None none = same_link as_many refl
-  other_link (Some bound) none =
-      same_link (link_node (Some bound)) (offered_elsewhere before after line bound.link is stepped_to (eqb-false (node_of (Link bound.link) before.state) line.key.node none))
+  other_link (Some asked) none =
+      same_link (link_node (Some asked)) (offered_elsewhere before after line asked.of is stepped_to (eqb-false (node_of (Link asked.of) before.state) line.key.node none))
 
   other_value : (asked : Option ValueOf) → ((seen_value before.state asked).node == line.key.node) ≡ false → seen_value before.state asked ≡ seen_value after.state asked
   other_value None none = same_value as_many refl
@@ -383,4 +398,4 @@ module _ (before after : Reached) (line : TraceLine) (is : IsRun before) (steppe
       let halves = neither (seen.queue.node == n || seen.wait.node == n) (seen.count.node == n || seen.change.node == n) none in
       let first = neither (seen.queue.node == n) (seen.wait.node == n) halves.0 in
       let last = neither (seen.count.node == n) (seen.change.node == n) halves.1 in
-      same_seen (other_link v.queue first.0) (other_link v.wait first.1) (other_link v.count last.0) (other_value v.change last.1)
+      same_seen (other_link (asked_of v Queue) first.0) (other_link (asked_of v Wait) first.1) (other_link (asked_of v Count) last.0) (other_value v.change last.1)

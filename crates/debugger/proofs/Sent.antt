@@ -23,7 +23,7 @@ use Rattle.node_core.specs.declared.role.Role.TheVariants.{Sends, Receives, Rout
 use Rattle.node_core.specs.Part.{PartState, link_at}
 use Rattle.node_core.specs.Pending.{EventChange}
 use Rattle.node_core.specs.RouteTable.{exit_for}
-use Rattle.node_core.specs.Row.{Effect, Leaving, leaving_over, with_step, quiet, rto_timer_moved, data_packet, ack_of, sender_row, receiver_row, row, start_row, rto_row, delack_row, arrival_row, at_sender, at_receiver, passed_on}
+use Rattle.node_core.specs.Row.{Effect, Leaving, leaving_over, with_step, quiet, timer_moved, data_packet, ack_of, sender_row, receiver_row, row, start_row, rto_row, delack_row, arrival_row, at_sender, at_receiver, passed_on}
 use Rattle.node_core.specs.TraceLine.{TraceLine}
 use Rattle.table_run.specs.State.{State, part_at, effect_of}
 use Rattle.table_run.proofs.Runs.{of_step}
@@ -76,11 +76,11 @@ module _ (flow : ℕ) (part : PartState) (key : Key) where
 
   sender : (n : ℕ) (old : SenderFields) (planned : Planned) → LeavesWhereSent flow (sender_row part key n old planned)
   sender n old planned =
-      offers (Sends n planned.fields) (rto_timer_moved (timer_key key.node Retransmission) (Rto n) old.deadline planned.fields.deadline) (each (data_packet n planned.fields.mss) planned.sent)
+      offers (Sends n planned.fields) (timer_moved (timer_key key.node Retransmission) (Rto n) old.deadline planned.fields.deadline) (each (data_packet n planned.fields.mss) planned.sent)
 
   receiver : (n : ℕ) (old : ReceiverState) (answered : Answered) → LeavesWhereSent flow (receiver_row part key n old answered)
   receiver n old answered =
-      offers (Receives n answered.state) (rto_timer_moved (timer_key key.node DelayedAcknowledgement) (DelAck n) old.timer answered.state.timer) (ack_of n answered.reply)
+      offers (Receives n answered.state) (timer_moved (timer_key key.node DelayedAcknowledgement) (DelAck n) old.timer answered.state.timer) (ack_of n answered.reply)
 
   starts : (ρ : Role) → LeavesWhereSent flow (start_row part ρ key)
   starts (Sends n f) = sender n f (started f key.time)

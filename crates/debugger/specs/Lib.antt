@@ -1,6 +1,5 @@
 pub mod Values
 pub mod Seen
-pub mod Reads
 pub mod Breaks
 pub mod Faults
 pub mod Moves

@@ -1,5 +1,5 @@
--- What a condition on a value says of a line of the trace: of the sender or the receiver that it shows, and of its moment.
-use Rattle.std.specs.Prelude.{◌≡◌, ◌<◌, ◌≤◌, ℕ, Bool, ◌||◌, nat_lt, if◌then◌else◌, Option, None, Some, IfSome, is_some, option_map}
+-- Values of flows and of links, and what is asked of them after an event.
+use Rattle.std.specs.Prelude.{◌≡◌, ◌<◌, ◌≤◌, ℕ, Bool, true, false, ◌||◌, nat_lt, if◌then◌else◌, replicate, slice_index_or, slice_set, Option, None, Some, IfSome, is_some}
 use Rattle.reno_sender.specs.declared.fields.SenderFields.{SenderFields}
 use Rattle.reno_sender.specs.Fields.{flight_size}
 use Rattle.node_core.specs.declared.line.After.{After}
@@ -7,16 +7,60 @@ use Rattle.node_core.specs.declared.line.After.TheVariants.{AtSender, AtReceiver
 use Rattle.node_core.specs.Row.{after_of}
 use Rattle.node_core.specs.TraceLine.{TraceLine}
 use Rattle.table_run.specs.State.{State, part_at}
-use Rattle.debugger.specs.declared.values.Sign.{Sign}
-use Rattle.debugger.specs.declared.values.Sign.TheVariants.{Less, AtMost, Greater, AtLeast, Equal}
-use Rattle.debugger.specs.declared.values.Bound.{Bound}
+use Rattle.debugger.specs.declared.values.Value.{Value}
+use Rattle.debugger.specs.declared.values.Value.TheVariants.{Cwnd, Flight, Ssthresh, Una, Nxt, Rto, Dups, Phase as PhaseValue, Next, Queue, Wait, Count, Time}
+use Rattle.debugger.specs.declared.values.Owner.{Owner}
+use Rattle.debugger.specs.declared.values.Owner.TheVariants as owner
 use Rattle.debugger.specs.declared.values.Phase.{Phase}
 use Rattle.debugger.specs.declared.values.Phase.TheVariants.{SlowStart, CongestionAvoidance, FastRecovery}
+use Rattle.debugger.specs.declared.values.Reading.{Reading}
+use Rattle.debugger.specs.declared.values.Reading.TheVariants.{Number, Phase as InPhase, Nothing}
+use Rattle.debugger.specs.declared.values.Sign.TheVariants.{Less, AtMost, Greater, AtLeast, Equal}
+use Rattle.debugger.specs.declared.values.Sign.{Sign}
+use Rattle.debugger.specs.declared.values.Bound.{Bound}
+use Rattle.debugger.specs.declared.values.Test.{Test}
+use Rattle.debugger.specs.declared.values.Test.TheVariants.{Within, Is}
+use Rattle.debugger.specs.declared.values.Asked.{Asked}
 use Rattle.debugger.specs.declared.values.Values.{Values}
 use Rattle.debugger.specs.declared.values.ValueCondition.{ValueCondition}
-use Rattle.debugger.specs.declared.values.ValueCondition.TheVariants.{Cwnd, Flight, Ssthresh, Una, Nxt, Phase as InPhase, Rto, Dups, Next, Queue, Wait, Count, Change, Time}
+use Rattle.debugger.specs.declared.values.ValueCondition.TheVariants.{Is as IsSo, Change}
 
--- a value is on that side of a number
+-- a value's place among all values
+abbrev pub index_of : Value → ℕ
+index_of Cwnd = 0
+index_of Flight = 1
+index_of Ssthresh = 2
+index_of Una = 3
+index_of Nxt = 4
+index_of Rto = 5
+index_of Dups = 6
+index_of PhaseValue = 7
+index_of Next = 8
+index_of Queue = 9
+index_of Wait = 10
+index_of Count = 11
+index_of Time = 12
+
+-- what it is of
+abbrev pub owner_of : Value → Owner
+owner_of Queue = owner.Link
+owner_of Wait = owner.Link
+owner_of Count = owner.Link
+owner_of Time = owner.Nothing
+owner_of value = owner.Flow
+
+-- a sender keeps it, and the text of its lines leaves it out
+abbrev pub is_kept : Value → Bool
+is_kept Rto = true
+is_kept Dups = true
+is_kept value = false
+
+-- a receiver has it
+abbrev pub is_next : Value → Bool
+is_next Next = true
+is_next value = false
+
+-- a number is on that side of another
 abbrev pub Compares : Sign → ℕ → ℕ → Type 0
 Compares Less value number = value < number
 Compares AtMost value number = value ≤ number
@@ -24,10 +68,49 @@ Compares Greater value number = number < value
 Compares AtLeast value number = number ≤ value
 Compares Equal value number = value ≡ number
 
--- a bound holds of a value; where there is none, it does not
-abbrev pub HoldsOf : Option ℕ → Bound → Type 0
-HoldsOf None bound = ⊥
-HoldsOf (Some value) bound = Compares bound.sign value bound.number
+abbrev pub CompareIs : Bound → ℕ → Type 0
+CompareIs bound value = Compares bound.sign value bound.number
+
+-- what is asked holds of what is read
+abbrev pub HoldsOf : Reading → Test → Type 0
+HoldsOf (Number value) (Within bound) = CompareIs bound value
+HoldsOf (InPhase phase) (Is other) = phase ≡ other
+HoldsOf reading test = ⊥
+
+-- a number, where there is one
+abbrev pub number_or_nothing : Option ℕ → Reading
+number_or_nothing None = Nothing
+number_or_nothing (Some number) = Number number
+
+-- fast recovery; else slow start where cwnd is below ssthresh; else congestion avoidance
+abbrev pub phase_of : SenderFields → Phase
+phase_of f = if f.recovery then FastRecovery else (if nat_lt f.cwnd f.ssthresh then SlowStart else CongestionAvoidance)
+
+-- a value of a sender
+abbrev pub sender_value : Value → SenderFields → Reading
+sender_value Cwnd f = Number f.cwnd
+sender_value Flight f = Number (flight_size f)
+sender_value Ssthresh f = Number f.ssthresh
+sender_value Una f = Number f.una
+sender_value Nxt f = Number f.nxt
+sender_value Rto f = Number f.rto
+sender_value Dups f = Number f.dups
+sender_value PhaseValue f = InPhase (phase_of f)
+sender_value Next f = Nothing
+sender_value Queue f = Nothing
+sender_value Wait f = Nothing
+sender_value Count f = Nothing
+sender_value Time f = Nothing
+
+-- and of the receiver that waits for a byte
+abbrev pub receiver_value : Value → ℕ → Reading
+receiver_value value next = if is_next value then Number next else Nothing
+
+-- a value of what a line shows of its node
+abbrev pub value_after : Value → After → Reading
+value_after value (AtSender fields) = sender_value value fields
+value_after value (AtReceiver next) = receiver_value value next
+value_after value AtRouter = Nothing
 
 -- the sender that a line shows
 abbrev pub sender_after : After → Option SenderFields
@@ -35,83 +118,44 @@ sender_after (AtSender fields) = Some fields
 sender_after (AtReceiver next) = None
 sender_after AtRouter = None
 
-abbrev pub cwnd_after : After → Option ℕ
-cwnd_after after = option_map (λ (f : SenderFields). f.cwnd) (sender_after after)
-
--- the bytes that it has sent and that are not acknowledged
-abbrev pub flight_after : After → Option ℕ
-flight_after after = option_map flight_size (sender_after after)
-
-abbrev pub ssthresh_after : After → Option ℕ
-ssthresh_after after = option_map (λ (f : SenderFields). f.ssthresh) (sender_after after)
-
-abbrev pub una_after : After → Option ℕ
-una_after after = option_map (λ (f : SenderFields). f.una) (sender_after after)
-
-abbrev pub nxt_after : After → Option ℕ
-nxt_after after = option_map (λ (f : SenderFields). f.nxt) (sender_after after)
-
--- fast recovery; else slow start where cwnd is below ssthresh; else congestion avoidance
-abbrev pub phase_of : SenderFields → Phase
-phase_of f = if f.recovery then FastRecovery else (if nat_lt f.cwnd f.ssthresh then SlowStart else CongestionAvoidance)
-
-abbrev pub phase_after : After → Option Phase
-phase_after after = option_map phase_of (sender_after after)
-
-abbrev pub rto_after : After → Option ℕ
-rto_after after = option_map (λ (f : SenderFields). f.rto) (sender_after after)
-
-abbrev pub dups_after : After → Option ℕ
-dups_after after = option_map (λ (f : SenderFields). f.dups) (sender_after after)
-
--- the next byte that the receiver waits for that a line shows
-abbrev pub next_after : After → Option ℕ
-next_after (AtSender fields) = None
-next_after (AtReceiver next) = Some next
-next_after AtRouter = None
-
 -- nothing is asked of any value
 abbrev pub no_values : Values
-no_values = record { cwnd = None; flight = None; ssthresh = None; una = None; nxt = None; phase = None; rto = None; dups = None; next = None; queue = None; wait = None; count = None; change = None; time = None }
+no_values = record { asked = replicate 13 None; change = None }
 
 -- one condition more, in the place of another on the same value
 abbrev pub asking_value : Values → ValueCondition → Values
-asking_value v (Cwnd bound) = record v { cwnd = Some bound }
-asking_value v (Flight bound) = record v { flight = Some bound }
-asking_value v (Ssthresh bound) = record v { ssthresh = Some bound }
-asking_value v (Una bound) = record v { una = Some bound }
-asking_value v (Nxt bound) = record v { nxt = Some bound }
-asking_value v (InPhase phase) = record v { phase = Some phase }
-asking_value v (Rto bound) = record v { rto = Some bound }
-asking_value v (Dups bound) = record v { dups = Some bound }
-asking_value v (Next bound) = record v { next = Some bound }
-asking_value v (Queue asked) = record v { queue = Some asked }
-asking_value v (Wait asked) = record v { wait = Some asked }
-asking_value v (Count asked) = record v { count = Some asked }
+asking_value v (IsSo value asked) = record v { asked = slice_set v.asked (index_of value) (Some asked) }
 asking_value v (Change asked) = record v { change = Some asked }
-asking_value v (Time bound) = record v { time = Some bound }
+
+-- what is asked of a value
+abbrev pub asked_of : Values → Value → Option Asked
+asked_of v value = slice_index_or v.asked (index_of value) None
+
+-- a value of what a line shows is as asked
+abbrev pub IsMet : Values → After → Value → Type 0
+IsMet v after value = IfSome (asked_of v value) (λ asked. HoldsOf (value_after value after) asked.test)
 
 -- where its windows or its phase are asked for, the line shows a sender, of which that holds
 pub record MeetsWindows (v : Values) (after : After) : Type 0 where
-  pub cwnd : IfSome v.cwnd (HoldsOf (cwnd_after after))
-  pub flight : IfSome v.flight (HoldsOf (flight_after after))
-  pub ssthresh : IfSome v.ssthresh (HoldsOf (ssthresh_after after))
-  pub phase : IfSome v.phase (λ phase. phase_after after ≡ Some phase)
+  pub cwnd : IsMet v after Cwnd
+  pub flight : IsMet v after Flight
+  pub ssthresh : IsMet v after Ssthresh
+  pub phase : IsMet v after PhaseValue
 
 -- the same of a sender's bytes, and of a receiver's
 pub record MeetsBytes (v : Values) (after : After) : Type 0 where
-  pub una : IfSome v.una (HoldsOf (una_after after))
-  pub nxt : IfSome v.nxt (HoldsOf (nxt_after after))
-  pub next : IfSome v.next (HoldsOf (next_after after))
+  pub una : IsMet v after Una
+  pub nxt : IsMet v after Nxt
+  pub next : IsMet v after Next
 
 -- the same of what a sender keeps and the text of its lines leaves out
 pub record MeetsKept (v : Values) (after : After) : Type 0 where
-  pub rto : IfSome v.rto (HoldsOf (rto_after after))
-  pub dups : IfSome v.dups (HoldsOf (dups_after after))
+  pub rto : IsMet v after Rto
+  pub dups : IsMet v after Dups
 
 -- something of that is asked for
 abbrev pub asks_kept : Values → Bool
-asks_kept v = is_some v.rto || is_some v.dups
+asks_kept v = is_some (asked_of v Rto) || is_some (asked_of v Dups)
 
 -- what a line shows of a node of a state
 abbrev pub after_at : State → ℕ → After
@@ -121,4 +165,4 @@ after_at s node = after_of (part_at s node).role
 pub record MeetsValues (v : Values) (line : TraceLine) : Type 0 where
   pub windows : MeetsWindows v line.after
   pub bytes : MeetsBytes v line.after
-  pub time : IfSome v.time (HoldsOf (Some line.key.time))
+  pub time : IfSome (asked_of v Time) (λ asked. HoldsOf (Number line.key.time) asked.test)

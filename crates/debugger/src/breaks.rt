@@ -8,7 +8,7 @@ ghost use Rattle.debugger.specs.Breaks.{flow_of, kind_of, byte_of, is_drop, is_d
 ghost use Rattle.debugger.specs.Seen.{seen_in, AreSeen};
 
 use crate::seen::Seen;
-use crate::values::{ValueCondition, Values, are_same_values};
+use crate::values::{Reading, ValueCondition, Values, are_same_values};
 use flow_waits::{becomes_stalled, some_becomes_stalled};
 use net_machine::Net;
 use node_core::{Event, Line};
@@ -98,7 +98,7 @@ pub struct Hit {
     /// The breakpoint.
     pub breakpoint: Break,
     /// What the value was before the event whose change it asks for.
-    pub was: Option<u64>,
+    pub was: Reading,
 }
 
 /// Why a breakpoint was not set.

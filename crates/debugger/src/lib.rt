@@ -11,7 +11,6 @@ mod fault;
 pub mod moves;
 mod passed;
 pub mod reached;
-pub mod reads;
 pub mod seen;
 pub mod stalls;
 mod to_stop;
@@ -25,10 +24,8 @@ pub use drops::{DropsOf, PastDrop};
 pub use fault::MoveFault;
 pub use moves::Debugger;
 pub use passed::{LastEvent, LineOrder, Stretch};
-pub use reads::{Readable, Reading};
 pub use seen::{Seen, SeenLink, SeenValue};
 pub use stalls::StallAt;
 pub use values::{
-    Bound, FlowValue, LinkBound, LinkValue, Phase, SenderValue, Sign, ValueCondition, ValueOf,
-    Values,
+    Asked, Bound, Owner, Phase, Reading, Sign, Test, VALUES, Value, ValueCondition, ValueOf, Values,
 };

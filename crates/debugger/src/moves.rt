@@ -8,8 +8,8 @@ ghost use Rattle.debugger.specs.Breaks.{IsTakenOut};
 ghost use Rattle.debugger.specs.Debugging.{debugging_opened, HasMoved};
 ghost use Rattle.debugger.specs.LastEvents.{IsLastEvent};
 ghost use Rattle.debugger.specs.Passed.{stretch_texts};
+ghost use Rattle.debugger.specs.Seen.{read_in, read_left_in};
 ghost use Rattle.debugger.specs.Drops.{missing_in, past_drops};
-ghost use Rattle.debugger.specs.Reads.{read_in, read_left_in};
 ghost use Rattle.debugger.specs.Stalls.{IsAllStalls};
 ghost use Rattle.trace_text.specs.Dump.{dump_bytes};
 ghost use Rattle.trace_text.specs.DumpParts.{part_bytes};
@@ -23,9 +23,10 @@ use crate::drops::{DropsOf, PastDrop, append_drops, missing_in};
 use crate::fault::MoveFault;
 use crate::passed::{LastEvent, Stretch, append_stretch, event_at, nearer};
 use crate::reached::{net_after, net_at};
-use crate::reads::{Readable, Reading, read_in, read_left_in};
+use crate::seen::{read_in, read_left_in};
 use crate::stalls::{StallAt, append_stalls};
 use crate::to_stop::net_at_stop;
+use crate::values::{Reading, ValueOf};
 use crate::walk::is_ended;
 use crate::window_settings::WindowSettings;
 use flow_waits::{ScenarioNames, waits_text};
@@ -356,14 +357,14 @@ impl Debugger {
     }
 
     /// What is read of the state that is shown, at a moment in nanoseconds.
-    pub fn read(&self, now: Time, what: Readable) -> Reading
+    pub fn read(&self, now: Time, what: ValueOf) -> Reading
         ensures { result ≡ read_in now what self.now.shown.state }
     {
         read_in(now, what, &self.net)
     }
 
     /// The same of the state that the last move left; nothing where it can't be gone back to.
-    pub fn read_left(&self, now: Time, what: Readable) -> Reading
+    pub fn read_left(&self, now: Time, what: ValueOf) -> Reading
         ensures { result ≡ read_left_in now what self.now.left }
     {
         read_left_in(now, what, &self.left)

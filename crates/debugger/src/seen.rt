@@ -1,15 +1,17 @@
 //! What breakpoints see of a state, so that the event after it can be compared with it.
-ghost use Rattle.std.specs.Prelude.{◌≡◌, ◌≢◌, ◌↔◌, ◌==◌, IsTrue, IfSome, IfOk, Some, length, option_map, option_copied};
+ghost use Rattle.std.specs.Prelude.{◌≡◌, ◌≢◌, ◌↔◌, ◌==◌, IsTrue, IfSome, IfOk, Some, length, option_copied};
 ghost use Rattle.node_core.specs.TraceLine.{shown};
 ghost use Rattle.node_core.specs.Part.{sender_in, receiver_in};
 ghost use Rattle.net_machine.specs.Nodes.{parts_of};
 ghost use Rattle.net_machine.specs.Run.{Reached, IsRun, Stepped};
 ghost use Rattle.flow_waits.specs.Stalled.{sender_for, sender_of};
-ghost use Rattle.debugger.specs.Values.{MeetsKept};
-ghost use Rattle.debugger.specs.Seen.{link_among, link_in, offered_in, head_wait, count_of, link_value, link_value_in, ChangesLink, HoldsOfLink, next_for, next_in, sender_value, value_for, value_in, Becomes, MeetsLinks, MeetsStates, asks_states, has_link, keeps_value, has_asked, first_with, node_of, seen_of_link, seen_link, seen_of_value, seen_value, seen_in, sees_at, HasSameNodes, AreSeen};
+ghost use Rattle.debugger.specs.Values.{is_next, MeetsKept};
+ghost use Rattle.debugger.specs.Seen.{link_among, link_in, offered_in, head_wait, count_of, link_value, link_value_in, ChangesLink, HoldsOfLink, next_for, next_in, read_sender, value_for, value_in, read_in, read_left_in, Becomes, MeetsLinks, MeetsStates, asks_states, has_link, keeps_value, has_asked, first_with, node_of, seen_of_link, seen_link, seen_of_value, seen_value, seen_in, sees_at, HasSameNodes, AreSeen};
 
 use crate::breaks::{Break, Breaks};
-use crate::values::{FlowValue, LinkBound, LinkValue, SenderValue, ValueOf, Values};
+use crate::values::{
+    Asked, Owner, Reading, Value, ValueOf, Values, number_or_nothing, sender_value,
+};
 use aqm::{Queue, Readout};
 use net_machine::Net;
 use node_core::link::Link;
@@ -36,7 +38,7 @@ pub struct SeenValue {
     /// does, or no value is asked for.
     pub node: usize,
     /// The value.
-    pub value: Option<u64>,
+    pub value: Reading,
 }
 
 /// What a breakpoint sees of a state, for the conditions that compare the state after an event with it.
@@ -54,7 +56,7 @@ pub struct Seen {
 
 /// What a node can have that a breakpoint asks for.
 #[derive(Clone, Copy)]
-enum Asked {
+enum Sought {
     /// The link of this number, which leaves it.
     Link(u16),
     /// A value of its sender, or of its receiver.
@@ -120,18 +122,19 @@ fn count_of(queue: &Queue) -> Option<u64>
 }
 
 /// A value of a link at a moment.
-fn link_value(value: LinkValue, now: Time, link: &Link) -> Option<u64>
+fn link_value(value: Value, now: Time, link: &Link) -> Option<u64>
     ensures { result ≡ link_value value now link.now }
 {
     match value {
-        LinkValue::Queue => Some(link.port().queue().len() as u64),
-        LinkValue::Wait => head_wait(now, link),
-        LinkValue::Count => count_of(link.port().queue()),
+        Value::Queue => Some(link.port().queue().len() as u64),
+        Value::Wait => head_wait(now, link),
+        Value::Count => count_of(link.port().queue()),
+        _ => None,
     }
 }
 
 /// The same of the link of a number in a net.
-pub(crate) fn link_value_in(value: LinkValue, now: Time, number: u16, net: &Net) -> Option<u64>
+fn link_value_in(value: Value, now: Time, number: u16, net: &Net) -> Option<u64>
     ensures { result ≡ link_value_in value now number net.now.state }
 {
     match link_in(number, net.nodes()) {
@@ -159,7 +162,7 @@ fn is_other_count(was: Option<u128>, is: Option<u128>) -> bool
 
 /// The link of a number at the node of a net that it leaves.
 fn link_at(number: u16, node: usize, net: &Net) -> Option<&Link>
-    ensures { node ≡ node_of (Asked.Link number) net.now.state → option_copied result ≡ link_in number net.now.state.parts }
+    ensures { node ≡ node_of (Sought.Link number) net.now.state → option_copied result ≡ link_in number net.now.state.parts }
 {
     let nodes = net.nodes();
     if node < nodes.len() {
@@ -171,7 +174,7 @@ fn link_at(number: u16, node: usize, net: &Net) -> Option<&Link>
 
 /// How many packets were offered to it.
 fn offered_at(number: u16, node: usize, net: &Net) -> Option<u128>
-    ensures { node ≡ node_of (Asked.Link number) net.now.state → result ≡ offered_in number net.now.state }
+    ensures { node ≡ node_of (Sought.Link number) net.now.state → result ≡ offered_in number net.now.state }
 {
     match link_at(number, node, net) {
         Some(link) => Some(link.port().offered()),
@@ -180,8 +183,8 @@ fn offered_at(number: u16, node: usize, net: &Net) -> Option<u128>
 }
 
 /// A value of it at a moment.
-fn link_value_at(value: LinkValue, now: Time, number: u16, node: usize, net: &Net) -> Option<u64>
-    ensures { node ≡ node_of (Asked.Link number) net.now.state → result ≡ link_value_in value now number net.now.state }
+fn link_value_at(value: Value, now: Time, number: u16, node: usize, net: &Net) -> Option<u64>
+    ensures { node ≡ node_of (Sought.Link number) net.now.state → result ≡ link_value_in value now number net.now.state }
 {
     match link_at(number, node, net) {
         Some(link) => link_value(value, now, link),
@@ -220,26 +223,22 @@ fn changes_link(number: u16, was: &SeenLink, net: &Net, line: &Line) -> bool
 }
 
 /// Whether a line changes the link of a bound, and the bound holds of a value of the link.
-fn is_link_within(
-    value: LinkValue,
-    asked: LinkBound,
-    was: &SeenLink,
-    net: &Net,
-    line: &Line,
-) -> bool
-    ensures { (before : Reached) → IsRun before → Stepped before (Some (shown line.now)) net.now → was.now ≡ seen_of_link asked.link before.state → IsTrue result ↔ HoldsOfLink value before.state (shown line.now) net.now.state asked }
+fn is_link_within(value: Value, asked: Asked, was: &SeenLink, net: &Net, line: &Line) -> bool
+    ensures { (before : Reached) → IsRun before → Stepped before (Some (shown line.now)) net.now → was.now ≡ seen_of_link asked.of before.state → IsTrue result ↔ HoldsOfLink value before.state (shown line.now) net.now.state asked }
 {
-    if changes_link(asked.link, was, net, line) {
-        asked.bound.holds_of(link_value_at(value, line.key.time, asked.link, was.node, net))
+    if changes_link(asked.of, was, net, line) {
+        let is = link_value_at(value, line.key.time, asked.of, was.node, net);
+        asked.test.holds_of(number_or_nothing(is))
     } else {
         false
     }
 }
 
 /// Whether a value of a link that a line changes is as asked.
+#[inline(always)]
 fn has_link_value(
-    value: LinkValue,
-    asked: Option<LinkBound>,
+    value: Value,
+    asked: Option<Asked>,
     was: &SeenLink,
     net: &Net,
     line: &Line,
@@ -280,21 +279,6 @@ pub(crate) fn next_in(flow: u16, nodes: &[Node]) -> Option<u64>
     None
 }
 
-/// A value of a sender.
-fn sender_value(value: SenderValue, fields: &SenderFields) -> u64
-    ensures { result ≡ sender_value value fields.now }
-{
-    match value {
-        SenderValue::Cwnd => fields.cwnd,
-        SenderValue::Flight => fields.nxt.saturating_sub(fields.una),
-        SenderValue::Ssthresh => fields.ssthresh,
-        SenderValue::Una => fields.una,
-        SenderValue::Nxt => fields.nxt,
-        SenderValue::Rto => fields.rto,
-        SenderValue::Dups => fields.dups,
-    }
-}
-
 /// What the sender at a node keeps, where it lies, if it is the one that is asked for.
 fn fields_for(flow: u16, node: &Node) -> Option<&SenderFields>
     ensures { option_copied result ≡ sender_for flow (sender_in node.now.part.role) }
@@ -323,53 +307,80 @@ pub(crate) fn fields_in(flow: u16, nodes: &[Node]) -> Option<&SenderFields>
     None
 }
 
-/// A value of the sender of a flow.
-fn sender_value_in(value: SenderValue, flow: u16, nodes: &[Node]) -> Option<u64>
-    ensures { result ≡ option_map (sender_value value) (sender_of flow (parts_of nodes.now)) }
+/// A value of a sender, where there is one.
+fn read_sender(value: Value, fields: Option<&SenderFields>) -> Reading
+    ensures { result ≡ read_sender value (option_copied fields.entry) }
 {
-    match fields_in(flow, nodes) {
-        Some(fields) => Some(sender_value(value, fields)),
-        None => None,
+    match fields {
+        Some(fields) => sender_value(value, fields),
+        None => Reading::Nothing,
     }
 }
 
+/// Whether a value is one of a receiver.
+fn is_next(value: Value) -> bool
+    ensures { result ≡ is_next value }
+{
+    matches!(value, Value::Next)
+}
+
 /// A value of a flow of a net.
-pub(crate) fn value_in(value: FlowValue, flow: u16, net: &Net) -> Option<u64>
+fn value_in(value: Value, flow: u16, net: &Net) -> Reading
     ensures { result ≡ value_in value flow net.now.state }
 {
-    match value {
-        FlowValue::Sender(value) => sender_value_in(value, flow, net.nodes()),
-        FlowValue::Next => next_in(flow, net.nodes()),
+    if is_next(value) {
+        number_or_nothing(next_in(flow, net.nodes()))
+    } else {
+        read_sender(value, fields_in(flow, net.nodes()))
+    }
+}
+
+/// A value of a flow, of a link, or the moment, of a net.
+pub(crate) fn read_in(now: Time, what: ValueOf, net: &Net) -> Reading
+    ensures { result ≡ read_in now what net.now.state }
+{
+    match what.value.owner() {
+        Owner::Flow => value_in(what.value, what.of, net),
+        Owner::Link => number_or_nothing(link_value_in(what.value, now, what.of, net)),
+        Owner::Nothing => Reading::Number(now),
+    }
+}
+
+/// The same of the net that a move has left, where there is one.
+pub(crate) fn read_left_in(now: Time, what: ValueOf, left: &Option<Net>) -> Reading
+    ensures { result ≡ read_left_in now what left.now }
+{
+    match left {
+        Some(net) => read_in(now, what, net),
+        None => Reading::Nothing,
     }
 }
 
 /// A value of a flow, where the sender or the receiver of a node keeps it.
-fn value_for(asked: ValueOf, node: &Node) -> Option<u64>
-    ensures { result ≡ value_for asked.value asked.flow node.now.part }
+fn value_for(asked: ValueOf, node: &Node) -> Reading
+    ensures { result ≡ value_for asked.value asked.of node.now.part }
 {
-    match asked.value {
-        FlowValue::Sender(value) => match fields_for(asked.flow, node) {
-            Some(fields) => Some(sender_value(value, fields)),
-            None => None,
-        },
-        FlowValue::Next => next_for(asked.flow, node),
+    if is_next(asked.value) {
+        number_or_nothing(next_for(asked.of, node))
+    } else {
+        read_sender(asked.value, fields_for(asked.of, node))
     }
 }
 
 /// A value of a flow at the node of a net that keeps it.
-fn value_at(asked: ValueOf, node: usize, net: &Net) -> Option<u64>
-    ensures { node ≡ node_of (Asked.Value asked) net.now.state → result ≡ value_in asked.value asked.flow net.now.state }
+fn value_at(asked: ValueOf, node: usize, net: &Net) -> Reading
+    ensures { node ≡ node_of (Sought.Value asked) net.now.state → result ≡ value_in asked.value asked.of net.now.state }
 {
     let nodes = net.nodes();
     if node < nodes.len() {
         value_for(asked, &nodes[node])
     } else {
-        None
+        Reading::Nothing
     }
 }
 
 /// Whether two values differ.
-fn is_other(was: Option<u64>, is: Option<u64>) -> bool
+fn is_other(was: Reading, is: Reading) -> bool
     ensures { IsTrue result ↔ (was ≢ is) }
 {
     was != is
@@ -398,27 +409,28 @@ fn has_changed(asked: Option<ValueOf>, was: &SeenValue, net: &Net, line: &Line) 
 }
 
 /// Whether a value of a flow is one that the sender or the receiver of a node keeps.
-fn keeps_value(value: FlowValue, flow: u16, node: &Node) -> bool
-    ensures { result ≡ keeps_value value flow node.now.part.role }
+fn keeps_value(asked: ValueOf, node: &Node) -> bool
+    ensures { result ≡ keeps_value asked.value asked.of node.now.part.role }
 {
-    match value {
-        FlowValue::Sender(_) => fields_for(flow, node).is_some(),
-        FlowValue::Next => next_for(flow, node).is_some(),
+    if is_next(asked.value) {
+        next_for(asked.of, node).is_some()
+    } else {
+        fields_for(asked.of, node).is_some()
     }
 }
 
 /// Whether a node has what is looked for.
-fn has_asked(what: Asked, node: &Node) -> bool
+fn has_asked(what: Sought, node: &Node) -> bool
     ensures { result ≡ has_asked what node.now.part }
 {
     match what {
-        Asked::Link(number) => has_link(number, node),
-        Asked::Value(asked) => keeps_value(asked.value, asked.flow, node),
+        Sought::Link(number) => has_link(number, node),
+        Sought::Value(asked) => keeps_value(asked, node),
     }
 }
 
 /// The number of the first node that has it; as many as there are nodes where none has.
-fn node_of(what: Asked, nodes: &[Node]) -> usize
+fn node_of(what: Sought, nodes: &[Node]) -> usize
     ensures { result ≡ first_with (has_asked what) (parts_of nodes.now) }
 {
     for index in 0..nodes.len() {
@@ -430,13 +442,13 @@ fn node_of(what: Asked, nodes: &[Node]) -> usize
 }
 
 /// What is seen of the link that is asked for.
-fn seen_link(asked: Option<LinkBound>, net: &Net) -> SeenLink
+fn seen_link(asked: Option<Asked>, net: &Net) -> SeenLink
     ensures { result ≡ seen_link net.now.state asked }
 {
     match asked {
         Some(asked) => SeenLink {
-            node: node_of(Asked::Link(asked.link), net.nodes()),
-            offered: offered_in(asked.link, net),
+            node: node_of(Sought::Link(asked.of), net.nodes()),
+            offered: offered_in(asked.of, net),
         },
         None => SeenLink {
             node: net.nodes().len(),
@@ -446,13 +458,13 @@ fn seen_link(asked: Option<LinkBound>, net: &Net) -> SeenLink
 }
 
 /// The same, of a link that is still at the node at which it was seen.
-fn link_seen_again(asked: Option<LinkBound>, was: &SeenLink, net: &Net) -> SeenLink
+fn link_seen_again(asked: Option<Asked>, was: &SeenLink, net: &Net) -> SeenLink
     ensures { was.now.node ≡ (seen_link net.now.state asked).node → result ≡ seen_link net.now.state asked }
 {
     match asked {
         Some(asked) => SeenLink {
             node: was.node,
-            offered: offered_at(asked.link, was.node, net),
+            offered: offered_at(asked.of, was.node, net),
         },
         None => SeenLink {
             node: was.node,
@@ -467,12 +479,12 @@ fn seen_value(asked: Option<ValueOf>, net: &Net) -> SeenValue
 {
     match asked {
         Some(asked) => SeenValue {
-            node: node_of(Asked::Value(asked), net.nodes()),
-            value: value_in(asked.value, asked.flow, net),
+            node: node_of(Sought::Value(asked), net.nodes()),
+            value: value_in(asked.value, asked.of, net),
         },
         None => SeenValue {
             node: net.nodes().len(),
-            value: None,
+            value: Reading::Nothing,
         },
     }
 }
@@ -488,7 +500,7 @@ fn value_seen_again(asked: Option<ValueOf>, was: &SeenValue, net: &Net) -> SeenV
         },
         None => SeenValue {
             node: was.node,
-            value: None,
+            value: Reading::Nothing,
         },
     }
 }
@@ -508,17 +520,28 @@ impl Values {
     pub(crate) fn asks_states(&self) -> bool
         ensures { result ≡ asks_states self.now }
     {
-        (self.queue.is_some() || self.wait.is_some())
-            || (self.count.is_some() || self.change.is_some())
+        (self.asked(Value::Queue).is_some() || self.asked(Value::Wait).is_some())
+            || (self.asked(Value::Count).is_some() || self.change.is_some())
     }
 
     /// Whether a line, after which a net stands, is as asked of the links that it changes.
     fn meets_links(&self, was: &Seen, net: &Net, line: &Line) -> bool
         ensures { (before : Reached) → IsRun before → Stepped before (Some (shown line.now)) net.now → was.now ≡ seen_in before.state self.now → IsTrue result ↔ MeetsLinks self.now before.state (shown line.now) net.now.state }
     {
-        has_link_value(LinkValue::Queue, self.queue, &was.queue, net, line)
-            && has_link_value(LinkValue::Wait, self.wait, &was.wait, net, line)
-            && has_link_value(LinkValue::Count, self.count, &was.count, net, line)
+        has_link_value(
+            Value::Queue,
+            self.asked(Value::Queue),
+            &was.queue,
+            net,
+            line,
+        ) && has_link_value(Value::Wait, self.asked(Value::Wait), &was.wait, net, line)
+            && has_link_value(
+                Value::Count,
+                self.asked(Value::Count),
+                &was.count,
+                net,
+                line,
+            )
     }
 
     /// Whether a line, after which a net stands, is as asked, with what was seen of the state before it.
@@ -548,9 +571,9 @@ impl Values {
         ensures { result ≡ seen_in net.now.state self.now }
     {
         Seen {
-            queue: seen_link(self.queue, net),
-            wait: seen_link(self.wait, net),
-            count: seen_link(self.count, net),
+            queue: seen_link(self.asked(Value::Queue), net),
+            wait: seen_link(self.asked(Value::Wait), net),
+            count: seen_link(self.asked(Value::Count), net),
             change: seen_value(self.change, net),
         }
     }
@@ -560,9 +583,9 @@ impl Values {
         ensures { HasSameNodes was.now (seen_in net.now.state self.now) → result ≡ seen_in net.now.state self.now }
     {
         Seen {
-            queue: link_seen_again(self.queue, &was.queue, net),
-            wait: link_seen_again(self.wait, &was.wait, net),
-            count: link_seen_again(self.count, &was.count, net),
+            queue: link_seen_again(self.asked(Value::Queue), &was.queue, net),
+            wait: link_seen_again(self.asked(Value::Wait), &was.wait, net),
+            count: link_seen_again(self.asked(Value::Count), &was.count, net),
             change: value_seen_again(self.change, &was.change, net),
         }
     }

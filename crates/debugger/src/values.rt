@@ -1,12 +1,88 @@
-//! Conditions on values: those of a flow's sender and receiver, those of a link, and the moment.
-ghost use Rattle.std.specs.Prelude.{◌≡◌, ◌↔◌, IsTrue, IfSome, Some, option_copied};
+//! Values of flows and of links, and what is asked of them after an event.
+ghost use Rattle.std.specs.Prelude.{◌≡◌, ◌<◌, ◌↔◌, true, false, IsTrue, IfSome, Some, option_copied};
 ghost use Rattle.node_core.specs.TraceLine.{shown};
 ghost use Rattle.net_machine.specs.Run.{Reached, IsRun, Stepped};
-ghost use Rattle.debugger.specs.Values.{no_values, asking_value, HoldsOf, phase_of, cwnd_after, flight_after, ssthresh_after, una_after, nxt_after, phase_after, next_after, MeetsWindows, MeetsBytes, MeetsValues, sender_after, after_at, rto_after, dups_after, asks_kept, MeetsKept};
+ghost use Rattle.debugger.specs.Values.{index_of, owner_of, is_kept, number_or_nothing, phase_of, sender_value, receiver_value, value_after, sender_after, after_at, no_values, asking_value, asked_of, CompareIs, HoldsOf, IsMet, MeetsWindows, MeetsBytes, MeetsValues, asks_kept, MeetsKept};
 
 use net_machine::Net;
 use node_core::{After, Line, SenderShown};
 use reno_sender::SenderFields;
+
+/// A value of a flow, of a link, or the moment.
+#[derive(Clone, Copy, Debug, PartialEq, Eq)]
+pub enum Value {
+    /// The sender's congestion window, in bytes.
+    Cwnd,
+    /// The bytes that it has sent and that are not acknowledged.
+    Flight,
+    /// Its slow start threshold, in bytes.
+    Ssthresh,
+    /// The first byte that is not acknowledged.
+    Una,
+    /// The next byte that it sends.
+    Nxt,
+    /// Its retransmission timeout, in nanoseconds.
+    Rto,
+    /// Its duplicate acknowledgements since the last new one.
+    Dups,
+    /// Its phase.
+    Phase,
+    /// The next byte that the receiver waits for.
+    Next,
+    /// How many packets wait at a link.
+    Queue,
+    /// For how long the first of them has waited, in nanoseconds.
+    Wait,
+    /// CoDel's count of drops there.
+    Count,
+    /// When an event is, in nanoseconds.
+    Time,
+}
+
+/// How many values there are.
+pub const VALUES: usize = 13;
+
+/// What a value is of.
+#[derive(Clone, Copy)]
+pub enum Owner {
+    /// A flow.
+    Flow,
+    /// A link.
+    Link,
+    /// Neither.
+    Nothing,
+}
+
+/// A value of a flow or of a link of a number.
+#[derive(Clone, Copy, Debug, PartialEq, Eq)]
+pub struct ValueOf {
+    /// Which value.
+    pub value: Value,
+    /// The number of the flow or of the link.
+    pub of: u16,
+}
+
+/// A sender's phase of congestion control (RFC 5681 section 3.1).
+#[derive(Clone, Copy, Debug, PartialEq, Eq)]
+pub enum Phase {
+    /// `cwnd` is below `ssthresh`.
+    SlowStart,
+    /// It is not.
+    CongestionAvoidance,
+    /// Segments are resent before the timer ends (section 3.2).
+    FastRecovery,
+}
+
+/// What is read of a state.
+#[derive(Clone, Copy, PartialEq, Eq)]
+pub enum Reading {
+    /// A number, in the value's unit.
+    Number(u64),
+    /// A phase.
+    Phase(Phase),
+    /// There is no such value: no such flow or link, no packet that waits, or no CoDel.
+    Nothing,
+}
 
 /// On which side of a number a value is.
 #[derive(Clone, Copy, Debug, PartialEq, Eq)]
@@ -23,7 +99,7 @@ pub enum Sign {
     Equal,
 }
 
-/// What a value is compared with.
+/// What a number is compared with.
 #[derive(Clone, Copy, Debug, PartialEq, Eq)]
 pub struct Bound {
     /// On which side of the number the value is.
@@ -32,148 +108,79 @@ pub struct Bound {
     pub number: u64,
 }
 
-/// A sender's phase of congestion control (RFC 5681 section 3.1).
+/// What is asked of what is read.
 #[derive(Clone, Copy, Debug, PartialEq, Eq)]
-pub enum Phase {
-    /// `cwnd` is below `ssthresh`.
-    SlowStart,
-    /// It is not.
-    CongestionAvoidance,
-    /// Segments are resent before the timer ends (section 3.2).
-    FastRecovery,
+pub enum Test {
+    /// That it is a number within a bound.
+    Within(Bound),
+    /// That it is a phase.
+    Is(Phase),
 }
 
-/// What a value of a link is compared with.
+/// What is asked of a value.
 #[derive(Clone, Copy, Debug, PartialEq, Eq)]
-pub struct LinkBound {
-    /// The link's number.
-    pub link: u16,
-    /// What its value is compared with.
-    pub bound: Bound,
-}
-
-/// A value of a link.
-#[derive(Clone, Copy)]
-pub enum LinkValue {
-    /// How many packets wait at it.
-    Queue,
-    /// For how long the first of them has waited, in nanoseconds.
-    Wait,
-    /// CoDel's count of drops.
-    Count,
-}
-
-/// A value of a sender.
-#[derive(Clone, Copy, Debug, PartialEq, Eq)]
-pub enum SenderValue {
-    /// The congestion window, in bytes.
-    Cwnd,
-    /// The bytes that are sent and not acknowledged.
-    Flight,
-    /// The slow start threshold, in bytes.
-    Ssthresh,
-    /// The first byte that is not acknowledged.
-    Una,
-    /// The next byte to send.
-    Nxt,
-    /// The retransmission timeout, in nanoseconds.
-    Rto,
-    /// The duplicate acknowledgements since the last new one.
-    Dups,
-}
-
-/// A value of a flow.
-#[derive(Clone, Copy, Debug, PartialEq, Eq)]
-pub enum FlowValue {
-    /// One of its sender.
-    Sender(SenderValue),
-    /// The next byte that its receiver waits for.
-    Next,
-}
-
-/// A value of a flow of a number.
-#[derive(Clone, Copy, Debug, PartialEq, Eq)]
-pub struct ValueOf {
-    /// Which value.
-    pub value: FlowValue,
-    /// The flow's number.
-    pub flow: u16,
+pub struct Asked {
+    /// The number of the link, which the event changes; 0 where the value is of no link.
+    pub of: u16,
+    /// What it has to be.
+    pub test: Test,
 }
 
 /// What a value can be asked to be after an event.
 #[derive(Clone, Copy)]
 pub enum ValueCondition {
-    /// The sender's congestion window, in bytes.
-    Cwnd(Bound),
-    /// The bytes that it has sent and that are not acknowledged.
-    Flight(Bound),
-    /// Its slow start threshold, in bytes.
-    Ssthresh(Bound),
-    /// The first byte that is not acknowledged.
-    Una(Bound),
-    /// The next byte that it sends.
-    Nxt(Bound),
-    /// Its phase.
-    Phase(Phase),
-    /// Its retransmission timeout, in nanoseconds.
-    Rto(Bound),
-    /// Its duplicate acknowledgements since the last new one.
-    Dups(Bound),
-    /// The next byte that the receiver waits for.
-    Next(Bound),
-    /// How many packets wait at a link, which the event changes.
-    Queue(LinkBound),
-    /// For how long the first of them has waited, in nanoseconds.
-    Wait(LinkBound),
-    /// CoDel's count of drops there.
-    Count(LinkBound),
-    /// That the value is another than before the event.
+    /// That of the event's own sender or receiver, of a link, or its moment, is as asked.
+    Is(Value, Asked),
+    /// A value of a flow is another than before the event.
     Change(ValueOf),
-    /// When the event is, in nanoseconds.
-    Time(Bound),
 }
 
 /// What values are asked to be after an event; nothing is asked of the others.
 #[derive(Clone, Copy, Debug, PartialEq, Eq)]
 pub struct Values {
-    /// The sender's congestion window, in bytes.
-    pub cwnd: Option<Bound>,
-    /// The bytes that it has sent and that are not acknowledged.
-    pub flight: Option<Bound>,
-    /// Its slow start threshold, in bytes.
-    pub ssthresh: Option<Bound>,
-    /// The first byte that is not acknowledged.
-    pub una: Option<Bound>,
-    /// The next byte that it sends.
-    pub nxt: Option<Bound>,
-    /// Its phase.
-    pub phase: Option<Phase>,
-    /// Its retransmission timeout, in nanoseconds.
-    pub rto: Option<Bound>,
-    /// Its duplicate acknowledgements since the last new one.
-    pub dups: Option<Bound>,
-    /// The next byte that the receiver waits for.
-    pub next: Option<Bound>,
-    /// How many packets wait at a link, which the event changes.
-    pub queue: Option<LinkBound>,
-    /// For how long the first of them has waited, in nanoseconds.
-    pub wait: Option<LinkBound>,
-    /// CoDel's count of drops there.
-    pub count: Option<LinkBound>,
+    /// What is asked of each value, by its index.
+    pub asked: [Option<Asked>; VALUES],
     /// The value that is another than before the event.
     pub change: Option<ValueOf>,
-    /// When the event is, in nanoseconds.
-    pub time: Option<Bound>,
+}
+
+impl Value {
+    /// Its place among all values, from 0 on.
+    #[inline(always)]
+    pub fn index(self) -> usize
+        ensures value { result ≡ index_of self }
+        ensures below { result < 13 }
+    {
+        self as usize
+    }
+
+    /// What it is of.
+    pub fn owner(self) -> Owner
+        ensures { result ≡ owner_of self }
+    {
+        match self {
+            Value::Queue | Value::Wait | Value::Count => Owner::Link,
+            Value::Time => Owner::Nothing,
+            _ => Owner::Flow,
+        }
+    }
+}
+
+/// A number, where there is one.
+pub(crate) fn number_or_nothing(value: Option<u64>) -> Reading
+    ensures { result ≡ number_or_nothing value }
+{
+    match value {
+        Some(number) => Reading::Number(number),
+        None => Reading::Nothing,
+    }
 }
 
 impl Bound {
-    /// Whether it holds of a value, where there is one.
-    pub(crate) fn holds_of(self, value: Option<u64>) -> bool
-        ensures { IsTrue result ↔ HoldsOf value self }
+    /// Whether it holds of a number.
+    fn holds_of(self, value: u64) -> bool
+        ensures { IsTrue result ↔ CompareIs self value }
     {
-        let Some(value) = value else {
-            return false;
-        };
         match self.sign {
             Sign::Less => value < self.number,
             Sign::AtMost => value <= self.number,
@@ -184,68 +191,31 @@ impl Bound {
     }
 }
 
-/// Whether a bound holds of a value, where one is asked for.
-fn is_within(asked: Option<Bound>, value: Option<u64>) -> bool
-    ensures { IsTrue result ↔ IfSome asked (HoldsOf value) }
+impl Test {
+    /// Whether it holds of what is read.
+    pub(crate) fn holds_of(self, reading: Reading) -> bool
+        ensures { IsTrue result ↔ HoldsOf reading self }
+    {
+        match (self, reading) {
+            (Test::Within(bound), Reading::Number(number)) => bound.holds_of(number),
+            (Test::Is(phase), Reading::Phase(other)) => other == phase,
+            _ => false,
+        }
+    }
+}
+
+/// Whether what is asked holds of what is read, where something is asked.
+fn is_as_asked(asked: Option<Asked>, reading: Reading) -> bool
+    ensures { IsTrue result ↔ IfSome asked (λ a. HoldsOf reading a.test) }
 {
     match asked {
-        Some(bound) => bound.holds_of(value),
+        Some(asked) => asked.test.holds_of(reading),
         None => true,
     }
 }
 
-/// The congestion window of the sender that a line shows, where it shows one.
-fn cwnd_after(after: &After) -> Option<u64>
-    ensures { result ≡ cwnd_after after.now }
-{
-    match after {
-        After::AtSender(sender) => Some(sender.cwnd()),
-        After::AtReceiver(_) | After::AtRouter => None,
-    }
-}
-
-/// The bytes that it has sent and that are not acknowledged.
-fn flight_after(after: &After) -> Option<u64>
-    ensures { result ≡ flight_after after.now }
-{
-    match after {
-        After::AtSender(sender) => Some(sender.nxt().saturating_sub(sender.una())),
-        After::AtReceiver(_) | After::AtRouter => None,
-    }
-}
-
-/// Its slow start threshold.
-fn ssthresh_after(after: &After) -> Option<u64>
-    ensures { result ≡ ssthresh_after after.now }
-{
-    match after {
-        After::AtSender(sender) => Some(sender.ssthresh()),
-        After::AtReceiver(_) | After::AtRouter => None,
-    }
-}
-
-/// The first byte that is not acknowledged.
-fn una_after(after: &After) -> Option<u64>
-    ensures { result ≡ una_after after.now }
-{
-    match after {
-        After::AtSender(sender) => Some(sender.una()),
-        After::AtReceiver(_) | After::AtRouter => None,
-    }
-}
-
-/// The next byte that it sends.
-fn nxt_after(after: &After) -> Option<u64>
-    ensures { result ≡ nxt_after after.now }
-{
-    match after {
-        After::AtSender(sender) => Some(sender.nxt()),
-        After::AtReceiver(_) | After::AtRouter => None,
-    }
-}
-
 /// The phase of a sender.
-pub(crate) fn phase_of(sender: &SenderShown) -> Phase
+fn phase_of(sender: &SenderShown) -> Phase
     ensures { result ≡ phase_of sender.now }
 {
     if sender.recovers() {
@@ -257,33 +227,59 @@ pub(crate) fn phase_of(sender: &SenderShown) -> Phase
     }
 }
 
-/// The phase of the sender that a line shows.
-fn phase_after(after: &After) -> Option<Phase>
-    ensures { result ≡ phase_after after.now }
+/// A value of a sender.
+pub(crate) fn sender_value(value: Value, fields: &SenderFields) -> Reading
+    ensures { result ≡ sender_value value fields.now }
 {
-    match after {
-        After::AtSender(sender) => Some(phase_of(sender)),
-        After::AtReceiver(_) | After::AtRouter => None,
+    match value {
+        Value::Cwnd => Reading::Number(fields.cwnd),
+        Value::Flight => Reading::Number(fields.nxt.saturating_sub(fields.una)),
+        Value::Ssthresh => Reading::Number(fields.ssthresh),
+        Value::Una => Reading::Number(fields.una),
+        Value::Nxt => Reading::Number(fields.nxt),
+        Value::Rto => Reading::Number(fields.rto),
+        Value::Dups => Reading::Number(fields.dups),
+        Value::Phase => Reading::Phase(phase_of(&SenderShown::of(fields))),
+        Value::Next | Value::Queue | Value::Wait | Value::Count | Value::Time => Reading::Nothing,
     }
 }
 
-/// The next byte that the receiver waits for that a line shows.
-fn next_after(after: &After) -> Option<u64>
-    ensures { result ≡ next_after after.now }
+/// The same of what a line shows of a sender, without what it keeps besides.
+fn shown_value(value: Value, sender: &SenderShown) -> Reading
+    requires { is_kept value ≡ false }
+    ensures { result ≡ sender_value value sender.now }
 {
-    match after {
-        After::AtReceiver(next) => Some(*next),
-        After::AtSender(_) | After::AtRouter => None,
+    match value {
+        Value::Cwnd => Reading::Number(sender.cwnd()),
+        Value::Flight => Reading::Number(sender.nxt().saturating_sub(sender.una())),
+        Value::Ssthresh => Reading::Number(sender.ssthresh()),
+        Value::Una => Reading::Number(sender.una()),
+        Value::Nxt => Reading::Number(sender.nxt()),
+        Value::Phase => Reading::Phase(phase_of(sender)),
+        Value::Rto | Value::Dups => Reading::Nothing,
+        Value::Next | Value::Queue | Value::Wait | Value::Count | Value::Time => Reading::Nothing,
     }
 }
 
-/// Whether the sender that a line shows is in a phase, where one is asked for.
-fn is_in_phase(asked: Option<Phase>, after: &After) -> bool
-    ensures { IsTrue result ↔ IfSome asked (λ phase. phase_after after.now ≡ Some phase) }
+/// A value of the receiver that waits for a byte.
+fn receiver_value(value: Value, next: u64) -> Reading
+    ensures { result ≡ receiver_value value next }
 {
-    match asked {
-        Some(phase) => phase_after(after) == Some(phase),
-        None => true,
+    match value {
+        Value::Next => Reading::Number(next),
+        _ => Reading::Nothing,
+    }
+}
+
+/// A value of what a line shows of its node.
+fn value_after(value: Value, after: &After) -> Reading
+    requires { is_kept value ≡ false }
+    ensures { result ≡ value_after value after.now }
+{
+    match after {
+        After::AtSender(sender) => shown_value(value, sender),
+        After::AtReceiver(next) => receiver_value(value, *next),
+        After::AtRouter => Reading::Nothing,
     }
 }
 
@@ -302,81 +298,22 @@ fn fields_at(net: &Net, node: u16) -> Option<&SenderFields>
     }
 }
 
-/// Its retransmission timeout.
-fn rto_at(net: &Net, node: u16) -> Option<u64>
-    ensures { result ≡ rto_after (after_at net.now.state node) }
+/// A value that the sender at a node keeps.
+fn kept_at(value: Value, net: &Net, node: u16) -> Reading
+    requires { is_kept value ≡ true }
+    ensures { result ≡ value_after value (after_at net.now.state node) }
 {
     match fields_at(net, node) {
-        Some(fields) => Some(fields.rto),
-        None => None,
+        Some(fields) => sender_value(value, fields),
+        None => Reading::Nothing,
     }
-}
-
-/// Its duplicate acknowledgements.
-fn dups_at(net: &Net, node: u16) -> Option<u64>
-    ensures { result ≡ dups_after (after_at net.now.state node) }
-{
-    match fields_at(net, node) {
-        Some(fields) => Some(fields.dups),
-        None => None,
-    }
-}
-
-/// Whether the timeout of the sender at a node is as asked.
-fn has_rto(asked: Option<Bound>, net: &Net, node: u16) -> bool
-    ensures { IsTrue result ↔ IfSome asked (HoldsOf (rto_after (after_at net.now.state node))) }
-{
-    match asked {
-        Some(bound) => bound.holds_of(rto_at(net, node)),
-        None => true,
-    }
-}
-
-/// Whether its duplicate acknowledgements are as asked.
-fn has_dups(asked: Option<Bound>, net: &Net, node: u16) -> bool
-    ensures { IsTrue result ↔ IfSome asked (HoldsOf (dups_after (after_at net.now.state node))) }
-{
-    match asked {
-        Some(bound) => bound.holds_of(dups_at(net, node)),
-        None => true,
-    }
-}
-
-/// Whether the same is asked of a sender's windows, phase and bytes, and of a receiver's.
-fn ask_same_of_bytes(a: &Values, b: &Values) -> bool
-    ensures { IsTrue result ↔ ((a.now.cwnd ≡ b.now.cwnd) × (a.now.flight ≡ b.now.flight) × (a.now.ssthresh ≡ b.now.ssthresh) × (a.now.phase ≡ b.now.phase) × (a.now.una ≡ b.now.una) × (a.now.nxt ≡ b.now.nxt) × (a.now.next ≡ b.now.next)) }
-{
-    a.cwnd == b.cwnd
-        && a.flight == b.flight
-        && a.ssthresh == b.ssthresh
-        && a.phase == b.phase
-        && a.una == b.una
-        && a.nxt == b.nxt
-        && a.next == b.next
-}
-
-/// Whether the same is asked of times, of duplicate acknowledgements and of links, and the same change.
-fn ask_same_of_links(a: &Values, b: &Values) -> bool
-    ensures { IsTrue result ↔ ((a.now.rto ≡ b.now.rto) × (a.now.dups ≡ b.now.dups) × (a.now.time ≡ b.now.time) × (a.now.queue ≡ b.now.queue) × (a.now.wait ≡ b.now.wait) × (a.now.count ≡ b.now.count) × (a.now.change ≡ b.now.change)) }
-{
-    a.rto == b.rto
-        && a.dups == b.dups
-        && a.time == b.time
-        && a.queue == b.queue
-        && a.wait == b.wait
-        && a.count == b.count
-        && a.change == b.change
 }
 
 /// Whether the same is asked of values.
 pub(crate) fn are_same_values(a: &Values, b: &Values) -> bool
     ensures { IsTrue result ↔ (a.now ≡ b.now) }
 {
-    if ask_same_of_bytes(a, b) {
-        ask_same_of_links(a, b)
-    } else {
-        false
-    }
+    a == b
 }
 
 impl Values {
@@ -385,20 +322,8 @@ impl Values {
         ensures { result ≡ no_values }
     {
         Values {
-            cwnd: None,
-            flight: None,
-            ssthresh: None,
-            una: None,
-            nxt: None,
-            phase: None,
-            rto: None,
-            dups: None,
-            next: None,
-            queue: None,
-            wait: None,
-            count: None,
+            asked: [None; VALUES],
             change: None,
-            time: None,
         }
     }
 
@@ -408,41 +333,48 @@ impl Values {
     {
         let mut values = self;
         match condition {
-            ValueCondition::Cwnd(bound) => values.cwnd = Some(bound),
-            ValueCondition::Flight(bound) => values.flight = Some(bound),
-            ValueCondition::Ssthresh(bound) => values.ssthresh = Some(bound),
-            ValueCondition::Una(bound) => values.una = Some(bound),
-            ValueCondition::Nxt(bound) => values.nxt = Some(bound),
-            ValueCondition::Phase(phase) => values.phase = Some(phase),
-            ValueCondition::Rto(bound) => values.rto = Some(bound),
-            ValueCondition::Dups(bound) => values.dups = Some(bound),
-            ValueCondition::Next(bound) => values.next = Some(bound),
-            ValueCondition::Queue(asked) => values.queue = Some(asked),
-            ValueCondition::Wait(asked) => values.wait = Some(asked),
-            ValueCondition::Count(asked) => values.count = Some(asked),
+            ValueCondition::Is(value, asked) => values.asked[value.index()] = Some(asked),
             ValueCondition::Change(asked) => values.change = Some(asked),
-            ValueCondition::Time(bound) => values.time = Some(bound),
         }
         values
     }
 
-    /// Whether a sender's windows are as asked.
+    /// What is asked of a value.
+    #[inline(always)]
+    pub fn asked(&self, value: Value) -> Option<Asked>
+        ensures { result ≡ asked_of self.now value }
+    {
+        self.asked[value.index()]
+    }
+
+    /// Whether a value that a line shows is as asked.
+    fn is_met(&self, value: Value, after: &After) -> bool
+        requires { is_kept value ≡ false }
+        ensures { IsTrue result ↔ IsMet self.now after.now value }
+    {
+        match self.asked(value) {
+            Some(asked) => asked.test.holds_of(value_after(value, after)),
+            None => true,
+        }
+    }
+
+    /// Whether a sender's windows and phase are as asked.
     fn meets_windows(&self, after: &After) -> bool
         ensures { IsTrue result ↔ MeetsWindows self.now after.now }
     {
-        is_within(self.cwnd, cwnd_after(after))
-            && is_within(self.flight, flight_after(after))
-            && is_within(self.ssthresh, ssthresh_after(after))
-            && is_in_phase(self.phase, after)
+        self.is_met(Value::Cwnd, after)
+            && self.is_met(Value::Flight, after)
+            && self.is_met(Value::Ssthresh, after)
+            && self.is_met(Value::Phase, after)
     }
 
     /// Whether a sender's bytes, or a receiver's, are as asked.
     fn meets_bytes(&self, after: &After) -> bool
         ensures { IsTrue result ↔ MeetsBytes self.now after.now }
     {
-        is_within(self.una, una_after(after))
-            && is_within(self.nxt, nxt_after(after))
-            && is_within(self.next, next_after(after))
+        self.is_met(Value::Una, after)
+            && self.is_met(Value::Nxt, after)
+            && self.is_met(Value::Next, after)
     }
 
     /// Whether a line, and what it shows of its node, are as asked.
@@ -451,21 +383,32 @@ impl Values {
     {
         self.meets_windows(&line.after)
             && self.meets_bytes(&line.after)
-            && is_within(self.time, Some(line.key.time))
+            && is_as_asked(self.asked(Value::Time), Reading::Number(line.key.time))
     }
 
     /// Whether something is asked of what a sender keeps and its lines do not show.
     pub(crate) fn asks_kept(&self) -> bool
         ensures { result ≡ asks_kept self.now }
     {
-        self.rto.is_some() || self.dups.is_some()
+        self.asked(Value::Rto).is_some() || self.asked(Value::Dups).is_some()
+    }
+
+    /// Whether a value that the sender at a node keeps is as asked.
+    fn has_kept(&self, value: Value, net: &Net, node: u16) -> bool
+        requires { is_kept value ≡ true }
+        ensures { IsTrue result ↔ IsMet self.now (after_at net.now.state node) value }
+    {
+        match self.asked(value) {
+            Some(asked) => asked.test.holds_of(kept_at(value, net, node)),
+            None => true,
+        }
     }
 
     /// Whether what the sender at a node keeps is as asked.
     fn meets_kept_at(&self, net: &Net, node: u16) -> bool
         ensures { IsTrue result ↔ MeetsKept self.now (after_at net.now.state node) }
     {
-        has_rto(self.rto, net, node) && has_dups(self.dups, net, node)
+        self.has_kept(Value::Rto, net, node) && self.has_kept(Value::Dups, net, node)
     }
 
     /// Whether what a sender keeps is as asked after a line, after which a net stands.

@@ -1,9 +1,10 @@
-use Rattle.std.proofs.Common.{ℕ, ◌==◌, Option, sym, ap, subst, ◌∙◌, true≢false}
+use Rattle.std.proofs.Common.{◌==◌, sym, ap, subst, ◌∙◌, true≢false}
 use Rattle.std.proofs.lemmas.Bool.{eqb-false}
 use Rattle.std.specs.Prelude.{◌↔◌, ◌≢◌, IsTrue}
 use Rattle.node_core.specs.TraceLine.{shown}
 use Rattle.debugger.specs.declared.seen.SeenValue.{SeenValue}
-use Rattle.debugger.specs.declared.seen.Asked.TheVariants.{Value}
+use Rattle.debugger.specs.declared.values.Reading.{Reading}
+use Rattle.debugger.specs.declared.seen.Sought.TheVariants.{Value}
 use Rattle.debugger.specs.Seen.{node_of}
 use Rattle.debugger.proofs.Elsewhere.{node_same, value_elsewhere}
 use Rattle.debugger.proofs.seen.becomes.Goals as goal
@@ -12,7 +13,7 @@ pub returns-then-is_at : goal.returns-then-is_at
 returns-then-is_at c = λ before is stepped was.
     let there = ap (λ (w : SeenValue). w.node) was ∙ node_same before c.args.net.now (shown c.args.line.now) (Value c.args.asked) is stepped in
     let value = ap (λ (w : SeenValue). w.value) was in
-    subst (λ (p : Option ℕ × Option ℕ). IsTrue c.is_other.result ↔ (p.0 ≢ p.1)) (λ i. (value i, c.value_at.ensures there i)) c.is_other.ensures
+    subst (λ (p : Reading × Reading). IsTrue c.is_other.result ↔ (p.0 ≢ p.1)) (λ i. (value i, c.value_at.ensures there i)) c.is_other.ensures
 
 pub returns-else-is_at : goal.returns-else-is_at
 returns-else-is_at c = λ before is stepped was.

@@ -3,7 +3,7 @@ use Rattle.std.proofs.lemmas.Bool.{eqb-false}
 use Rattle.std.specs.Prelude.{◌↔◌, ◌≢◌, IsTrue}
 use Rattle.node_core.specs.TraceLine.{shown}
 use Rattle.debugger.specs.declared.seen.SeenLink.{SeenLink}
-use Rattle.debugger.specs.declared.seen.Asked.TheVariants.{Link}
+use Rattle.debugger.specs.declared.seen.Sought.TheVariants.{Link}
 use Rattle.debugger.specs.Seen.{node_of}
 use Rattle.debugger.proofs.Elsewhere.{node_same, offered_elsewhere}
 use Rattle.debugger.proofs.seen.is_offered_more.Goals as goal

@@ -10,8 +10,8 @@ returns-then-node-nodes c = λ there.
     let asked = c.args.asked in
     let here = part_here s c.nodes-nodes.result.now c.nodes-nodes.ensures.parts c.args.node c.index-nodes-node.result c.if-node-nodes.true c.index-nodes-node.is in
     c.value_for.ensures
-    ∙ ap (value_for asked.value asked.flow) (sym here)
-    ∙ ap (λ (n : ℕ). value_for asked.value asked.flow (part_at s n)) there
+    ∙ ap (value_for asked.value asked.of) (sym here)
+    ∙ ap (λ (n : ℕ). value_for asked.value asked.of (part_at s n)) there
     ∙ sym (value_there asked s)
 
 pub returns-else-node-nodes : goal.returns-else-node-nodes
@@ -19,7 +19,7 @@ returns-else-node-nodes c = λ there.
     let s = c.args.net.now.state in
     let asked = c.args.asked in
     let past = part_past s c.nodes-nodes.result.now c.nodes-nodes.ensures.parts c.args.node c.if-node-nodes.false in
-    sym (no_value asked.value asked.flow)
-    ∙ ap (value_for asked.value asked.flow) (sym past)
-    ∙ ap (λ (n : ℕ). value_for asked.value asked.flow (part_at s n)) there
+    sym (no_value asked.value asked.of)
+    ∙ ap (value_for asked.value asked.of) (sym past)
+    ∙ ap (λ (n : ℕ). value_for asked.value asked.of (part_at s n)) there
     ∙ sym (value_there asked s)

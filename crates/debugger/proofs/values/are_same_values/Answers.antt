@@ -1,19 +1,27 @@
-use Rattle.std.proofs.Common.{◌≡◌, sym, ap, ◌∙◌, true≢false}
+use Rattle.std.proofs.Common.{rules, ◌≡◌, Bool, true, false, ◌&&◌, refl, sym, ap, ◌∙◌, true≢false, Option}
+use Rattle.std.proofs.lemmas.Slice.Eq.{slice_eq-Decides}
+use Rattle.std.specs.Option.{option_eq}
+use Rattle.std.specs.Prelude.{◌↔◌, IsTrue}
+use Rattle.debugger.specs.contracts.values.AskedPartialEq.TheImpl as asked
+use Rattle.debugger.specs.contracts.values.ValueOfPartialEq.TheImpl as changed
+use Rattle.debugger.specs.declared.values.Asked.{Asked}
+use Rattle.debugger.specs.declared.values.ValueOf.{ValueOf}
 use Rattle.debugger.specs.declared.values.Values.{Values}
 use Rattle.debugger.proofs.values.are_same_values.Goals as goal
 
-pub returns-then-ask_same_of_bytes : goal.returns-then-ask_same_of_bytes
-returns-then-ask_same_of_bytes c = (
-  λ same.
-      let one = c.ask_same_of_bytes.ensures.0 c.if-ask_same_of_bytes.true in
-      let two = c.ask_same_of_links.ensures.0 same in
-      λ i. record { cwnd = one.0 i; flight = one.1 i; ssthresh = one.2 i; phase = one.3 i; una = one.4 i; nxt = one.5 i; next = one.6 i; rto = two.0 i; dups = two.1 i; time = two.2 i; queue = two.3 i; wait = two.4 i; count = two.5 i; change = two.6 i },
-  λ (e : c.args.a.now ≡ c.args.b.now). c.ask_same_of_links.ensures.1 (ap (λ (v : Values). v.rto) e, ap (λ (v : Values). v.dups) e, ap (λ (v : Values). v.time) e, ap (λ (v : Values). v.queue) e, ap (λ (v : Values). v.wait) e, ap (λ (v : Values). v.count) e, ap (λ (v : Values). v.change) e),
-)
+same_asked : (a b : Option Asked) → IsTrue (option_eq asked.eq-value.it a b) ↔ (a ≡ b)
+same_asked a b = search rules
 
-pub returns-else-ask_same_of_bytes : goal.returns-else-ask_same_of_bytes
-returns-else-ask_same_of_bytes c = (
-  λ same. absurd (true≢false (sym same)),
-  λ (e : c.args.a.now ≡ c.args.b.now).
-      absurd (true≢false (sym (c.ask_same_of_bytes.ensures.1 (ap (λ (v : Values). v.cwnd) e, ap (λ (v : Values). v.flight) e, ap (λ (v : Values). v.ssthresh) e, ap (λ (v : Values). v.phase) e, ap (λ (v : Values). v.una) e, ap (λ (v : Values). v.nxt) e, ap (λ (v : Values). v.next) e)) ∙ c.if-ask_same_of_bytes.false)),
-)
+same_changed : (a b : Option ValueOf) → IsTrue (option_eq changed.eq-value.it a b) ↔ (a ≡ b)
+same_changed a b = search rules
+
+both : (p q : Bool) {P Q : Type 0} → (IsTrue p ↔ P) → (IsTrue q ↔ Q) → IsTrue (p && q) ↔ (P × Q)
+both true q one two = (λ t. (one.0 refl, two.0 t), λ h. two.1 h.1)
+both false q one two = (λ t. absurd (true≢false (sym t)), λ h. one.1 h.0)
+
+pub returns : goal.returns
+returns c =
+    let two = both _ _ (slice_eq-Decides same_asked c.args.a.now.asked c.args.b.now.asked _ refl) (same_changed c.args.a.now.change c.args.b.now.change) in (
+      λ t. let h = two.0 (sym c.eq.ensures ∙ t) in λ i. record { asked = h.0 i; change = h.1 i },
+      λ (e : c.args.a.now ≡ c.args.b.now). c.eq.ensures ∙ two.1 (ap (λ (v : Values). v.asked) e, ap (λ (v : Values). v.change) e),
+    )
