@@ -27,6 +27,16 @@ use Rattle.command_line.specs.declared.subcommand.Wishes.{Wishes}
 abbrev pub top_program : App
 top_program = record { top = record (new_shape (codes "tcpsim")) { has_version = true; disable_help_subcommand = true; subcommand_required = true }; subs = [] }
 
+-- a word that stands alone, an option with a value, and a flag
+abbrev pub word_rule : List ℕ → Rule
+word_rule id = record (new_rule id) { value_names = 1 }
+
+abbrev pub text_rule : List ℕ → Rule
+text_rule id = record (new_rule id) { long = Some id; value_names = 1 }
+
+abbrev pub flag_rule : List ℕ → Rule
+flag_rule id = record (new_rule id) { long = Some id; action = Some SetTrue }
+
 -- `--workers N`: a number from 1 to 64, and 1 where it is left out
 abbrev pub workers_rule : Rule
 workers_rule = record (new_rule (codes "workers")) { long = Some (codes "workers"); value_names = 1; defaults = codes "1" ∷ []; parser = Some (Unsigned 1 64) }
@@ -37,35 +47,35 @@ groups_rule = record (new_rule (codes "groups")) { long = Some (codes "groups");
 
 -- FILE: any text
 abbrev pub file_rule : Rule
-file_rule = record (new_rule (codes "file")) { value_names = 1 }
+file_rule = word_rule (codes "file")
 
 -- `--progress`: a flag
 abbrev pub progress_rule : Rule
-progress_rule = record (new_rule (codes "progress")) { long = Some (codes "progress"); action = Some SetTrue }
+progress_rule = flag_rule (codes "progress")
 
 -- `--explain`: a flag
 abbrev pub explain_rule : Rule
-explain_rule = record (new_rule (codes "explain")) { long = Some (codes "explain"); action = Some SetTrue }
+explain_rule = flag_rule (codes "explain")
 
 -- `--from T`: any text; whether it is a moment is judged later
 abbrev pub from_rule : Rule
-from_rule = record (new_rule (codes "from")) { long = Some (codes "from"); value_names = 1 }
+from_rule = text_rule (codes "from")
 
 -- `--every D`: any text; whether it is a time is judged later
 abbrev pub every_rule : Rule
-every_rule = record (new_rule (codes "every")) { long = Some (codes "every"); value_names = 1 }
+every_rule = text_rule (codes "every")
 
 -- `--series`: a flag
 abbrev pub series_rule : Rule
-series_rule = record (new_rule (codes "series")) { long = Some (codes "series"); action = Some SetTrue }
+series_rule = flag_rule (codes "series")
 
 -- `--names`: a flag
 abbrev pub names_rule : Rule
-names_rule = record (new_rule (codes "names")) { long = Some (codes "names"); action = Some SetTrue }
+names_rule = flag_rule (codes "names")
 
 -- CODE: any text; whether it is a code is judged later
 abbrev pub code_rule : Rule
-code_rule = record (new_rule (codes "code")) { value_names = 1 }
+code_rule = word_rule (codes "code")
 
 -- a subcommand that takes a file and the flag of why
 abbrev pub file_shape : List ℕ → Shape

@@ -16,72 +16,33 @@ const CAPTURES: [[u8; 4]; 5] = [
 /// The longest name, in bytes.
 const LONGEST_NAME: usize = 15;
 
-/// A word of a statement that has to be one of some words.
-#[derive(Clone, Copy)]
-struct Chosen {
-    statement: &'static str,
-    /// Which word of the statement, counted from 0.
-    place: usize,
-    /// A sentence with these words.
-    sentence: &'static str,
-}
-
-const CHOSEN: [Chosen; 4] = [
-    Chosen {
-        statement: "node",
-        place: 2,
-        sentence: "the kind of a node is sender, receiver or router",
-    },
-    Chosen {
-        statement: "link",
-        place: 6,
-        sentence: "the kind of a queue is droptail or codel",
-    },
-    Chosen {
-        statement: "flow",
-        place: 9,
-        sentence: "the recovery of a flow is reno or newreno",
-    },
-    Chosen {
-        statement: "flow",
-        place: 10,
-        sentence: "the initial window of a flow is iw3 or iw10",
-    },
+/// The words that have to be one of some words: of which statement, at which place, counted from 0, and a
+/// sentence with these words.
+const CHOSEN: [(&str, usize, &str); 4] = [
+    (
+        "node",
+        2,
+        "the kind of a node is sender, receiver or router",
+    ),
+    ("link", 6, "the kind of a queue is droptail or codel"),
+    ("flow", 9, "the recovery of a flow is reno or newreno"),
+    ("flow", 10, "the initial window of a flow is iw3 or iw10"),
 ];
 
-/// How many words a statement has.
-#[derive(Clone, Copy)]
-struct Form {
-    statement: &'static str,
-    /// The beginning of a sentence with them.
-    sentence: &'static str,
-}
-
-const FORMS: [Form; 6] = [
-    Form {
-        statement: "sim",
-        sentence: "sim END is 2 words",
-    },
-    Form {
-        statement: "node",
-        sentence: "node NAME KIND is 3 words",
-    },
-    Form {
-        statement: "link",
-        sentence: "link NAME FROM TO RATE DELAY droptail CAP is 8 words, with codel CAP TARGET INTERVAL MAXPACKET 11",
-    },
-    Form {
-        statement: "flow",
-        sentence: "flow NAME SENDER RECEIVER MSS SEGMENTS START RWND DELACK is 9 words, with a variant 11",
-    },
-    Form {
-        statement: "route",
-        sentence: "route ROUTER DEST LINK is 4 words",
-    },
-    Form {
-        statement: "lose",
-        sentence: "lose LINK NUMBER is 3 words",
-    },
+/// The statements, each with the beginning of a sentence on how many words it has.
+const FORMS: [(&str, &str); 6] = [
+    ("sim", "sim END is 2 words"),
+    ("node", "node NAME KIND is 3 words"),
+    (
+        "link",
+        "link NAME FROM TO RATE DELAY droptail CAP is 8 words, with codel CAP TARGET INTERVAL MAXPACKET 11",
+    ),
+    (
+        "flow",
+        "flow NAME SENDER RECEIVER MSS SEGMENTS START RWND DELACK is 9 words, with a variant 11",
+    ),
+    ("route", "route ROUTER DEST LINK is 4 words"),
+    ("lose", "lose LINK NUMBER is 3 words"),
 ];
 
 /// A word that is refused.
@@ -94,6 +55,11 @@ struct Wrong<'a> {
     word: &'a [u8],
 }
 
+/// Whether a byte parts words.
+fn is_space(byte: &u8) -> bool {
+    *byte == b' '
+}
+
 /// A line without its comment.
 fn statement_in(line: &[u8]) -> &[u8] {
     line.split(|byte| *byte == b'#').next().unwrap_or(line)
@@ -102,14 +68,14 @@ fn statement_in(line: &[u8]) -> &[u8] {
 /// How many words these bytes have.
 fn count_words(bytes: &[u8]) -> usize {
     bytes
-        .split(|byte| *byte == b' ')
+        .split(is_space)
         .filter(|word| !word.is_empty())
         .count()
 }
 
 /// The first word of a line.
 fn statement_of(line: &[u8]) -> &[u8] {
-    line.split(|byte| *byte == b' ')
+    line.split(is_space)
         .find(|word| !word.is_empty())
         .unwrap_or(line)
 }
@@ -128,7 +94,7 @@ fn wrong_word<'a>(line: &'a [u8], place: usize, start: usize, end: usize) -> Wro
 fn word_around(line: &[u8], at: usize) -> Option<Wrong<'_>> {
     let mut start = 0usize;
     let mut place = 0usize;
-    for word in statement_in(line).split(|byte| *byte == b' ') {
+    for word in statement_in(line).split(is_space) {
         let end = start.saturating_add(word.len());
         if start <= at && at < end {
             return Some(wrong_word(line, place, start, end));
@@ -201,12 +167,12 @@ fn push_number(shown: &mut String, row: &Counted, word: Option<&[u8]>) -> Result
 /// Adds what a word of this place is, of another form or out of its range.
 fn push_word(shown: &mut String, wrong: &Wrong, fault: Fault) -> Result<(), AllocError> {
     if let Some(row) = counted_at(wrong) {
-        let word = (fault == Fault::E4).then_some(wrong.word);
+        let word = matches!(fault, Fault::E4).then_some(wrong.word);
         return push_number(shown, &row, word);
     }
-    for row in &CHOSEN {
-        if row.statement.as_bytes() == wrong.statement && row.place == wrong.place {
-            return shown.push_str(row.sentence);
+    for (statement, place, sentence) in CHOSEN {
+        if statement.as_bytes() == wrong.statement && place == wrong.place {
+            return shown.push_str(sentence);
         }
     }
     push_name(shown, wrong.word)
@@ -233,9 +199,9 @@ fn push_byte(shown: &mut String, text: &[u8], line: &[u8], at: usize) -> Result<
 /// Adds how many words a line's statement has, and how many the line.
 fn push_form(shown: &mut String, line: &[u8]) -> Result<(), AllocError> {
     let statement = statement_in(line);
-    for form in &FORMS {
-        if form.statement.as_bytes() == statement_of(statement) {
-            let (sentence, words) = (form.sentence, count_words(statement));
+    for (first, sentence) in FORMS {
+        if first.as_bytes() == statement_of(statement) {
+            let words = count_words(statement);
             write!(shown, "{sentence}, and this line has {words}")?;
         }
     }

@@ -53,9 +53,13 @@ pub struct Numbers {
 
 impl fmt::Display for Numbers {
     fn fmt<W: fmt::Write>(&self, f: &mut fmt::Formatter<W>) -> fmt::Result {
-        write!(f, "nodes 0 to {}", self.nodes.saturating_sub(1))?;
-        write!(f, ", links 0 to {}", self.links.saturating_sub(1))?;
-        write!(f, ", flows 0 to {}", self.flows.saturating_sub(1))
+        let nodes = self.nodes.saturating_sub(1);
+        let links = self.links.saturating_sub(1);
+        let flows = self.flows.saturating_sub(1);
+        write!(
+            f,
+            "nodes 0 to {nodes}, links 0 to {links}, flows 0 to {flows}"
+        )
     }
 }
 

@@ -129,40 +129,16 @@ struct Written<'a> {
     unit: &'a [u8],
 }
 
-/// A unit of times, and the power of ten by which it is longer than a nanosecond.
-#[derive(Clone, Copy)]
-struct Spelled {
-    word: &'static str,
-    power: u32,
-}
-
-const TIMES: [Spelled; 7] = [
-    Spelled { word: "", power: 0 },
-    Spelled {
-        word: "ns",
-        power: 0,
-    },
-    Spelled {
-        word: "us",
-        power: 3,
-    },
-    // The micro sign, and the Greek letter.
-    Spelled {
-        word: "\u{b5}s",
-        power: 3,
-    },
-    Spelled {
-        word: "\u{3bc}s",
-        power: 3,
-    },
-    Spelled {
-        word: "ms",
-        power: 6,
-    },
-    Spelled {
-        word: "s",
-        power: 9,
-    },
+/// The units of times, each with the power of ten by which it is longer than a nanosecond. Microseconds have
+/// the micro sign too, and the Greek letter.
+const TIMES: [(&str, u32); 7] = [
+    ("", 0),
+    ("ns", 0),
+    ("us", 3),
+    ("\u{b5}s", 3),
+    ("\u{3bc}s", 3),
+    ("ms", 6),
+    ("s", 9),
 ];
 
 /// What stands behind the prefix of a rate.
@@ -223,9 +199,9 @@ fn power_with_prefix(unit: &[u8], words: &[&str]) -> Option<u32> {
 
 /// The power of ten of a unit of times.
 fn power_of_time(unit: &[u8]) -> Option<u32> {
-    for time in &TIMES {
-        if time.word.as_bytes() == unit {
-            return Some(time.power);
+    for (word, power) in TIMES {
+        if word.as_bytes() == unit {
+            return Some(power);
         }
     }
     None

@@ -3,6 +3,7 @@
 use crate::advice::push_advice;
 use explanations::{Names, image_parts, tell_counterexample, text_of};
 use scenario_asm::{FaultPlace, Part, fault_place, parts_of_text};
+use scenario_image::ScenarioParts;
 use std::alloc::{AllocError, Global};
 
 /// How many bytes of a line are shown at most, and how many of them before what is wrong.
@@ -65,39 +66,49 @@ fn push_meaning(shown: &mut String, code: &str) -> Result<(), AllocError> {
     Ok(())
 }
 
-/// Adds what shows first that a text in which no line is faulty has the fault of this code, by names.
+/// Adds what shows first that these parts have the fault of this code.
+fn push_counterexample(
+    alloc: Global,
+    shown: &mut String,
+    code: &str,
+    parts: &ScenarioParts,
+    names: &Names,
+) -> Result<(), AllocError> {
+    if let Some(reported) = tell_counterexample(alloc, code, parts, names)? {
+        shown.push_str(reported.as_str())?;
+    }
+    Ok(())
+}
+
+/// The same of a text in which no line is faulty, by names.
 fn push_text_counterexample(
     alloc: Global,
     shown: &mut String,
     text: &[u8],
     code: &str,
 ) -> Result<(), AllocError> {
-    if let Some(named) = parts_of_text(alloc, text)? {
-        let names = Names {
-            nodes: named.nodes.as_slice(),
-            links: named.links.as_slice(),
-            flows: named.flows.as_slice(),
-        };
-        if let Some(reported) = tell_counterexample(alloc, code, &named.parts, &names)? {
-            shown.push_str(reported.as_str())?;
-        }
-    }
-    Ok(())
+    let Some(named) = parts_of_text(alloc, text)? else {
+        return Ok(());
+    };
+    let names = Names {
+        nodes: named.nodes.as_slice(),
+        links: named.links.as_slice(),
+        flows: named.flows.as_slice(),
+    };
+    push_counterexample(alloc, shown, code, &named.parts, &names)
 }
 
-/// Adds what shows first that an image has the fault of this code, by numbers.
+/// The same of an image, by numbers.
 fn push_image_counterexample(
     alloc: Global,
     shown: &mut String,
     image: &[u8],
     code: &str,
 ) -> Result<(), AllocError> {
-    if let Some(parts) = image_parts(alloc, image)? {
-        if let Some(reported) = tell_counterexample(alloc, code, &parts, &Names::NONE)? {
-            shown.push_str(reported.as_str())?;
-        }
-    }
-    Ok(())
+    let Some(parts) = image_parts(alloc, image)? else {
+        return Ok(());
+    };
+    push_counterexample(alloc, shown, code, &parts, &Names::NONE)
 }
 
 /// Bytes as they can be shown: each that is not printable as a question mark.
@@ -141,11 +152,8 @@ pub fn image_reason(alloc: Global, image: &[u8], code: &str) -> Result<String, A
 /// What is shown behind the note where these are no groups of so many nodes.
 pub fn groups_reason(alloc: Global, groups: &str, nodes: usize) -> Result<String, AllocError> {
     let mut shown = String::new(alloc);
-    shown.push_str("groups that are given: ")?;
-    shown.push_str(groups.split(',').count().to_string(alloc)?.as_str())?;
-    shown.push_str("; nodes: ")?;
-    shown.push_str(nodes.to_string(alloc)?.as_str())?;
-    shown.push('\n')?;
+    let given = groups.split(',').count();
+    write!(shown, "groups that are given: {given}; nodes: {nodes}\n")?;
     push_meaning(&mut shown, "groups")?;
     Ok(shown)
 }

@@ -5,7 +5,7 @@ ghost use Rattle.clap.specs.declared.builder.command.Command.TheViews.{out-Comma
 ghost use Rattle.clap.specs.Kinds.{FailsBy};
 ghost use Rattle.clap.specs.Matches.{found_of};
 ghost use Rattle.clap.specs.Walk.{Rule, first_of, rule_of, rows_of};
-ghost use Rattle.command_line.specs.CommandLine.{program, top_program, workers_rule, groups_rule, file_rule, progress_rule, explain_rule, from_rule, every_rule, series_rule, names_rule, code_rule, file_shape, sharing_shape, debug_shape, run_shape, figures_shape, code_shape, IsBelow, word_faults, AskFor, WordsAskForOne, WordsHaveOneAnswer, WordsOfSubcommands, WordsOfText, WordsOfMistake};
+ghost use Rattle.command_line.specs.CommandLine.{program, top_program, word_rule, text_rule, flag_rule, workers_rule, groups_rule, file_shape, sharing_shape, debug_shape, run_shape, figures_shape, code_shape, IsBelow, word_faults, AskFor, WordsAskForOne, WordsHaveOneAnswer, WordsOfSubcommands, WordsOfText, WordsOfMistake};
 ghost use Rattle.command_line.specs.Given.{AreOptions, AreOfTask, AreOfSubcommand, AreOfAsked, IsSharing, IsCounting};
 ghost use Rattle.command_line.specs.Wishes.{is_true, wishes_in};
 ghost use Rattle.command_line.specs.Subcommand.{word_of, asked_word, counting_of as task_counting, sharing_of as task_sharing};
@@ -31,35 +31,44 @@ fn top_command<'a>(alloc: Global) -> Command<'a>
         .subcommand_required(true)
 }
 
-/// The word for the file of a scenario.
-fn file_word<'a>(alloc: Global) -> Arg<'a>
-    ensures rule { rule_of result ≡ file_rule }
+/// What is said of a scenario's file, and of one over which commands are typed.
+const FILE: &str = "The scenario's file; without it, or where it is -, standard input";
+
+const SESSION_FILE: &str =
+    "The scenario's file, and commands are typed; without it, or where it is -, standard input has both";
+
+/// A word that stands alone.
+fn lone_word<'a>(alloc: Global, id: &'a str, value: &'a str, help: &'a str) -> Arg<'a>
+    ensures rule { rule_of result ≡ word_rule id.entry.now }
     ensures local { result.global ≡ false }
 {
-    Arg::new(alloc, "file").value_name("FILE").help(
-        "The scenario's file; without it, or where it is -, standard input",
-    )
+    Arg::new(alloc, id).value_name(value).help(help)
 }
 
-/// The word for the file of a scenario over which commands are typed.
-fn session_file_word<'a>(alloc: Global) -> Arg<'a>
-    ensures rule { rule_of result ≡ file_rule }
+/// An option that has a text.
+fn text_option<'a>(alloc: Global, id: &'a str, value: &'a str, help: &'a str) -> Arg<'a>
+    ensures rule { rule_of result ≡ text_rule id.entry.now }
     ensures local { result.global ≡ false }
 {
-    Arg::new(alloc, "file").value_name("FILE").help(
-        "The scenario's file, and commands are typed; without it, or where it is -, standard input has both",
-    )
+    Arg::new(alloc, id).long(id).value_name(value).help(help)
 }
 
-/// The word for a code that is explained.
-fn code_word<'a>(alloc: Global) -> Arg<'a>
-    ensures rule { rule_of result ≡ code_rule }
+/// A flag.
+fn flag<'a>(alloc: Global, id: &'a str, help: &'a str) -> Arg<'a>
+    ensures rule { rule_of result ≡ flag_rule id.entry.now }
     ensures local { result.global ≡ false }
 {
-    Arg::new(alloc, "code")
-        .value_name("CODE")
-        .help("The code, as it stands behind `refused`")
+    Arg::new(alloc, id)
+        .long(id)
+        .action(ArgAction::SetTrue)
+        .help(help)
 }
+
+/// The flag for being told how far a run is.
+const PROGRESS: &str = "Say on standard error how far the run is";
+
+/// The flag for being shown why an input is refused.
+const EXPLAIN: &str = "Show on standard error why an input is refused";
 
 /// A subcommand that takes nothing.
 fn plain_subcommand<'a>(alloc: Global, name: &'a str, about: &'a str) -> Command<'a>
@@ -96,71 +105,6 @@ fn groups_option<'a>(alloc: Global) -> Arg<'a>
         .help("The group of each node: one, each, auto, or numbers as in 0,0,1")
 }
 
-/// The flag for being told how far a run is.
-fn progress_flag<'a>(alloc: Global) -> Arg<'a>
-    ensures rule { rule_of result ≡ progress_rule }
-    ensures local { result.global ≡ false }
-{
-    Arg::new(alloc, "progress")
-        .long("progress")
-        .action(ArgAction::SetTrue)
-        .help("Say on standard error how far the run is")
-}
-
-/// The flag for being shown why an input is refused.
-fn explain_flag<'a>(alloc: Global) -> Arg<'a>
-    ensures rule { rule_of result ≡ explain_rule }
-    ensures local { result.global ≡ false }
-{
-    Arg::new(alloc, "explain")
-        .long("explain")
-        .action(ArgAction::SetTrue)
-        .help("Show on standard error why an input is refused")
-}
-
-/// The option that says from which moment on is counted.
-fn from_option<'a>(alloc: Global) -> Arg<'a>
-    ensures rule { rule_of result ≡ from_rule }
-    ensures local { result.global ≡ false }
-{
-    Arg::new(alloc, "from")
-        .long("from")
-        .value_name("T")
-        .help("Count from this moment on, as 1.5s, 20ms or 10000ns")
-}
-
-/// The option that says how long a step of rows by time is.
-fn every_option<'a>(alloc: Global) -> Arg<'a>
-    ensures rule { rule_of result ≡ every_rule }
-    ensures local { result.global ≡ false }
-{
-    Arg::new(alloc, "every").long("every").value_name("D").help(
-        "Print rows by time behind the table, a row a figure, in steps as 1.5s or 20ms",
-    )
-}
-
-/// The flag for rows by time alone.
-fn series_flag<'a>(alloc: Global) -> Arg<'a>
-    ensures rule { rule_of result ≡ series_rule }
-    ensures local { result.global ≡ false }
-{
-    Arg::new(alloc, "series")
-        .long("series")
-        .action(ArgAction::SetTrue)
-        .help("Print the rows of --every without the table")
-}
-
-/// The flag for the names of flows and links.
-fn names_flag<'a>(alloc: Global) -> Arg<'a>
-    ensures rule { rule_of result ≡ names_rule }
-    ensures local { result.global ≡ false }
-{
-    Arg::new(alloc, "names")
-        .long("names")
-        .action(ArgAction::SetTrue)
-        .help("Print the names of a text's flows and links in a last column")
-}
-
 /// A subcommand with one more argument, where there was memory for it.
 fn with_arg<'a>(
     command: Result<Command<'a>, AllocError>,
@@ -180,8 +124,8 @@ fn file_subcommand<'a>(
     ensures { IfOk result (IsBelow (file_shape name.entry.now)) }
 {
     let plain = Ok(plain_subcommand(alloc, name, about));
-    let with_file = with_arg(plain, file_word(alloc));
-    with_arg(with_file, explain_flag(alloc))
+    let with_file = with_arg(plain, lone_word(alloc, "file", "FILE", FILE));
+    with_arg(with_file, flag(alloc, "explain", EXPLAIN))
 }
 
 /// A subcommand that takes a moment, a step, a scenario's file and four flags.
@@ -193,13 +137,17 @@ fn figures_subcommand<'a>(
     ensures { IfOk result (IsBelow (figures_shape name.entry.now)) }
 {
     let plain = Ok(plain_subcommand(alloc, name, about));
-    let with_from = with_arg(plain, from_option(alloc));
-    let with_every = with_arg(with_from, every_option(alloc));
-    let with_series = with_arg(with_every, series_flag(alloc));
-    let with_names = with_arg(with_series, names_flag(alloc));
-    let with_file = with_arg(with_names, file_word(alloc));
-    let with_progress = with_arg(with_file, progress_flag(alloc));
-    with_arg(with_progress, explain_flag(alloc))
+    let from = "Count from this moment on, as 1.5s, 20ms or 10000ns";
+    let with_from = with_arg(plain, text_option(alloc, "from", "T", from));
+    let every = "Print rows by time behind the table, a row a figure, in steps as 1.5s or 20ms";
+    let with_every = with_arg(with_from, text_option(alloc, "every", "D", every));
+    let series = "Print the rows of --every without the table";
+    let with_series = with_arg(with_every, flag(alloc, "series", series));
+    let names = "Print the names of a text's flows and links in a last column";
+    let with_names = with_arg(with_series, flag(alloc, "names", names));
+    let with_file = with_arg(with_names, lone_word(alloc, "file", "FILE", FILE));
+    let with_progress = with_arg(with_file, flag(alloc, "progress", PROGRESS));
+    with_arg(with_progress, flag(alloc, "explain", EXPLAIN))
 }
 
 /// A subcommand that takes the options on how a run is shared out.
@@ -224,8 +172,8 @@ fn debug_subcommand<'a>(
     ensures { IfOk result (IsBelow (debug_shape name.entry.now)) }
 {
     let shared = sharing_subcommand(alloc, name, about);
-    let with_file = with_arg(shared, session_file_word(alloc));
-    with_arg(with_file, explain_flag(alloc))
+    let with_file = with_arg(shared, lone_word(alloc, "file", "FILE", SESSION_FILE));
+    with_arg(with_file, flag(alloc, "explain", EXPLAIN))
 }
 
 /// A subcommand that takes these options, a scenario's file and two flags.
@@ -237,9 +185,9 @@ fn run_subcommand<'a>(
     ensures { IfOk result (IsBelow (run_shape name.entry.now)) }
 {
     let shared = sharing_subcommand(alloc, name, about);
-    let with_file = with_arg(shared, file_word(alloc));
-    let with_progress = with_arg(with_file, progress_flag(alloc));
-    with_arg(with_progress, explain_flag(alloc))
+    let with_file = with_arg(shared, lone_word(alloc, "file", "FILE", FILE));
+    let with_progress = with_arg(with_file, flag(alloc, "progress", PROGRESS));
+    with_arg(with_progress, flag(alloc, "explain", EXPLAIN))
 }
 
 /// A subcommand that takes a code.
@@ -250,7 +198,9 @@ fn code_subcommand<'a>(
 ) -> Result<Command<'a>, AllocError>
     ensures { IfOk result (IsBelow (code_shape name.entry.now)) }
 {
-    with_arg(Ok(plain_subcommand(alloc, name, about)), code_word(alloc))
+    let help = "The code, as it stands behind `refused`";
+    let plain = Ok(plain_subcommand(alloc, name, about));
+    with_arg(plain, lone_word(alloc, "code", "CODE", help))
 }
 
 /// A command with one more subcommand, where there was memory for both.
@@ -260,8 +210,13 @@ fn with_below<'a>(
 ) -> Result<Command<'a>, AllocError>
     ensures { (app : App) (shape : Shape) → IfOk above.entry (λ command. app_of command ≡ app) → IfOk below.entry (IsBelow shape) → IfOk result (λ command. app_of command ≡ with_subcommand app shape) }
 {
-    let above = above?;
-    above.subcommand(below?)
+    let Ok(above) = above else {
+        return Err(AllocError);
+    };
+    let Ok(below) = below else {
+        return Err(AllocError);
+    };
+    above.subcommand(below)
 }
 
 /// The commands of the program.

@@ -1,21 +1,37 @@
--- Words of a breakpoint that are read one after another.
-use Rattle.std.proofs.Common.{◌≡◌, ◌∙◌, List, [], ◌∷◌, Result, Ok, Err, refl, ap, sym}
-use Rattle.debug_session.specs.declared.conditions.Gathered.{Gathered}
+-- Conditions that are read one after another.
+use Rattle.std.proofs.Common.{◌≡◌, ◌∙◌, ℕ, suc, [], ◌∷◌, Ok, Err, refl, ap, sym}
+use Rattle.debugger.specs.declared.breaks.Break.{Break}
 use Rattle.debug_session.specs.declared.naming.Naming.{Naming}
 use Rattle.debug_session.specs.declared.refusal.Refusal.{Refusal}
-use Rattle.debug_session.specs.Conditions.{with_word, gathering}
+use Rattle.debug_session.specs.declared.refusal.Refusal.TheVariants.{B2}
+use Rattle.debug_session.specs.Conditions.{one_more, go_on, conditions}
 use Rattle.debug_session.specs.Grammar.{Word}
+use Rattle.debug_session.specs.Parts.{Left, Reads, behind}
+use Rattle.debug_session.specs.Refusals.{and_then}
 
--- a refusal stays, whatever words follow
-stays : (naming : Naming) (refusal : Refusal) (words : List Word) → gathering naming (Err refusal) words ≡ Err refusal
-stays naming refusal [] = refl
-stays naming refusal (word ∷ words) = refl
+-- at most no more
+pub none_more : (naming : Naming) (b : Break) (word : Word) (l : Left) → conditions 0 naming b word l ≡ Err B2
+unfolding conditions
+none_more naming b word l = refl
 
-module _ (naming : Naming) (g : Gathered) (words : List Word) (whole : Result Gathered Refusal) (so_far : gathering naming (Ok g) words ≡ whole) where
-  -- one word more
-  one_read : (word : Word) (after : List Word) (next : Result Gathered Refusal) → words ≡ word ∷ after → next ≡ with_word naming g g.awaits word → gathering naming next after ≡ whole
-  one_read word after next parted is = ap (λ r. gathering naming r after) is ∙ ap (gathering naming (Ok g)) (sym parted) ∙ so_far
+-- and at most one more than so many
+one_then : (naming : Naming) (n : ℕ) (b : Break) (word : Word) (l : Left) → conditions (suc n) naming b word l ≡ and_then (one_more naming b word l) (λ read. go_on (conditions n naming) read.0 read.1 read.1.parts)
+unfolding conditions
+one_then naming n b word l = refl
 
-  -- or it is refused
-  pub one_refused : (word : Word) (after : List Word) (refusal : Refusal) → words ≡ word ∷ after → Err refusal ≡ with_word naming g g.awaits word → Err refusal ≡ whole
-  one_refused word after refusal parted is = sym (stays naming refusal after) ∙ one_read word after (Err refusal) parted is
+module _ (naming : Naming) (n left : ℕ) (b : Break) (word : Word) (l : Left) (whole : Reads Break) (so_far : conditions left naming b word l ≡ whole) (counts : left ≡ suc n) where
+  here : (read : Reads Break) → one_more naming b word l ≡ read → and_then read (λ r. go_on (conditions n naming) r.0 r.1 r.1.parts) ≡ whole
+  here read is =
+      ap (λ m. and_then m (λ r. go_on (conditions n naming) r.0 r.1 r.1.parts)) (sym is) ∙ sym (one_then naming n b word l) ∙ ap (λ k. conditions k naming b word l) (sym counts) ∙ so_far
+
+  -- one that is refused
+  pub one_refused : (refusal : Refusal) → one_more naming b word l ≡ Err refusal → whole ≡ Err refusal
+  one_refused refusal is = sym (here (Err refusal) is)
+
+  -- the last
+  pub last_read : (c : Break) (r : Left) → one_more naming b word l ≡ Ok (c, r) → r.parts ≡ [] → whole ≡ Ok (c, r)
+  last_read c r is none = sym (ap (λ ws. go_on (conditions n naming) c r ws) (sym none) ∙ here (Ok (c, r)) is)
+
+  -- and one that others follow
+  pub next_read : (c : Break) (r rest : Left) (next : Word) → one_more naming b word l ≡ Ok (c, r) → r.parts ≡ next ∷ rest.parts → rest ≡ behind r rest.parts → conditions n naming c next rest ≡ whole
+  next_read c r rest next is more same = ap (conditions n naming c next) same ∙ ap (λ ws. go_on (conditions n naming) c r ws) (sym more) ∙ here (Ok (c, r)) is

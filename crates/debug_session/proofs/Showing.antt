@@ -4,10 +4,9 @@ use Rattle.std.proofs.lemmas.Bool.{false≢true}
 use Rattle.table_run.specs.State.{State}
 use Rattle.net_machine.specs.Run.{Reached}
 use Rattle.debugger.specs.Debugging.{Debugging}
-use Rattle.debugger.specs.Reads.{read_left_in}
-use Rattle.debug_session.specs.declared.command.Command.TheVariants as plain
+use Rattle.debugger.specs.Seen.{read_left_in}
 use Rattle.debug_session.specs.declared.command.Typed.{Typed}
-use Rattle.debug_session.specs.declared.command.Typed.TheVariants.{Plain, Part, Why, Stalls, Breaks, Delete, Lines, Where, Names, Help, HelpOn}
+use Rattle.debug_session.specs.declared.command.Typed.TheVariants.{Go, State as StateAsked, SetBreak, Delete, Clear, Breaks, Show}
 use Rattle.debug_session.specs.declared.display.DisplayItem.{DisplayItem}
 use Rattle.debug_session.specs.declared.naming.Naming.{Naming}
 use Rattle.debug_session.specs.declared.refusal.Refusal.TheVariants.{M}
@@ -21,20 +20,13 @@ use Rattle.debug_session.specs.TypedMoves.{present_time}
 
 -- a move can be refused for want of memory
 move_refused : (asked : Typed) (old : SessionState) → is_move asked ≡ true → TypedCanBeRefused asked old
-move_refused (Plain (plain.Go move)) old moves = tt
-move_refused (Plain plain.State) old moves = absurd (false≢true moves)
-move_refused (Plain (plain.SetBreak b)) old moves = absurd (false≢true moves)
-move_refused (Plain plain.Clear) old moves = absurd (false≢true moves)
-move_refused (Part part) old moves = absurd (false≢true moves)
-move_refused (Why flow) old moves = absurd (false≢true moves)
-move_refused Stalls old moves = absurd (false≢true moves)
-move_refused Breaks old moves = absurd (false≢true moves)
+move_refused (Go move) old moves = tt
+move_refused StateAsked old moves = absurd (false≢true moves)
+move_refused (SetBreak b) old moves = absurd (false≢true moves)
 move_refused (Delete i) old moves = absurd (false≢true moves)
-move_refused (Lines count) old moves = absurd (false≢true moves)
-move_refused (Where known) old moves = absurd (false≢true moves)
-move_refused Names old moves = absurd (false≢true moves)
-move_refused Help old moves = absurd (false≢true moves)
-move_refused (HelpOn topic) old moves = absurd (false≢true moves)
+move_refused Clear old moves = absurd (false≢true moves)
+move_refused Breaks old moves = absurd (false≢true moves)
+move_refused (Show what) old moves = absurd (false≢true moves)
 
 module _ (naming : Naming) (displays : List DisplayItem) (start : State) (asked : Typed) (old new : SessionState) (out : List ℕ) where
   abbrev behind : List ℕ

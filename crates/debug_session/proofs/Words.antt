@@ -1,5 +1,5 @@
 -- The first word of a line.
-use Rattle.std.proofs.Common.{◌≡◌, ◌<◌, ◌==◌, ◌+◌, ℕ, List, ◌∷◌, length, true, false, ap, sym, ◌∙◌, arith, length-drop}
+use Rattle.std.proofs.Common.{◌≡◌, ◌<◌, ◌==◌, ◌+◌, ℕ, List, ◌∷◌, length, false, ap, sym, ◌∙◌, arith, length-drop}
 use Rattle.std.specs.List.{before_first, after_first, filter, position_or_len}
 use Rattle.scenario_asm.specs.Lines.{pieces, is_word}
 use Rattle.scenario_asm.proofs.Pieces.{pieces_first}
@@ -18,12 +18,3 @@ first_word line word after some is behind full =
   where
     kept : (w a : List ℕ) → (length w == 0) ≡ false → filter is_word (w ∷ pieces 32 a) ≡ w ∷ words_in a
     kept w a full = simp full
-
-pub no_word : (line word after : List ℕ) → 0 < length line → word ≡ before_first (λ b. b == 32) line → after ≡ after_first (λ b. b == 32) line → (length word == 0) ≡ true
-    → words_in line ≡ words_in after
-no_word line word after some is behind empty =
-    ap (filter is_word) (pieces_first 32 line some) ∙ left_out (before_first (λ b. b == 32) line) (after_first (λ b. b == 32) line) (ap (λ w. length w == 0) (sym is) ∙ empty)
-    ∙ ap words_in (sym behind)
-  where
-    left_out : (w a : List ℕ) → (length w == 0) ≡ true → filter is_word (w ∷ pieces 32 a) ≡ words_in a
-    left_out w a empty = simp empty

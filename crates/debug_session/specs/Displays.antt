@@ -1,16 +1,17 @@
 -- What is displayed after each move: values of flows and links, each with what it was before.
 use Rattle.std.specs.Prelude.{◌≡◌, ◌<◌, ◌≤◌, ◌+◌, ◌⊎◌, ◌==◌, ℕ, Bool, true, false, if◌then◌else◌, List, [], ◌∷◌, ◌++◌, length, slice_index_or, Contains, codes, decimal}
-use Rattle.std.specs.List.{remove}
+use Rattle.std.specs.List.{remove, flat_map}
 use Rattle.std.specs.Str.{bytes_eq}
 use Rattle.flow_waits.specs.declared.names.ScenarioNames.{ScenarioNames}
 use Rattle.flow_waits.specs.Names.{named}
-use Rattle.debugger.specs.declared.reads.Readable.{Readable}
-use Rattle.debugger.specs.declared.reads.Readable.TheVariants.{Value, Phase, Queue, Wait, Count}
-use Rattle.debugger.specs.declared.reads.Reading.{Reading}
-use Rattle.debugger.specs.declared.reads.Reading.TheVariants.{Number, Phase as InPhase, Nothing}
-use Rattle.debugger.specs.declared.values.FlowValue.TheVariants.{Sender, Next}
-use Rattle.debugger.specs.declared.values.SenderValue.{SenderValue}
-use Rattle.debugger.specs.declared.values.SenderValue.TheVariants.{Cwnd, Flight, Ssthresh, Una, Nxt, Rto, Dups}
+use Rattle.debugger.specs.declared.values.Owner.{Owner}
+use Rattle.debugger.specs.declared.values.Owner.TheVariants as owner
+use Rattle.debugger.specs.declared.values.Reading.{Reading}
+use Rattle.debugger.specs.declared.values.Reading.TheVariants.{Number, Phase as InPhase, Nothing}
+use Rattle.debugger.specs.declared.values.Value.{Value}
+use Rattle.debugger.specs.declared.values.Value.TheVariants.{Cwnd, Flight, Ssthresh, Una, Nxt, Rto, Dups, Phase, Next, Queue, Wait, Count}
+use Rattle.debugger.specs.declared.values.ValueOf.{ValueOf}
+use Rattle.debugger.specs.Values.{owner_of}
 use Rattle.debug_session.specs.declared.display.DisplayCommand.{DisplayCommand}
 use Rattle.debug_session.specs.declared.display.DisplayCommand.TheVariants.{All, Add, TakeAway}
 use Rattle.debug_session.specs.declared.display.DisplayItem.{DisplayItem}
@@ -18,29 +19,16 @@ use Rattle.debug_session.specs.declared.display.DisplayItem.TheVariants.{Flow, L
 use Rattle.debug_session.specs.declared.refusal.Refusal.TheVariants.{B4, B5, M}
 use Rattle.debug_session.specs.Answers.{refusal_line}
 use Rattle.debug_session.specs.Numbered.{IsNumber, HasNumber}
-use Rattle.debug_session.specs.ValueTexts.{phase_word, value_name, value_unit}
+use Rattle.debug_session.specs.ValueNames.{phase_word, value_name, value_unit}
+use Rattle.debug_session.specs.ValueTexts.{reading_text}
 
 -- a value and whose it is, as it is typed behind `display`
-abbrev pub readable_text : ScenarioNames → Readable → List ℕ
-readable_text names (Value v) = value_name v.value ++ named (codes " ") names.flows v.flow
-readable_text names (Phase flow) = named (codes "phase ") names.flows flow
-readable_text names (Queue link) = named (codes "queue ") names.links link
-readable_text names (Wait link) = named (codes "wait ") names.links link
-readable_text names (Count link) = named (codes "count ") names.links link
+abbrev pub of_named : ScenarioNames → Owner → ℕ → List ℕ
+of_named names owner.Link of = named (codes " ") names.links of
+of_named names other of = named (codes " ") names.flows of
 
--- its unit, where it has one
-abbrev pub readable_unit : Readable → List ℕ
-readable_unit (Value v) = value_unit v.value
-readable_unit (Phase flow) = []
-readable_unit (Queue link) = []
-readable_unit (Wait link) = codes "ns"
-readable_unit (Count link) = []
-
--- what is read, with a unit
-abbrev pub reading_text : List ℕ → Reading → List ℕ
-reading_text unit (Number n) = decimal n ++ unit
-reading_text unit (InPhase phase) = phase_word phase
-reading_text unit Nothing = codes "-"
+abbrev pub readable_text : ScenarioNames → ValueOf → List ℕ
+readable_text names what = value_name what.value ++ of_named names (owner_of what.value) what.of
 
 abbrev pub is_same_reading : Reading → Reading → Bool
 is_same_reading (Number m) (Number n) = m == n
@@ -54,37 +42,25 @@ reading_before unit was now = if is_same_reading was now then [] else codes " (w
 
 -- what is read of each value
 abbrev pub Reads : Type 0
-Reads = Readable → Reading
+Reads = ValueOf → Reading
 
--- a value behind a label
-abbrev pub value_shown : Reads → Reads → List ℕ → Readable → List ℕ
-value_shown was now label what = label ++ (reading_text (readable_unit what) (now what) ++ reading_before (readable_unit what) (was what) (now what))
+-- a value
+abbrev pub value_shown : Reads → Reads → ValueOf → List ℕ
+value_shown was now what = codes " = " ++ (reading_text (value_unit what.value) (now what) ++ reading_before (value_unit what.value) (was what) (now what))
 
--- a value of the sender of a flow
-abbrev pub of_sender : SenderValue → ℕ → Readable
-of_sender value flow = Value (record { value = Sender value; flow = flow })
+-- a value of a number with its name behind a mark
+abbrev pub one_shown : Reads → Reads → List ℕ → ℕ → Value → List ℕ
+one_shown was now mark of value = mark ++ (value_name value ++ value_shown was now (record { value = value; of = of }))
 
--- of a flow the windows of its sender
-abbrev pub windows_shown : Reads → Reads → ℕ → List ℕ
-windows_shown was now flow =
-    value_shown was now (codes ": cwnd = ") (of_sender Cwnd flow) ++ (value_shown was now (codes ", flight = ") (of_sender Flight flow) ++ value_shown was now (codes ", ssthresh = ") (of_sender Ssthresh flow))
+-- all of a flow, and of a link: the first value, and the others
+abbrev pub more_of_flow : List Value
+more_of_flow = Flight ∷ Ssthresh ∷ Una ∷ Nxt ∷ Rto ∷ Dups ∷ Phase ∷ Next ∷ []
 
--- the byte that is not acknowledged, and the next byte to send
-abbrev pub bytes_shown : Reads → Reads → ℕ → List ℕ
-bytes_shown was now flow = value_shown was now (codes ", una = ") (of_sender Una flow) ++ value_shown was now (codes ", nxt = ") (of_sender Nxt flow)
+abbrev pub more_of_link : List Value
+more_of_link = Wait ∷ Count ∷ []
 
--- its timer, its duplicates, its phase, and the byte that the receiver waits for
-abbrev pub timing_shown : Reads → Reads → ℕ → List ℕ
-timing_shown was now flow =
-    value_shown was now (codes ", rto = ") (of_sender Rto flow)
-    ++ (value_shown was now (codes ", dups = ") (of_sender Dups flow) ++ (value_shown was now (codes ", phase = ") (Phase flow) ++ value_shown was now (codes ", next = ") (Value (record { value = Next; flow = flow }))))
-
--- all of a link
-abbrev pub link_shown : Reads → Reads → ℕ → List ℕ
-link_shown was now link =
-    value_shown was now (codes ": queue = ") (Queue link)
-    ++ (value_shown was now (codes ", wait = ") (Wait link)
-    ++ value_shown was now (codes ", count = ") (Count link))
+abbrev pub all_shown : Reads → Reads → ℕ → Value → List Value → List ℕ
+all_shown was now of first more = one_shown was now (codes ": ") of first ++ flat_map (one_shown was now (codes ", ") of) more
 
 -- what is displayed, as it is typed behind `display`
 abbrev pub item_text : ScenarioNames → DisplayItem → List ℕ
@@ -93,9 +69,9 @@ item_text names (Link link) = named (codes "link ") names.links link
 item_text names (One what) = readable_text names what
 
 abbrev pub item_shown : Reads → Reads → DisplayItem → List ℕ
-item_shown was now (Flow flow) = windows_shown was now flow ++ (bytes_shown was now flow ++ timing_shown was now flow)
-item_shown was now (Link link) = link_shown was now link
-item_shown was now (One what) = value_shown was now (codes " = ") what
+item_shown was now (Flow flow) = all_shown was now flow Cwnd more_of_flow
+item_shown was now (Link link) = all_shown was now link Queue more_of_link
+item_shown was now (One what) = value_shown was now what
 
 -- a display's line: its number, what it is, and the values
 abbrev pub display_line : ScenarioNames → Reads → Reads → ℕ → DisplayItem → List ℕ

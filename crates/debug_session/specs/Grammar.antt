@@ -14,6 +14,7 @@ use Rattle.debug_session.specs.declared.command.Move.TheVariants.{Step, Back, Ru
 use Rattle.debug_session.specs.declared.refusal.Refusal.{Refusal}
 use Rattle.debug_session.specs.declared.refusal.Refusal.TheVariants.{B1, B2, B3}
 use Rattle.debug_session.specs.Input.{words_in}
+use Rattle.debug_session.specs.Refusals.{read_to}
 
 abbrev pub Word : Type 0
 Word = List ℕ
@@ -26,20 +27,18 @@ Reading = Result Command Refusal
 abbrev pub number_below : ℕ → Word → Option ℕ
 number_below bound word = if is_numeral word && nat_lt (number word) bound then Some (number word) else None
 
--- that of the only word
-abbrev pub one_number : ℕ → List Word → Result ℕ Refusal
-one_number bound [] = Err B2
-one_number bound (word ∷ []) = ok_or (number_below bound word) B3
-one_number bound (first ∷ second ∷ more) = Err B2
+-- what the only word means
+abbrev pub only : {X : Type 0} → (Word → Result X Refusal) → List Word → Result X Refusal
+only means [] = Err B2
+only means (word ∷ []) = means word
+only means (first ∷ second ∷ more) = Err B2
 
--- the command of a number
-abbrev pub with_number : (ℕ → Command) → Result ℕ Refusal → Reading
-with_number make (Ok n) = Ok (make n)
-with_number make (Err refusal) = Err refusal
+abbrev pub one_number : ℕ → List Word → Result ℕ Refusal
+one_number bound words = only (λ word. ok_or (number_below bound word) B3) words
 
 -- how many events or nanoseconds: at most 10^15
 abbrev pub amount : (ℕ → Command) → List Word → Reading
-amount make words = with_number make (one_number 1000000000000001 words)
+amount make words = read_to make (one_number 1000000000000001 words)
 
 -- no word
 abbrev pub no_word_left : Command → List Word → Reading
@@ -61,22 +60,16 @@ kind_named word =
 abbrev pub sets : Condition → Command
 sets condition = SetBreak (asking asks_nothing condition)
 
-abbrev pub with_kind : Option EventKind → Reading
-with_kind (Some kind) = Ok (sets (Kind kind))
-with_kind None = Err B3
-
 -- one word that is a kind
 abbrev pub one_kind : List Word → Reading
-one_kind [] = Err B2
-one_kind (word ∷ []) = with_kind (kind_named word)
-one_kind (first ∷ second ∷ more) = Err B2
+one_kind words = read_to (λ kind. sets (Kind kind)) (only (λ word. ok_or (kind_named word) B3) words)
 
 -- the words behind `break`: one sort, and what it takes
 abbrev pub breakpoint : Limits → List Word → Reading
 breakpoint limits [] = Err B2
 breakpoint limits (sort ∷ words) =
-    if bytes_eq sort (codes "node") then with_number (λ n. sets (Node n)) (one_number limits.nodes words)
-    else (if bytes_eq sort (codes "flow") then with_number (λ n. sets (Flow n)) (one_number limits.flows words)
+    if bytes_eq sort (codes "node") then read_to (λ n. sets (Node n)) (one_number limits.nodes words)
+    else (if bytes_eq sort (codes "flow") then read_to (λ n. sets (Flow n)) (one_number limits.flows words)
     else (if bytes_eq sort (codes "kind") then one_kind words
     else (if bytes_eq sort (codes "drop") then no_word_left (sets Drop) words
     else Err B1)))

@@ -1,9 +1,11 @@
 pub mod Input
+pub mod Refusals
 pub mod Grammar
 pub mod Namings
 pub mod Times
 pub mod Signs
 pub mod ValueNames
+pub mod Parts
 pub mod NamesReported
 pub mod Missing
 pub mod Conditions
@@ -11,8 +13,7 @@ pub mod Answers
 pub mod Sessions
 pub mod Taking
 pub mod Reported
-pub mod Names
-pub mod Topics
+pub mod Entries
 pub mod Memos
 pub mod TypedGrammar
 pub mod ValueTexts
@@ -21,7 +22,6 @@ pub mod StallLists
 pub mod Displays
 pub mod DisplayGrammar
 pub mod Readouts
-pub mod Help
 pub mod TypedMoves
 pub mod TypedAnswers
 pub mod Prompt

@@ -2,7 +2,8 @@
 use Rattle.std.specs.Prelude.{max, false, ◌||◌, is_none, None}
 use Rattle.table_run.specs.State.{due}
 use Rattle.debug_session.specs.declared.command.Typed.{Typed}
-use Rattle.debug_session.specs.declared.command.Typed.TheVariants.{Where}
+use Rattle.debug_session.specs.declared.command.Typed.TheVariants.{Show}
+use Rattle.debug_session.specs.declared.command.Shown.TheVariants.{Where}
 use Rattle.debug_session.specs.declared.memo.Extent.{Extent}
 use Rattle.debug_session.specs.declared.memo.Memo.{Memo}
 use Rattle.debug_session.specs.Answers.{SessionState}
@@ -21,5 +22,5 @@ no_memo = record { last = None; known = nothing_known }
 
 -- `where` is asked with what is known
 abbrev pub knowing : Extent → Typed → Typed
-knowing known (Where before) = Where known
+knowing known (Show (Where before)) = Show (Where known)
 knowing known asked = asked

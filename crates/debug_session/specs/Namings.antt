@@ -1,5 +1,5 @@
 -- How the nodes, links and flows of a scenario are called, and which of them a word means.
-use Rattle.std.specs.Prelude.{ℕ, nat_lt, if◌then◌else◌, List, [], ◌∷◌, map, Option, None, Some, is_some, ok_or, Result, Err}
+use Rattle.std.specs.Prelude.{ℕ, nat_lt, if◌then◌else◌, List, [], map, Option, None, Some, is_some, ok_or, Result}
 use Rattle.scenario_asm.specs.declared.named_parts.NamedParts.{NamedParts}
 use Rattle.scenario_asm.specs.Numbers.{is_numeral, number}
 use Rattle.scenario_asm.specs.Text.{number_among}
@@ -8,8 +8,8 @@ use Rattle.debug_session.specs.declared.naming.Naming.{Naming}
 use Rattle.debug_session.specs.declared.naming.PartSort.{PartSort}
 use Rattle.debug_session.specs.declared.naming.PartSort.TheVariants.{Node, Link, Flow}
 use Rattle.debug_session.specs.declared.refusal.Refusal.{Refusal}
-use Rattle.debug_session.specs.declared.refusal.Refusal.TheVariants.{B2, B3}
-use Rattle.debug_session.specs.Grammar.{Word}
+use Rattle.debug_session.specs.declared.refusal.Refusal.TheVariants.{B3}
+use Rattle.debug_session.specs.Grammar.{Word, only}
 
 -- the names that a text declares, and numbers below these
 abbrev pub naming_by : Limits → NamedParts → Naming
@@ -55,6 +55,4 @@ part_meant naming sort word = if_below (count_of naming.limits sort) (number_sai
 
 -- that of the only word
 abbrev pub one_part : Naming → PartSort → List Word → Result ℕ Refusal
-one_part naming sort [] = Err B2
-one_part naming sort (word ∷ []) = ok_or (part_meant naming sort word) B3
-one_part naming sort (first ∷ second ∷ more) = Err B2
+one_part naming sort words = only (λ word. ok_or (part_meant naming sort word) B3) words

@@ -6,6 +6,8 @@ use Rattle.debugger.specs.declared.breaks.EventKind.TheVariants.{Start, Rto, Del
 use Rattle.debugger.specs.declared.breaks.Break.{Break}
 use Rattle.debugger.specs.declared.breaks.StallOf.{StallOf}
 use Rattle.debugger.specs.declared.breaks.StallOf.TheVariants.{Any, Flow}
+use Rattle.debugger.specs.declared.values.Reading.{Reading}
+use Rattle.debugger.specs.declared.values.Reading.TheVariants.{Nothing}
 use Rattle.debug_session.specs.declared.naming.Naming.{Naming}
 use Rattle.debug_session.specs.ValueTexts.{values_text, was_text}
 
@@ -51,17 +53,17 @@ abbrev pub break_text : Naming → Break → List ℕ
 break_text naming b = event_text naming b ++ (packet_text naming b ++ (values_text naming b.values ++ stall_text naming b.stall))
 
 -- a word, a breakpoint's number, and the breakpoint, with what the value was before that it asks to change
-abbrev pub numbered_line : Naming → List ℕ → ℕ → Break → Option ℕ → List ℕ
+abbrev pub numbered_line : Naming → List ℕ → ℕ → Break → Reading → List ℕ
 numbered_line naming word i b was = word ++ (decimal i ++ (codes ":" ++ (break_text naming b ++ (was_text was b.values.change ++ codes "\n"))))
 
 abbrev pub set_line : Naming → ℕ → Break → List ℕ
-set_line naming i b = numbered_line naming (codes "break ") i b None
+set_line naming i b = numbered_line naming (codes "break ") i b Nothing
 
 abbrev pub deleted_line : Naming → ℕ → Break → List ℕ
-deleted_line naming i b = numbered_line naming (codes "deleted ") i b None
+deleted_line naming i b = numbered_line naming (codes "deleted ") i b Nothing
 
 -- a breakpoint that stops
-abbrev pub stops_line : Naming → ℕ → Break → Option ℕ → List ℕ
+abbrev pub stops_line : Naming → ℕ → Break → Reading → List ℕ
 stops_line naming i b was = numbered_line naming (codes "break ") i b was
 
 -- a line for each, from a number on

@@ -4,7 +4,7 @@ use Rattle.std.specs.List.{list_all, starts_with}
 use Rattle.table_run.specs.State.{State}
 use Rattle.net_machine.specs.Run.{Reached}
 use Rattle.flow_waits.specs.declared.names.ScenarioNames.{ScenarioNames}
-use Rattle.debugger.specs.Reads.{read_in}
+use Rattle.debugger.specs.Seen.{read_in}
 use Rattle.debug_session.specs.declared.command.Request.{Request}
 use Rattle.debug_session.specs.declared.command.Request.TheVariants.{Command, Display}
 use Rattle.debug_session.specs.declared.command.Typed.{Typed as TypedCommand}
@@ -18,7 +18,7 @@ use Rattle.debug_session.specs.Answers.{SessionState, session_state, refusal_lin
 use Rattle.debug_session.specs.Displays.{Reads, displays_from, ObeysDisplays}
 use Rattle.debug_session.specs.Input.{words_in}
 use Rattle.debug_session.specs.Memos.{known_after, knowing, no_memo}
-use Rattle.debug_session.specs.Names.{begins}
+use Rattle.debug_session.specs.Entries.{begins}
 use Rattle.debug_session.specs.Taking.{Takes}
 use Rattle.debug_session.specs.TypedAnswers.{ObeysTyped, last_after, is_move}
 use Rattle.debug_session.specs.TypedGrammar.{TypedReading, typed_reading}

@@ -5,13 +5,15 @@ use Rattle.trace_text.specs.DumpParts.{part_bytes}
 use Rattle.debug_session.specs.Missing.{why_text}
 use Rattle.debugger.specs.declared.breaks.Break.{Break}
 use Rattle.debugger.specs.Breaks.{IsTakenOut}
-use Rattle.debug_session.specs.declared.command.Command.TheVariants.{Go, State, SetBreak, Clear}
+use Rattle.debug_session.specs.declared.command.Command.TheVariants as command
 use Rattle.debug_session.specs.declared.command.Typed.{Typed}
-use Rattle.debug_session.specs.declared.command.Typed.TheVariants.{Plain, Part, Why, Stalls, Breaks, Delete, Lines, Where, Names, Help, HelpOn}
+use Rattle.debug_session.specs.declared.command.Typed.TheVariants.{Go, State, SetBreak, Delete, Clear, Breaks, Show}
+use Rattle.debug_session.specs.declared.command.Shown.{Shown}
+use Rattle.debug_session.specs.declared.command.Shown.TheVariants.{Part, Why, Stalls, Lines, Where, Names, Help, HelpOn}
 use Rattle.debug_session.specs.declared.naming.Naming.{Naming}
 use Rattle.debug_session.specs.declared.refusal.Refusal.TheVariants.{B4, B5, M}
-use Rattle.debug_session.specs.Answers.{SessionState, GoesTo, Stays, Does, CanBeRefused, refusal_line}
-use Rattle.debug_session.specs.Help.{help_text, help_on}
+use Rattle.debug_session.specs.Answers.{SessionState, GoesTo, Stays, Does, refusal_line}
+use Rattle.debug_session.specs.Entries.{help_text, help_on}
 use Rattle.debug_session.specs.NamesReported.{names_text}
 use Rattle.debug_session.specs.StallLists.{TellsStalls}
 use Rattle.debug_session.specs.Numbered.{IsNumber, HasNumber, set_line, deleted_line, listing}
@@ -43,30 +45,36 @@ pub record TakesAway (naming : Naming) (i : ℕ) (old new : SessionState) (out :
 abbrev pub Deletes : Naming → ℕ → SessionState → SessionState → List ℕ → Type 0
 Deletes naming i old new out = TakesAway naming i old new out ⊎ (¬ HasNumber old.breaks i × Stays old new out (refusal_line B5))
 
--- a command is done, where the nodes, links and flows are called so: moves go where they go in a session whose lines are all there, and `state` and `clear` are answered as there
+-- what is shown where a session stands, where the nodes, links and flows are called so
+abbrev pub Tells : Naming → NetState → SessionState → Shown → List ℕ → Type 0
+Tells naming start at (Part part) out = out ≡ part_bytes part at.shown
+Tells naming start at (Why flow) out = out ≡ why_text naming.names flow start at.shown
+Tells naming start at Stalls out = TellsStalls naming.names.flows start out
+Tells naming start at (Lines count) out = out ≡ last_lines start at.shown.position count
+Tells naming start at (Where known) out = out ≡ where_text start at.shown known
+Tells naming start at Names out = out ≡ names_text naming
+Tells naming start at Help out = out ≡ help_text
+Tells naming start at (HelpOn place) out = out ≡ help_on place
+
+-- a command is done: moves go where they go in a session whose lines are all there, and `state` and `clear` are answered as there
 abbrev pub DoesTyped : Naming → NetState → Typed → SessionState → SessionState → List ℕ → Type 0
-DoesTyped naming start (Plain (Go move)) old new out = MovesPast naming start (report_of move old.shown.position) (GoesTo move start old) old new out
-DoesTyped naming start (Plain State) old new out = Does start State old new out
-DoesTyped naming start (Plain (SetBreak b)) old new out = SetsNumbered naming b old new out
-DoesTyped naming start (Plain Clear) old new out = Does start Clear old new out
-DoesTyped naming start (Part part) old new out = Stays old new out (part_bytes part old.shown)
-DoesTyped naming start (Why flow) old new out = Stays old new out (why_text naming.names flow start old.shown)
-DoesTyped naming start Stalls old new out = (new ≡ old) × TellsStalls naming.names.flows start out
-DoesTyped naming start Breaks old new out = Stays old new out (listing naming old.breaks)
+DoesTyped naming start (Go move) old new out = MovesPast naming start (report_of move old.shown.position) (GoesTo move start old) old new out
+DoesTyped naming start State old new out = Does start command.State old new out
+DoesTyped naming start (SetBreak b) old new out = SetsNumbered naming b old new out
 DoesTyped naming start (Delete i) old new out = Deletes naming i old new out
-DoesTyped naming start (Lines count) old new out = Stays old new out (last_lines start old.shown.position count)
-DoesTyped naming start (Where known) old new out = Stays old new out (where_text start old.shown known)
-DoesTyped naming start Names old new out = Stays old new out (names_text naming)
-DoesTyped naming start Help old new out = Stays old new out help_text
-DoesTyped naming start (HelpOn topic) old new out = Stays old new out (help_on topic)
+DoesTyped naming start Clear old new out = Does start command.Clear old new out
+DoesTyped naming start Breaks old new out = Stays old new out (listing naming old.breaks)
+DoesTyped naming start (Show what) old new out = (new ≡ old) × Tells naming start old what out
 
 -- the command can be refused for want of memory or of workers, or as too many events were run
 abbrev pub TypedCanBeRefused : Typed → SessionState → Type 0
-TypedCanBeRefused (Plain (SetBreak b)) old = Contains old.breaks b ⊎ (length old.breaks < 64)
-TypedCanBeRefused (Plain asked) old = CanBeRefused asked old
+TypedCanBeRefused (Go move) old = Unit {0}
+TypedCanBeRefused State old = Unit {0}
+TypedCanBeRefused (SetBreak b) old = Contains old.breaks b ⊎ (length old.breaks < 64)
 TypedCanBeRefused (Delete i) old = HasNumber old.breaks i
+TypedCanBeRefused Clear old = ⊥
 TypedCanBeRefused Breaks old = 0 < length old.breaks
-TypedCanBeRefused asked old = Unit {0}
+TypedCanBeRefused (Show what) old = Unit {0}
 
 -- a command is done, or refused for want of memory or of workers
 abbrev pub ObeysTyped : Naming → NetState → Typed → SessionState → SessionState → List ℕ → Type 0
@@ -74,7 +82,7 @@ ObeysTyped naming start asked old new out = DoesTyped naming start asked old new
 
 -- the last move, once a command was read
 abbrev pub last_after : Typed → Option Typed → Option Typed
-last_after (Plain (Go move)) last = Some (Plain (Go move))
+last_after (Go move) last = Some (Go move)
 last_after asked last = last
 
 -- a command is a move, which an empty line does again

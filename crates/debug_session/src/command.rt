@@ -4,7 +4,6 @@ ghost use Rattle.debug_session.specs.Sessions.{limits_of};
 
 use crate::display::DisplayCommand;
 use crate::memo::Extent;
-use crate::topic::Topic;
 use debugger::Break;
 use scenario_image::Scenario;
 use sim_time::Time;
@@ -42,31 +41,44 @@ pub enum Command {
     Clear,
 }
 
+/// What is shown, which changes nothing.
+#[derive(Clone, Copy)]
+pub enum Shown {
+    /// A part of the state.
+    Part(DumpPart),
+    /// What a flow waits for.
+    Why(u16),
+    /// All stalls of the run.
+    Stalls,
+    /// The last so many lines of the trace.
+    Lines(u64),
+    /// Where the session stands, and how far the run is known to go.
+    Where(Extent),
+    /// The names of nodes, links and flows.
+    Names,
+    /// What can be typed.
+    Help,
+    /// What there is to say of the entry at this place in the table.
+    HelpOn(usize),
+}
+
 /// What is asked of a session at a prompt.
 #[derive(Clone, Copy)]
 pub enum Typed {
-    /// A move, or what a session whose lines are all there from the start is asked too.
-    Plain(Command),
-    /// Nothing but to see a part of the state.
-    Part(DumpPart),
-    /// Nothing but to see what a flow waits for.
-    Why(u16),
-    /// Nothing but to see all stalls of the run.
-    Stalls,
-    /// Nothing but to see the breakpoints.
-    Breaks,
+    /// A move.
+    Go(Move),
+    /// Nothing but to see the state.
+    State,
+    /// To stop there too.
+    SetBreak(Break),
     /// To take away the breakpoint of this number.
     Delete(u64),
-    /// Nothing but to see the last so many lines of the trace.
-    Lines(u64),
-    /// Nothing but to see where the session stands, and how far the run is known to go.
-    Where(Extent),
-    /// Nothing but to see the names of nodes, links and flows.
-    Names,
-    /// Nothing but to see what can be typed.
-    Help,
-    /// Nothing but to be told of a topic.
-    HelpOn(Topic),
+    /// To stop nowhere.
+    Clear,
+    /// Nothing but to see the breakpoints.
+    Breaks,
+    /// Nothing but to see this.
+    Show(Shown),
 }
 
 /// What a line that is typed asks for.

@@ -1,14 +1,16 @@
 //! What is displayed after each move.
 ghost use Rattle.std.specs.Prelude.{◌≡◌, ◌<◌, ◌↔◌, IsTrue, MatchBool, MatchOption, Contains, length, slice_index_or};
+ghost use Rattle.debugger.specs.Values.{owner_of};
 ghost use Rattle.debug_session.specs.Input.{words_in};
-ghost use Rattle.debug_session.specs.DisplayGrammar.{of_link, item_asked, display_asked};
+ghost use Rattle.debug_session.specs.DisplayGrammar.{sort_of_owner, value_asked, item_asked, display_asked};
 ghost use Rattle.debug_session.specs.Numbered.{IsNumber};
+ghost use Rattle.debug_session.specs.Refusals.{by_code};
 
 use crate::conditions::{Sort, sort_named};
 use crate::cut::next_word;
 use crate::naming::{Naming, PartSort};
-use crate::refusal::Refusal;
-use debugger::{LinkValue, Readable, ValueOf};
+use crate::refusal::{Refusal, Refused};
+use debugger::{Owner, Value, ValueOf};
 
 /// The most displays that there are at one time.
 pub(crate) const MOST_DISPLAYS: usize = 64;
@@ -21,7 +23,7 @@ pub enum DisplayItem {
     /// All values of the link of this number.
     Link(u16),
     /// One value.
-    One(Readable),
+    One(ValueOf),
 }
 
 /// What is asked of the displays of a session.
@@ -35,48 +37,64 @@ pub enum DisplayCommand {
     TakeAway(u64),
 }
 
-/// The value of a link.
-fn of_link(value: LinkValue, link: u16) -> Readable
-    ensures { result ≡ of_link value link }
+/// The sort of the parts that have a value.
+fn sort_of_owner(owner: Owner) -> Option<PartSort>
+    ensures { result ≡ sort_of_owner owner }
 {
-    match value {
-        LinkValue::Queue => Readable::Queue(link),
-        LinkValue::Wait => Readable::Wait(link),
-        LinkValue::Count => Readable::Count(link),
+    match owner {
+        Owner::Flow => Some(PartSort::Flow),
+        Owner::Link => Some(PartSort::Link),
+        Owner::Nothing => None,
+    }
+}
+
+/// What is displayed of a value, of the part that the only word of a line means.
+fn value_asked<'a>(
+    naming: &Naming,
+    value: Value,
+    line: &'a [u8],
+) -> Result<DisplayItem, Refused<'a>>
+    ensures { by_code result ≡ value_asked naming.now value (sort_of_owner (owner_of value)) (words_in line.now) }
+{
+    match sort_of_owner(value.owner()) {
+        Some(sort) => {
+            let of = naming.one_part(sort, line)?;
+            Ok(DisplayItem::One(ValueOf { value, of }))
+        }
+        None => Err(Refused::from(Refusal::B1)),
     }
 }
 
 /// What a sort says is displayed, of the part that the only word of a line means.
-fn item_asked(naming: &Naming, sort: Sort, line: &[u8]) -> Result<DisplayCommand, Refusal>
-    ensures { result ≡ item_asked naming.now sort (words_in line.now) }
+fn item_asked<'a>(
+    naming: &Naming,
+    sort: Sort,
+    line: &'a [u8],
+) -> Result<DisplayCommand, Refused<'a>>
+    ensures { by_code result ≡ item_asked naming.now sort (words_in line.now) }
 {
     let item = match sort {
         Sort::Flow => DisplayItem::Flow(naming.one_part(PartSort::Flow, line)?),
         Sort::Link => DisplayItem::Link(naming.one_part(PartSort::Link, line)?),
-        Sort::OfFlow(value) => {
-            let flow = naming.one_part(PartSort::Flow, line)?;
-            DisplayItem::One(Readable::Value(ValueOf { value, flow }))
-        }
-        Sort::Phase => DisplayItem::One(Readable::Phase(naming.one_part(PartSort::Flow, line)?)),
-        Sort::OfLink(value) => {
-            let link = naming.one_part(PartSort::Link, line)?;
-            DisplayItem::One(of_link(value, link))
-        }
-        Sort::Node | Sort::Kind | Sort::Drop | Sort::Byte | Sort::Time | Sort::Change => {
-            return Err(Refusal::B1);
+        Sort::Value(value) => value_asked(naming, value, line)?,
+        Sort::Node | Sort::Kind | Sort::Drop | Sort::Byte | Sort::Change => {
+            return Err(Refused::from(Refusal::B1));
         }
     };
     Ok(DisplayCommand::Add(item))
 }
 
 /// What is asked by the words behind `display`.
-pub(crate) fn display_asked(naming: &Naming, line: &[u8]) -> Result<DisplayCommand, Refusal>
-    ensures { result ≡ display_asked naming.now (words_in line.now) }
+pub(crate) fn display_asked<'a>(
+    naming: &Naming,
+    line: &'a [u8],
+) -> Result<DisplayCommand, Refused<'a>>
+    ensures { by_code result ≡ display_asked naming.now (words_in line.now) }
 {
     match next_word(line) {
         None => Ok(DisplayCommand::All),
         Some((word, rest)) => match sort_named(word) {
-            None => Err(Refusal::B1),
+            None => Err(Refused::from(Refusal::B1)),
             Some(sort) => item_asked(naming, sort, rest),
         },
     }

@@ -1,59 +1,46 @@
 //! Displays, as they are told.
-ghost use Rattle.std.specs.Prelude.{◌≡◌, ◌+◌, ◌++◌, OnOk};
-ghost use Rattle.debug_session.specs.Displays.{readable_text, readable_unit, reading_text, is_same_reading, reading_before, value_shown, of_sender, windows_shown, bytes_shown, timing_shown, link_shown, item_text, item_shown, display_line, displays_from, undisplayed_line};
+ghost use Rattle.std.specs.Prelude.{◌≡◌, ◌+◌, ◌++◌, codes, OnOk};
+ghost use Rattle.std.specs.List.{flat_map};
+ghost use Rattle.debug_session.specs.Displays.{readable_text, is_same_reading, reading_before, value_shown, one_shown, more_of_flow, more_of_link, all_shown, item_text, item_shown, display_line, displays_from, undisplayed_line};
 ghost use Rattle.debug_session.specs.Readouts.{now_of, was_of};
 
 use crate::display::DisplayItem;
 use crate::grammar::is;
 use crate::names_reported::{append_behind, append_number};
 use crate::readout::Readout;
-use crate::value_texts::{phase_word, value_name, value_unit};
-use debugger::{FlowValue, Readable, Reading, SenderValue, ValueOf};
+use crate::value_names::{phase_word, value_name, value_unit};
+use crate::value_texts::append_reading;
+use debugger::{Owner, Reading, Value, ValueOf};
 use flow_waits::ScenarioNames;
 use std::alloc::AllocError;
+
+/// The values of a flow behind the first.
+static MORE_OF_FLOW: [Value; 8] = [
+    Value::Flight,
+    Value::Ssthresh,
+    Value::Una,
+    Value::Nxt,
+    Value::Rto,
+    Value::Dups,
+    Value::Phase,
+    Value::Next,
+];
+
+/// Those of a link.
+static MORE_OF_LINK: [Value; 2] = [Value::Wait, Value::Count];
 
 // Appends a value and whose it is.
 fn append_readable(
     out: &mut Vec<u8>,
     names: &ScenarioNames,
-    what: Readable,
+    what: ValueOf,
 ) -> Result<(), AllocError>
     ensures { OnOk result (out.new.items ≡ out.old.items ++ readable_text names.now what) }
 {
-    match what {
-        Readable::Value(v) => {
-            out.extend_from_slice(value_name(v.value))?;
-            append_behind(out, b" ", &names.flows, v.flow)
-        }
-        Readable::Phase(flow) => append_behind(out, b"phase ", &names.flows, flow),
-        Readable::Queue(link) => append_behind(out, b"queue ", &names.links, link),
-        Readable::Wait(link) => append_behind(out, b"wait ", &names.links, link),
-        Readable::Count(link) => append_behind(out, b"count ", &names.links, link),
-    }
-}
-
-// The unit of a value, where it has one.
-fn readable_unit(what: Readable) -> &'static [u8]
-    ensures { result.now ≡ readable_unit what }
-{
-    match what {
-        Readable::Value(v) => value_unit(v.value),
-        Readable::Wait(_) => b"ns",
-        Readable::Phase(_) | Readable::Queue(_) | Readable::Count(_) => b"",
-    }
-}
-
-// Appends what is read, with a unit.
-fn append_reading(out: &mut Vec<u8>, unit: &[u8], reading: Reading) -> Result<(), AllocError>
-    ensures { OnOk result (out.new.items ≡ out.old.items ++ reading_text unit.now reading) }
-{
-    match reading {
-        Reading::Number(n) => {
-            append_number(out, n)?;
-            out.extend_from_slice(unit)
-        }
-        Reading::Phase(phase) => out.extend_from_slice(phase_word(phase)),
-        Reading::Nothing => out.extend_from_slice(b"-"),
+    out.extend_from_slice(value_name(what.value))?;
+    match what.value.owner() {
+        Owner::Link => append_behind(out, b" ", &names.links, what.of),
+        Owner::Flow | Owner::Nothing => append_behind(out, b" ", &names.flows, what.of),
     }
 }
 
@@ -87,76 +74,68 @@ fn append_before(
     }
 }
 
-// Appends a value behind a label.
-fn append_value(
-    out: &mut Vec<u8>,
-    readout: &Readout<'_>,
-    label: &[u8],
-    what: Readable,
-) -> Result<(), AllocError>
-    ensures { OnOk result (out.new.items ≡ out.old.items ++ value_shown (was_of readout.now) (now_of readout.now) label.now what) }
+// Appends what is read of a value.
+fn append_value(out: &mut Vec<u8>, readout: &Readout<'_>, what: ValueOf) -> Result<(), AllocError>
+    ensures { OnOk result (out.new.items ≡ out.old.items ++ value_shown (was_of readout.now) (now_of readout.now) what) }
 {
     let now = readout.now(what);
-    out.extend_from_slice(label)?;
-    append_reading(out, readable_unit(what), now)?;
-    append_before(out, readable_unit(what), readout.was(what), now)
+    out.extend_from_slice(b" = ")?;
+    append_reading(out, value_unit(what.value), now)?;
+    append_before(out, value_unit(what.value), readout.was(what), now)
 }
 
-// Appends a value of the sender of a flow behind a label.
-fn append_of_sender(
+// Appends a value with its name behind a mark.
+fn append_one(
     out: &mut Vec<u8>,
     readout: &Readout<'_>,
-    label: &[u8],
-    value: SenderValue,
-    flow: u16,
+    mark: &[u8],
+    what: ValueOf,
 ) -> Result<(), AllocError>
-    ensures { OnOk result (out.new.items ≡ out.old.items ++ value_shown (was_of readout.now) (now_of readout.now) label.now (of_sender value flow)) }
+    ensures { OnOk result (out.new.items ≡ out.old.items ++ one_shown (was_of readout.now) (now_of readout.now) mark.now what.of what.value) }
 {
-    let what = ValueOf {
-        value: FlowValue::Sender(value),
-        flow,
+    out.extend_from_slice(mark)?;
+    out.extend_from_slice(value_name(what.value))?;
+    append_value(out, readout, what)
+}
+
+// Appends more values of the flow or the link of a number.
+fn append_more(
+    out: &mut Vec<u8>,
+    readout: &Readout<'_>,
+    values: &[Value],
+    of: u16,
+) -> Result<(), AllocError>
+    ensures { OnOk result (out.new.items ≡ out.old.items ++ flat_map (one_shown (was_of readout.now) (now_of readout.now) (codes ", ") of) values.now) }
+{
+    for value in values {
+        let what = ValueOf { value: *value, of };
+        append_one(out, readout, b", ", what)?;
+    }
+    Ok(())
+}
+
+// Appends all values of a flow.
+fn append_flow(out: &mut Vec<u8>, readout: &Readout<'_>, of: u16) -> Result<(), AllocError>
+    ensures { OnOk result (out.new.items ≡ out.old.items ++ all_shown (was_of readout.now) (now_of readout.now) of Value.Cwnd more_of_flow) }
+{
+    let first = ValueOf {
+        value: Value::Cwnd,
+        of,
     };
-    append_value(out, readout, label, Readable::Value(what))
-}
-
-// Appends the windows of a sender.
-fn append_windows(out: &mut Vec<u8>, readout: &Readout<'_>, flow: u16) -> Result<(), AllocError>
-    ensures { OnOk result (out.new.items ≡ out.old.items ++ windows_shown (was_of readout.now) (now_of readout.now) flow) }
-{
-    append_of_sender(out, readout, b": cwnd = ", SenderValue::Cwnd, flow)?;
-    append_of_sender(out, readout, b", flight = ", SenderValue::Flight, flow)?;
-    append_of_sender(out, readout, b", ssthresh = ", SenderValue::Ssthresh, flow)
-}
-
-// Appends the byte that is not acknowledged, and the next byte to send.
-fn append_bytes(out: &mut Vec<u8>, readout: &Readout<'_>, flow: u16) -> Result<(), AllocError>
-    ensures { OnOk result (out.new.items ≡ out.old.items ++ bytes_shown (was_of readout.now) (now_of readout.now) flow) }
-{
-    append_of_sender(out, readout, b", una = ", SenderValue::Una, flow)?;
-    append_of_sender(out, readout, b", nxt = ", SenderValue::Nxt, flow)
-}
-
-// Appends the timer, the duplicates, the phase, and the byte that the receiver waits for.
-fn append_timing(out: &mut Vec<u8>, readout: &Readout<'_>, flow: u16) -> Result<(), AllocError>
-    ensures { OnOk result (out.new.items ≡ out.old.items ++ timing_shown (was_of readout.now) (now_of readout.now) flow) }
-{
-    append_of_sender(out, readout, b", rto = ", SenderValue::Rto, flow)?;
-    append_of_sender(out, readout, b", dups = ", SenderValue::Dups, flow)?;
-    append_value(out, readout, b", phase = ", Readable::Phase(flow))?;
-    let next = ValueOf {
-        value: FlowValue::Next,
-        flow,
-    };
-    append_value(out, readout, b", next = ", Readable::Value(next))
+    append_one(out, readout, b": ", first)?;
+    append_more(out, readout, &MORE_OF_FLOW, of)
 }
 
 // Appends all values of a link.
-fn append_link(out: &mut Vec<u8>, readout: &Readout<'_>, link: u16) -> Result<(), AllocError>
-    ensures { OnOk result (out.new.items ≡ out.old.items ++ link_shown (was_of readout.now) (now_of readout.now) link) }
+fn append_link(out: &mut Vec<u8>, readout: &Readout<'_>, of: u16) -> Result<(), AllocError>
+    ensures { OnOk result (out.new.items ≡ out.old.items ++ all_shown (was_of readout.now) (now_of readout.now) of Value.Queue more_of_link) }
 {
-    append_value(out, readout, b": queue = ", Readable::Queue(link))?;
-    append_value(out, readout, b", wait = ", Readable::Wait(link))?;
-    append_value(out, readout, b", count = ", Readable::Count(link))
+    let first = ValueOf {
+        value: Value::Queue,
+        of,
+    };
+    append_one(out, readout, b": ", first)?;
+    append_more(out, readout, &MORE_OF_LINK, of)
 }
 
 // Appends what is displayed.
@@ -183,13 +162,9 @@ fn append_shown(
     ensures { OnOk result (out.new.items ≡ out.old.items ++ item_shown (was_of readout.now) (now_of readout.now) item) }
 {
     match item {
-        DisplayItem::Flow(flow) => {
-            append_windows(out, readout, flow)?;
-            append_bytes(out, readout, flow)?;
-            append_timing(out, readout, flow)
-        }
+        DisplayItem::Flow(flow) => append_flow(out, readout, flow),
         DisplayItem::Link(link) => append_link(out, readout, link),
-        DisplayItem::One(what) => append_value(out, readout, b" = ", what),
+        DisplayItem::One(what) => append_value(out, readout, what),
     }
 }
 

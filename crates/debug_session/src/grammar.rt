@@ -119,7 +119,7 @@ pub(crate) fn kind_named(word: &[u8]) -> Option<EventKind>
 }
 
 /// The command that sets a breakpoint of one condition.
-pub(crate) fn sets(condition: Condition) -> Command
+fn sets(condition: Condition) -> Command
     ensures { result ≡ sets condition }
 {
     Command::SetBreak(Break::of(condition))
@@ -139,7 +139,7 @@ fn one_kind(line: &[u8]) -> Result<Command, Refusal>
 }
 
 /// A command, where a line has no word.
-pub(crate) fn alone(command: Command, line: &[u8]) -> Result<Command, Refusal>
+fn alone(command: Command, line: &[u8]) -> Result<Command, Refusal>
     ensures { result ≡ no_word_left command (words_in line.now) }
 {
     match next_word(line) {
@@ -149,7 +149,7 @@ pub(crate) fn alone(command: Command, line: &[u8]) -> Result<Command, Refusal>
 }
 
 /// The breakpoint of one condition that the words behind `break` name.
-pub(crate) fn breakpoint(limits: Limits, line: &[u8]) -> Result<Command, Refusal>
+fn breakpoint(limits: Limits, line: &[u8]) -> Result<Command, Refusal>
     ensures { result ≡ breakpoint limits (words_in line.now) }
 {
     let Some((sort, rest)) = next_word(line) else {

@@ -3,7 +3,7 @@ ghost use Rattle.std.specs.Prelude.{◌≡◌};
 ghost use Rattle.debug_session.specs.Answers.{session_state};
 ghost use Rattle.debug_session.specs.Memos.{nothing_known, known_after, knowing, no_memo};
 
-use crate::command::Typed;
+use crate::command::{Shown, Typed};
 use debugger::Debugger;
 
 /// How far a run is known to go.
@@ -63,7 +63,7 @@ pub(crate) fn knowing(known: Extent, asked: Typed) -> Typed
     ensures { result ≡ knowing known asked }
 {
     match asked {
-        Typed::Where(_) => Typed::Where(known),
+        Typed::Show(Shown::Where(_)) => Typed::Show(Shown::Where(known)),
         _ => asked,
     }
 }

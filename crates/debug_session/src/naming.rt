@@ -1,12 +1,13 @@
 //! How the nodes, links and flows of a scenario are called.
-ghost use Rattle.std.specs.Prelude.{◌≡◌, IfOk};
+ghost use Rattle.std.specs.Prelude.{◌≡◌, IfOk, ok_or};
 ghost use Rattle.scenario_asm.specs.Text.{number_among};
 ghost use Rattle.debug_session.specs.Input.{words_in};
+ghost use Rattle.debug_session.specs.Refusals.{by_code};
 ghost use Rattle.debug_session.specs.Namings.{naming_by, by_numbers, count_of, names_of, sort_of, part_meant, one_part};
 
 use crate::command::Limits;
 use crate::grammar::{is_numeral, number_below, one_word};
-use crate::refusal::Refusal;
+use crate::refusal::{Expected, Misnamed, Refusal, Refused};
 use flow_waits::{PartNames, ScenarioNames};
 use scenario_asm::NamedParts;
 use std::alloc::{AllocError, Global};
@@ -86,7 +87,7 @@ impl Naming {
     }
 
     /// The sort of the part that has a name.
-    pub(crate) fn sort_named(&self, name: &[u8]) -> Option<PartSort>
+    fn sort_named(&self, name: &[u8]) -> Option<PartSort>
         ensures { result ≡ sort_of self.now name.now }
     {
         if self.names.nodes.number_of(name).is_some() {
@@ -117,13 +118,36 @@ impl Naming {
         }
     }
 
-    /// The number of the part of a sort that the only word of a line means.
-    pub(crate) fn one_part(&self, sort: PartSort, line: &[u8]) -> Result<u16, Refusal>
-        ensures { result ≡ one_part self.now sort (words_in line.now) }
+    /// A word that is the name of a part of another sort than this one.
+    pub(crate) fn misnamed<'a>(&self, asked: PartSort, word: &'a [u8]) -> Option<Misnamed<'a>> {
+        if self.part(asked, word).is_some() {
+            return None;
+        }
+        let sort = self.sort_named(word)?;
+        Some(Misnamed { word, sort })
+    }
+
+    /// The number of the part of a sort that a word has to mean.
+    pub(crate) fn meant<'a>(&self, sort: PartSort, word: &'a [u8]) -> Result<u16, Refused<'a>>
+        ensures { by_code result ≡ ok_or (part_meant self.now sort word.now) Refusal.B3 }
+    {
+        match self.part(sort, word) {
+            Some(number) => Ok(number),
+            None => Err(Refused {
+                code: Refusal::B3,
+                expected: Some(Expected::Part),
+                misnamed: self.misnamed(sort, word),
+            }),
+        }
+    }
+
+    /// The number of the part of a sort that the only word of a line has to mean.
+    pub(crate) fn one_part<'a>(&self, sort: PartSort, line: &'a [u8]) -> Result<u16, Refused<'a>>
+        ensures { by_code result ≡ one_part self.now sort (words_in line.now) }
     {
         match one_word(line) {
-            None => Err(Refusal::B2),
-            Some(word) => self.part(sort, word).ok_or(Refusal::B3),
+            None => Err(Refused::from(Refusal::B2)),
+            Some(word) => self.meant(sort, word),
         }
     }
 }

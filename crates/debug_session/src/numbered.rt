@@ -5,7 +5,7 @@ ghost use Rattle.debug_session.specs.Numbered.{byte_text, part_text, kind_text, 
 use crate::names_reported::{append_behind, append_number};
 use crate::naming::Naming;
 use crate::value_texts::{append_values, append_was};
-use debugger::{Break, EventKind, StallOf, is_among};
+use debugger::{Break, EventKind, Reading, StallOf, is_among};
 use flow_waits::PartNames;
 use std::alloc::AllocError;
 
@@ -109,7 +109,7 @@ pub(crate) fn append_numbered(
     word: &[u8],
     number: u64,
     b: Break,
-    was: Option<u64>,
+    was: Reading,
 ) -> Result<(), AllocError>
     ensures { OnOk result (out.new.items ≡ out.old.items ++ numbered_line naming.now word.now number b was) }
 {
@@ -136,7 +136,7 @@ pub(crate) fn append_listing(
             b"break ",
             index as u64 + 1,
             breaks[index],
-            None,
+            Reading::Nothing,
         )?;
     }
     Ok(())

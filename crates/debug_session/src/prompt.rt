@@ -6,7 +6,7 @@ ghost use Rattle.debug_session.specs.TypedAnswers as answers;
 ghost use Rattle.debug_session.specs.Answers.{session_state};
 ghost use Rattle.debug_session.specs.Readouts.{ShowsBehind};
 
-use crate::command::{Command, Request, Typed};
+use crate::command::{Request, Typed};
 use crate::dialogue::Dialogue;
 use crate::display::DisplayItem;
 use crate::displaying::{obey_display, show_behind};
@@ -63,7 +63,7 @@ fn last_after(asked: Typed, last: Option<Typed>) -> Option<Typed>
     ensures { result ≡ answers.last_after asked last }
 {
     match asked {
-        Typed::Plain(Command::Go(_)) => Some(asked),
+        Typed::Go(_) => Some(asked),
         _ => last,
     }
 }
@@ -249,7 +249,7 @@ fn follow_typed<H: Hands>(
 {
     match read_typed(naming, line) {
         None => move_again(hands, gate, dialogue, naming, said),
-        Some(Err(refusal)) => said.say_refused(refusal),
+        Some(Err(why)) => said.say_refused(why.code),
         Some(Ok(asked)) => obey_request(hands, gate, dialogue, naming, asked, said),
     }
 }

@@ -1,19 +1,20 @@
 //! From a line that is typed to a command.
 ghost use Rattle.std.specs.Prelude.{◌≡◌, ◌<◌, ◌≤◌, ◌^◌, ◌-◌, IfOk};
 ghost use Rattle.debug_session.specs.Input.{words_in};
-ghost use Rattle.debug_session.specs.TypedGrammar.{number_or, one_moment, goes_to, goes_to_moment, target_asked, goto_asked, break_number, one_break_number, plain, tells_part, part_asked, state_asked, why_asked, typed_alone, help_asked, command_typed, typed_reading};
+ghost use Rattle.debug_session.specs.Refusals.{by_code, line_by_code};
+ghost use Rattle.debug_session.specs.TypedGrammar.{number_or, one_moment, target, one_target, break_number, one_break_number, goes, shows, part_asked, state_asked, typed_alone, help_asked, plain_typed, command_typed, typed_reading};
 
-use crate::command::{Command, Move, Request, Typed};
+use crate::command::{Move, Request, Shown, Typed};
 use crate::conditions::break_asked;
 use crate::cut::next_word;
 use crate::display::{DisplayCommand, display_asked};
-use crate::grammar::{AMOUNTS, alone, is, is_numeral, number_below, one_number, one_word};
+use crate::entries::{name_of, topic_of};
+use crate::grammar::{AMOUNTS, is, is_numeral, number_below, one_number, one_word};
 use crate::memo::Extent;
 use crate::moment::moment_in;
-use crate::name::{CommandName, name_of};
+use crate::name::CommandName;
 use crate::naming::{Naming, PartSort};
-use crate::refusal::Refusal;
-use crate::topic::topic_of;
+use crate::refusal::{Refusal, Refused};
 use debugger::breaks::MOST_BREAKS;
 use trace_text::DumpPart;
 
@@ -68,14 +69,18 @@ fn break_number(word: &[u8]) -> Result<u64, Refusal>
     }
 }
 
-/// What a session whose lines are all there from the start is asked too.
-fn plain(read: Result<Command, Refusal>) -> Result<Request, Refusal>
-    ensures { result ≡ plain read }
+/// A move is asked for.
+fn goes(asked: Move) -> Request
+    ensures { result ≡ goes asked }
 {
-    match read {
-        Ok(command) => Ok(Request::Command(Typed::Plain(command))),
-        Err(refusal) => Err(refusal),
-    }
+    Request::Command(Typed::Go(asked))
+}
+
+/// Something is asked to be shown.
+fn shows(what: Shown) -> Request
+    ensures { result ≡ shows what }
+{
+    Request::Command(Typed::Show(what))
 }
 
 /// What is asked, where a line has no word.
@@ -88,93 +93,74 @@ fn typed_alone(asked: Typed, line: &[u8]) -> Result<Request, Refusal>
     }
 }
 
+/// What is shown, where a line has no word.
+fn shown_alone(what: Shown, line: &[u8]) -> Result<Request, Refusal>
+    ensures { result ≡ typed_alone (Typed.Show what) (words_in line.now) }
+{
+    typed_alone(Typed::Show(what), line)
+}
+
 /// What is asked by the words behind `help`.
 fn help_asked(line: &[u8]) -> Result<Request, Refusal>
     ensures { result ≡ help_asked (words_in line.now) }
 {
     match next_word(line) {
-        None => Ok(Request::Command(Typed::Help)),
+        None => Ok(shows(Shown::Help)),
         Some((word, rest)) => match topic_of(word) {
             None => Err(Refusal::B1),
-            Some(topic) => typed_alone(Typed::HelpOn(topic), rest),
+            Some(place) => shown_alone(Shown::HelpOn(place), rest),
         },
     }
 }
 
 /// The part of a state of a sort, with the words behind that.
-fn part_asked(naming: &Naming, sort: &[u8], line: &[u8]) -> Result<Request, Refusal>
-    ensures { result ≡ part_asked naming.now sort.now (words_in line.now) }
+fn part_asked<'a>(naming: &Naming, sort: &[u8], line: &'a [u8]) -> Result<DumpPart, Refused<'a>>
+    ensures { by_code result ≡ part_asked naming.now sort.now (words_in line.now) }
 {
     if is(sort, b"node") {
-        let node = naming.one_part(PartSort::Node, line)?;
-        Ok(Request::Command(Typed::Part(DumpPart::Node(node))))
+        Ok(DumpPart::Node(naming.one_part(PartSort::Node, line)?))
     } else if is(sort, b"link") {
-        let link = naming.one_part(PartSort::Link, line)?;
-        Ok(Request::Command(Typed::Part(DumpPart::Link(link))))
+        Ok(DumpPart::Link(naming.one_part(PartSort::Link, line)?))
     } else if is(sort, b"flow") {
-        let flow = naming.one_part(PartSort::Flow, line)?;
-        Ok(Request::Command(Typed::Part(DumpPart::Flow(flow))))
+        Ok(DumpPart::Flow(naming.one_part(PartSort::Flow, line)?))
     } else {
-        Err(Refusal::B1)
+        Err(Refused::from(Refusal::B1))
     }
 }
 
 /// What is asked by the words behind `state`.
-fn state_asked(naming: &Naming, line: &[u8]) -> Result<Request, Refusal>
-    ensures { result ≡ state_asked naming.now (words_in line.now) }
+fn state_asked<'a>(naming: &Naming, line: &'a [u8]) -> Result<Request, Refused<'a>>
+    ensures { by_code result ≡ state_asked naming.now (words_in line.now) }
 {
     match next_word(line) {
-        None => Ok(Request::Command(Typed::Plain(Command::State))),
-        Some((sort, rest)) => part_asked(naming, sort, rest),
-    }
-}
-
-/// The flow that is asked about by the words behind `why`.
-fn why_asked(naming: &Naming, line: &[u8]) -> Result<Request, Refusal>
-    ensures { result ≡ why_asked naming.now (words_in line.now) }
-{
-    let flow = naming.one_part(PartSort::Flow, line)?;
-    Ok(Request::Command(Typed::Why(flow)))
-}
-
-/// The position that a word is.
-fn goes_to(target: Option<u64>) -> Result<Request, Refusal>
-    ensures { result ≡ goes_to target }
-{
-    match target {
-        Some(target) => plain(Ok(Command::Go(Move::Goto(target)))),
-        None => Err(Refusal::B3),
-    }
-}
-
-/// The moment that a word is.
-fn goes_to_moment(time: Option<u64>) -> Result<Request, Refusal>
-    ensures { result ≡ goes_to_moment time }
-{
-    match time {
-        Some(time) => plain(Ok(Command::Go(Move::Moment(time)))),
-        None => Err(Refusal::B3),
+        None => Ok(Request::Command(Typed::State)),
+        Some((sort, rest)) => {
+            let part = part_asked(naming, sort, rest)?;
+            Ok(shows(Shown::Part(part)))
+        }
     }
 }
 
 /// The position or the moment that a word is.
-fn target_asked(word: &[u8]) -> Result<Request, Refusal>
-    ensures { result ≡ target_asked word.now }
+fn target(word: &[u8]) -> Result<Move, Refusal>
+    ensures { result ≡ target word.now }
 {
     if is_numeral(word) {
-        goes_to(number_below(word, AMOUNTS))
+        let position = number_below(word, AMOUNTS).ok_or(Refusal::B3)?;
+        Ok(Move::Goto(position))
     } else {
-        goes_to_moment(moment_in(word))
+        let time = moment_in(word).ok_or(Refusal::B3)?;
+        Ok(Move::Moment(time))
     }
 }
 
 /// The position or the moment that is gone to.
-fn goto_asked(line: &[u8]) -> Result<Request, Refusal>
-    ensures { result ≡ goto_asked (words_in line.now) }
+fn one_target(line: &[u8]) -> Result<Move, Refusal>
+    ensures { result ≡ one_target (words_in line.now) }
 {
     match one_word(line) {
         None => Err(Refusal::B2),
-        Some(word) => target_asked(word),
+        Some(word) => target(word),
     }
 }
 
@@ -192,46 +178,82 @@ fn lines_typed(line: &[u8]) -> Result<u64, Refusal>
     number_or(USUAL_LINES, line, MOST_LINES + 1)
 }
 
-/// The command of a name, with the words behind it.
-fn command_typed(
-    naming: &Naming,
-    name: Option<CommandName>,
-    rest: &[u8],
-) -> Result<Request, Refusal>
-    ensures { result ≡ command_typed naming.now name (words_in rest.now) }
+/// The command of a name, with the words behind it, where those name no node, link or flow.
+fn plain_typed(name: CommandName, rest: &[u8]) -> Result<Request, Refusal>
+    ensures { result ≡ plain_typed name (words_in rest.now) }
 {
     match name {
-        None => Err(Refusal::B1),
-        Some(CommandName::Step) => plain(Ok(Command::Go(Move::Step(count_typed(rest)?)))),
-        Some(CommandName::Back) => plain(Ok(Command::Go(Move::Back(count_typed(rest)?)))),
-        Some(CommandName::Break) => plain(break_asked(naming, rest)),
-        Some(CommandName::Breaks) => typed_alone(Typed::Breaks, rest),
-        Some(CommandName::Run) => plain(alone(Command::Go(Move::Run), rest)),
-        Some(CommandName::Reverse) => plain(alone(Command::Go(Move::Reverse), rest)),
-        Some(CommandName::Until) => plain(Ok(Command::Go(Move::Until(one_moment(rest)?)))),
-        Some(CommandName::State) => state_asked(naming, rest),
-        Some(CommandName::Lines) => Ok(Request::Command(Typed::Lines(lines_typed(rest)?))),
-        Some(CommandName::Delete) => Ok(Request::Command(Typed::Delete(one_break_number(rest)?))),
-        Some(CommandName::Clear) => plain(alone(Command::Clear, rest)),
-        Some(CommandName::Help) => help_asked(rest),
-        Some(CommandName::Quit) => Err(Refusal::B2),
-        Some(CommandName::Why) => why_asked(naming, rest),
-        Some(CommandName::Goto) => goto_asked(rest),
-        Some(CommandName::Where) => typed_alone(Typed::Where(Extent::nothing()), rest),
-        Some(CommandName::Names) => typed_alone(Typed::Names, rest),
-        Some(CommandName::Display) => Ok(Request::Display(display_asked(naming, rest)?)),
-        Some(CommandName::Undisplay) => {
+        CommandName::Step => Ok(goes(Move::Step(count_typed(rest)?))),
+        CommandName::Back => Ok(goes(Move::Back(count_typed(rest)?))),
+        CommandName::Breaks => typed_alone(Typed::Breaks, rest),
+        CommandName::Run => typed_alone(Typed::Go(Move::Run), rest),
+        CommandName::Reverse => typed_alone(Typed::Go(Move::Reverse), rest),
+        CommandName::Until => Ok(goes(Move::Until(one_moment(rest)?))),
+        CommandName::Lines => Ok(shows(Shown::Lines(lines_typed(rest)?))),
+        CommandName::Delete => Ok(Request::Command(Typed::Delete(one_break_number(rest)?))),
+        CommandName::Clear => typed_alone(Typed::Clear, rest),
+        CommandName::Help => help_asked(rest),
+        CommandName::Quit => Err(Refusal::B2),
+        CommandName::Goto => Ok(goes(one_target(rest)?)),
+        CommandName::Where => shown_alone(Shown::Where(Extent::nothing()), rest),
+        CommandName::Names => shown_alone(Shown::Names, rest),
+        CommandName::Undisplay => {
             let number = one_break_number(rest)?;
             Ok(Request::Display(DisplayCommand::TakeAway(number)))
         }
-        Some(CommandName::Stalls) => typed_alone(Typed::Stalls, rest),
+        CommandName::Stalls => shown_alone(Shown::Stalls, rest),
+        CommandName::Break | CommandName::State | CommandName::Why | CommandName::Display => {
+            Err(Refusal::B1)
+        }
+    }
+}
+
+/// What is read, with nothing to say of a word where it is refused.
+fn with_code<'a>(read: Result<Request, Refusal>) -> Result<Request, Refused<'a>>
+    ensures { by_code result ≡ read }
+{
+    match read {
+        Ok(asked) => Ok(asked),
+        Err(code) => Err(Refused::from(code)),
+    }
+}
+
+/// The command of a name, with the words behind it.
+fn command_typed<'a>(
+    naming: &Naming,
+    name: Option<CommandName>,
+    rest: &'a [u8],
+) -> Result<Request, Refused<'a>>
+    ensures { by_code result ≡ command_typed naming.now name (words_in rest.now) }
+{
+    match name {
+        None => Err(Refused::from(Refusal::B1)),
+        Some(CommandName::Break) => {
+            let b = break_asked(naming, rest)?;
+            Ok(Request::Command(Typed::SetBreak(b)))
+        }
+        Some(CommandName::State) => state_asked(naming, rest),
+        Some(CommandName::Why) => Ok(shows(Shown::Why(naming.one_part(PartSort::Flow, rest)?))),
+        Some(CommandName::Display) => Ok(Request::Display(display_asked(naming, rest)?)),
+        Some(name) => with_code(plain_typed(name, rest)),
     }
 }
 
 /// The command that a line says, or why it is refused; nothing where the line has no words.
-pub(crate) fn read_typed(naming: &Naming, line: &[u8]) -> Option<Result<Request, Refusal>>
-    ensures { result ≡ typed_reading naming.now line.now }
+pub(crate) fn read_typed<'a>(
+    naming: &Naming,
+    line: &'a [u8],
+) -> Option<Result<Request, Refused<'a>>>
+    ensures { line_by_code result ≡ typed_reading naming.now line.now }
 {
     let (word, rest) = next_word(line)?;
     Some(command_typed(naming, name_of(word), rest))
+}
+
+/// Why a line says no command, and what would fit.
+pub fn refused_in<'a>(naming: &Naming, line: &'a [u8]) -> Option<Refused<'a>> {
+    match read_typed(naming, line)? {
+        Ok(_) => None,
+        Err(why) => Some(why),
+    }
 }

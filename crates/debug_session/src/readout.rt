@@ -2,7 +2,7 @@
 ghost use Rattle.std.specs.Prelude.{◌≡◌};
 ghost use Rattle.debug_session.specs.Readouts.{now_of, was_of};
 
-use debugger::{Debugger, Readable, Reading};
+use debugger::{Debugger, Reading, ValueOf};
 use sim_time::Time;
 
 /// The state that a debugger shows, and the one before it that a display compares it with.
@@ -18,14 +18,14 @@ pub(crate) struct Readout<'a> {
 
 impl Readout<'_> {
     /// What is read of the state that is shown.
-    pub(crate) fn now(&self, what: Readable) -> Reading
+    pub(crate) fn now(&self, what: ValueOf) -> Reading
         ensures { result ≡ now_of self.now what }
     {
         self.debugger.read(self.time, what)
     }
 
     /// What was read of the one that it is compared with.
-    pub(crate) fn was(&self, what: Readable) -> Reading
+    pub(crate) fn was(&self, what: ValueOf) -> Reading
         ensures { result ≡ was_of self.now what }
     {
         match self.left {

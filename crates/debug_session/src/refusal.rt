@@ -1,4 +1,7 @@
 //! Why a command is refused.
+ghost use Rattle.std.specs.Prelude.{◌≡◌};
+
+use crate::naming::PartSort;
 
 /// Why a command is refused: the first of these that holds. A refused command changes nothing.
 #[derive(Clone, Copy)]
@@ -16,4 +19,60 @@ pub enum Refusal {
     B5,
     /// There was no memory, as many events were run as there may be, or a worker did not give back what it ran.
     M,
+}
+
+/// What is expected where a word does not fit.
+#[derive(Clone, Copy)]
+pub enum Expected {
+    /// A sort of condition.
+    Sort,
+    /// Another sort than one that is there already.
+    OtherSort,
+    /// A node, a link or a flow, by its name or its number.
+    Part,
+    /// A kind of events.
+    Kind,
+    /// A phase of a sender.
+    Phase,
+    /// A value of a flow, which changes.
+    Changing,
+    /// A sign.
+    Sign,
+    /// A moment, or a time that passes.
+    Time,
+    /// A number.
+    Number,
+}
+
+/// A word that is the name of a part of another sort than is asked for.
+#[derive(Clone, Copy)]
+pub struct Misnamed<'a> {
+    /// The word.
+    pub word: &'a [u8],
+    /// The sort of the part that it names.
+    pub sort: PartSort,
+}
+
+/// Why a line is refused, and what would fit.
+#[derive(Clone, Copy)]
+pub struct Refused<'a> {
+    /// Why.
+    pub code: Refusal,
+    /// What is expected at the first word that does not fit, or behind the last where one is missing.
+    pub expected: Option<Expected>,
+    /// The first name of a part of another sort than is asked for.
+    pub misnamed: Option<Misnamed<'a>>,
+}
+
+impl<'a> From<Refusal> for Refused<'a> {
+    /// With nothing to say of a word.
+    fn from(code: Refusal) -> Refused<'a>
+        ensures { result.code ≡ code }
+    {
+        Refused {
+            code,
+            expected: None,
+            misnamed: None,
+        }
+    }
 }

@@ -1,40 +1,31 @@
 //! The answer to a command.
 ghost use Rattle.std.specs.Prelude.{◌≡◌, ◌<◌, ◌≤◌, ◌+◌, ◌++◌, ◌⊎◌, [], MatchBool, OnOk, OnErr, length, drop, decimal};
 ghost use Rattle.trace_text.specs.Dump.{dump_bytes};
-ghost use Rattle.trace_text.specs.DumpParts.{part_bytes};
-ghost use Rattle.debug_session.specs.Missing.{why_text};
 ghost use Rattle.debugger.specs.Moves.{HasPosition};
 ghost use Rattle.debug_session.specs.Answers.{session_state, refusal_line, break_line, clear_line};
-ghost use Rattle.debugger.specs.Reads.{read_left_in};
+ghost use Rattle.debugger.specs.Seen.{read_left_in};
 ghost use Rattle.debug_session.specs.Displays.{present_line, display_listing, displays_from, undisplayed_line};
 ghost use Rattle.debug_session.specs.Readouts.{now_of, was_of, present, TellsBehind};
-ghost use Rattle.debug_session.specs.Help.{help_text, help_on};
-ghost use Rattle.debug_session.specs.NamesReported.{names_text};
 ghost use Rattle.debug_session.specs.Numbered.{set_line, deleted_line, listing};
-ghost use Rattle.debug_session.specs.StallLists.{TellsStalls};
-ghost use Rattle.debug_session.specs.TypedMoves.{TellsPast, where_text, last_lines};
+ghost use Rattle.debug_session.specs.TypedMoves.{TellsPast};
+ghost use Rattle.debug_session.specs.TypedAnswers.{Tells};
 
+use crate::command::Shown;
 use crate::display::DisplayItem;
 use crate::display_text::{append_display, append_displays, append_undisplayed};
-use crate::help::append_help;
-use crate::memo::Extent;
-use crate::missing::append_why;
-use crate::names_reported::append_names;
 use crate::naming::Naming;
 use crate::numbered::{append_listing, append_numbered};
 use crate::readout::Readout;
 use crate::refusal::Refusal;
 use crate::report::Report;
-use crate::stall_list::append_stalls;
-use crate::topic::{Topic, append_help_on};
-use crate::typed_move::{append_last, append_move, append_whereabouts, present_time};
-use debugger::{Break, Debugger};
-use flow_waits::{PartNames, ScenarioNames};
+use crate::shown::append_shown;
+use crate::typed_move::{append_move, present_time};
+use debugger::{Break, Debugger, Reading};
+use flow_waits::ScenarioNames;
 use itoa::write_digits;
 use sim_time::Time;
 use std::alloc::{AllocError, Global};
 use std::marker::Model;
-use trace_text::DumpPart;
 
 /// The room for a short answer, in bytes.
 const ROOM: usize = 768;
@@ -172,7 +163,14 @@ impl Said {
     {
         self.dump.clear();
         self.is_short = false;
-        append_numbered(&mut self.dump, naming, b"break ", number, b, None)
+        append_numbered(
+            &mut self.dump,
+            naming,
+            b"break ",
+            number,
+            b,
+            Reading::Nothing,
+        )
     }
 
     /// Answers that a breakpoint is taken away, with the number that it had.
@@ -186,7 +184,14 @@ impl Said {
     {
         self.dump.clear();
         self.is_short = false;
-        append_numbered(&mut self.dump, naming, b"deleted ", number, b, None)
+        append_numbered(
+            &mut self.dump,
+            naming,
+            b"deleted ",
+            number,
+            b,
+            Reading::Nothing,
+        )
     }
 
     /// Answers a line for each breakpoint. On a fault the answer is a part of that.
@@ -201,42 +206,6 @@ impl Said {
         self.dump.clear();
         self.is_short = false;
         append_listing(&mut self.dump, naming, breaks)
-    }
-
-    /// Answers the names of nodes, links and flows with their numbers.
-    pub(crate) fn say_names(&mut self, naming: &Naming)
-        ensures { (self.new ≡ names_text naming.now) ⊎ (self.new ≡ refusal_line Refusal.M) }
-    {
-        self.dump.clear();
-        self.is_short = false;
-        match append_names(&mut self.dump, naming) {
-            Ok(()) => {}
-            Err(_) => self.say_refused(Refusal::M),
-        }
-    }
-
-    /// Answers how all commands are used.
-    pub(crate) fn say_help(&mut self)
-        ensures { (self.new ≡ help_text) ⊎ (self.new ≡ refusal_line Refusal.M) }
-    {
-        self.dump.clear();
-        self.is_short = false;
-        match append_help(&mut self.dump) {
-            Ok(()) => {}
-            Err(_) => self.say_refused(Refusal::M),
-        }
-    }
-
-    /// Answers what there is to say of a topic.
-    pub(crate) fn say_help_on(&mut self, topic: Topic)
-        ensures { (self.new ≡ help_on topic) ⊎ (self.new ≡ refusal_line Refusal.M) }
-    {
-        self.dump.clear();
-        self.is_short = false;
-        match append_help_on(&mut self.dump, topic) {
-            Ok(()) => {}
-            Err(_) => self.say_refused(Refusal::M),
-        }
     }
 
     /// Answers a move from a position. The answer is whether it could be told.
@@ -262,32 +231,6 @@ impl Said {
         }
     }
 
-    /// Answers where a session stands, and how far the run is known to go.
-    pub(crate) fn say_where(&mut self, debugger: &mut Debugger, naming: &Naming, known: Extent)
-        ensures reported { (self.new ≡ where_text debugger.old.start debugger.old.shown known) ⊎ (self.new ≡ refusal_line Refusal.M) }
-        ensures same { debugger.new ≡ debugger.old }
-    {
-        self.dump.clear();
-        self.is_short = false;
-        match append_whereabouts(&mut self.dump, debugger, naming, known) {
-            Ok(()) => {}
-            Err(_) => self.say_refused(Refusal::M),
-        }
-    }
-
-    /// Answers the last so many lines of the trace.
-    pub(crate) fn say_lines(&mut self, debugger: &mut Debugger, count: u64)
-        ensures reported { (self.new ≡ last_lines debugger.old.start debugger.old.shown.position count) ⊎ (self.new ≡ refusal_line Refusal.M) }
-        ensures same { debugger.new ≡ debugger.old }
-    {
-        self.dump.clear();
-        self.is_short = false;
-        match append_last(&mut self.dump, debugger, count) {
-            Ok(()) => {}
-            Err(_) => self.say_refused(Refusal::M),
-        }
-    }
-
     /// Answers the dump of the state that is shown. The answer is whether there was memory for it.
     pub(crate) fn say_state(&mut self, debugger: &Debugger) -> bool
         ensures { MatchBool result (self.new ≡ dump_bytes debugger.now.shown) (self.new ≡ refusal_line Refusal.M) }
@@ -300,18 +243,6 @@ impl Said {
                 self.say_refused(Refusal::M);
                 false
             }
-        }
-    }
-
-    /// Answers the lines of the dump of the state that is shown that tell of a part of it.
-    pub(crate) fn say_part(&mut self, debugger: &Debugger, part: DumpPart)
-        ensures { (self.new ≡ part_bytes part debugger.now.shown) ⊎ (self.new ≡ refusal_line Refusal.M) }
-    {
-        self.dump.clear();
-        self.is_short = false;
-        match debugger.part_text(part, &mut self.dump) {
-            Ok(()) => {}
-            Err(_) => self.say_refused(Refusal::M),
         }
     }
 
@@ -447,27 +378,14 @@ impl Said {
         }
     }
 
-    /// Answers all stalls of the run.
-    pub(crate) fn say_stalls(&mut self, debugger: &mut Debugger, flows: &PartNames)
-        ensures reported { TellsStalls flows.now debugger.old.start self.new ⊎ (self.new ≡ refusal_line Refusal.M) }
+    /// Answers what is shown.
+    pub(crate) fn say_shown(&mut self, debugger: &mut Debugger, naming: &Naming, what: Shown)
+        ensures reported { Tells naming.now debugger.old.start (session_state debugger.old) what self.new ⊎ (self.new ≡ refusal_line Refusal.M) }
         ensures same { debugger.new ≡ debugger.old }
     {
         self.dump.clear();
         self.is_short = false;
-        match append_stalls(&mut self.dump, debugger, flows) {
-            Ok(()) => {}
-            Err(_) => self.say_refused(Refusal::M),
-        }
-    }
-
-    /// Answers what a flow waits for in the state that is shown, and what became of the packets that are missing.
-    pub(crate) fn say_why(&mut self, debugger: &mut Debugger, names: &ScenarioNames, flow: u16)
-        ensures reported { (self.new ≡ why_text names.now flow debugger.old.start debugger.old.shown) ⊎ (self.new ≡ refusal_line Refusal.M) }
-        ensures same { debugger.new ≡ debugger.old }
-    {
-        self.dump.clear();
-        self.is_short = false;
-        match append_why(&mut self.dump, debugger, names, flow) {
+        match append_shown(&mut self.dump, debugger, naming, what) {
             Ok(()) => {}
             Err(_) => self.say_refused(Refusal::M),
         }

@@ -22,7 +22,7 @@ use window_engine::{Gate, Hands};
 #[tactic(none)]
 fn tell_number(debugger: &Debugger, naming: &Naming, b: Break, said: &mut Said)
     requires { Contains debugger.now.breaks b }
-    ensures { ObeysTyped naming.now debugger.now.start (Typed.Plain (Command.SetBreak b)) (session_state debugger.now) (session_state debugger.now) said.new }
+    ensures { ObeysTyped naming.now debugger.now.start (Typed.SetBreak b) (session_state debugger.now) (session_state debugger.now) said.new }
 {
     match number_of(debugger.breaks(), b) {
         Some(number) => match said.say_break(naming, number, b) {
@@ -38,7 +38,7 @@ fn tell_number(debugger: &Debugger, naming: &Naming, b: Break, said: &mut Said)
 fn set_fresh(debugger: &mut Debugger, naming: &Naming, b: Break, said: &mut Said)
     requires fresh { ¬ Contains debugger.old.breaks b }
     requires room { length debugger.old.breaks < 64 }
-    ensures obeyed { ObeysTyped naming.now debugger.old.start (Typed.Plain (Command.SetBreak b)) (session_state debugger.old) (session_state debugger.new) said.new }
+    ensures obeyed { ObeysTyped naming.now debugger.old.start (Typed.SetBreak b) (session_state debugger.old) (session_state debugger.new) said.new }
     ensures start { debugger.new.start ≡ debugger.old.start }
 {
     let number = debugger.breaks().len() as u64 + 1;
@@ -54,7 +54,7 @@ fn set_fresh(debugger: &mut Debugger, naming: &Naming, b: Break, said: &mut Said
 /// Sets a breakpoint, and tells its number.
 #[tactic(none)]
 fn set_numbered(debugger: &mut Debugger, naming: &Naming, b: Break, said: &mut Said)
-    ensures obeyed { ObeysTyped naming.now debugger.old.start (Typed.Plain (Command.SetBreak b)) (session_state debugger.old) (session_state debugger.new) said.new }
+    ensures obeyed { ObeysTyped naming.now debugger.old.start (Typed.SetBreak b) (session_state debugger.old) (session_state debugger.new) said.new }
     ensures start { debugger.new.start ≡ debugger.old.start }
 {
     if debugger.has_break(b) {
@@ -150,7 +150,7 @@ fn go<H: Hands>(
     said: &mut Said,
 )
     requires ready { H.ready hands.now }
-    ensures obeyed { ObeysTyped naming.now debugger.old.start (Typed.Plain (Command.Go asked)) (session_state debugger.old) (session_state debugger.new) said.new }
+    ensures obeyed { ObeysTyped naming.now debugger.old.start (Typed.Go asked) (session_state debugger.old) (session_state debugger.new) said.new }
     ensures start { debugger.new.start ≡ debugger.old.start }
     ensures left { CanBeUndone debugger.old debugger.new said.new }
 {
@@ -158,29 +158,6 @@ fn go<H: Hands>(
     let moved = make(hands, gate, debugger, asked);
     let report = report_of(asked, from);
     show_past(debugger, naming, from, report, moved, said);
-}
-
-/// Makes a move, or does what a session whose lines are all there from the start is asked too.
-#[tactic(none)]
-fn obey_plain<H: Hands>(
-    hands: &H,
-    gate: &Gate,
-    debugger: &mut Debugger,
-    naming: &Naming,
-    command: Command,
-    said: &mut Said,
-)
-    requires ready { H.ready hands.now }
-    ensures obeyed { ObeysTyped naming.now debugger.old.start (Typed.Plain command) (session_state debugger.old) (session_state debugger.new) said.new }
-    ensures start { debugger.new.start ≡ debugger.old.start }
-    ensures left { is_move (Typed.Plain command) ≡ true → CanBeUndone debugger.old debugger.new said.new }
-{
-    match command {
-        Command::Go(asked) => go(hands, gate, debugger, naming, asked, said),
-        Command::SetBreak(b) => set_numbered(debugger, naming, b, said),
-        Command::State => obey(hands, gate, debugger, Command::State, said),
-        Command::Clear => obey(hands, gate, debugger, Command::Clear, said),
-    }
 }
 
 /// Does what is typed. The moves `run`, `until` and `goto` a moment go by the debugger's workers.
@@ -199,16 +176,12 @@ pub(crate) fn obey_typed<H: Hands>(
     ensures left { is_move asked ≡ true → CanBeUndone debugger.old debugger.new said.new }
 {
     match asked {
-        Typed::Plain(command) => obey_plain(hands, gate, debugger, naming, command, said),
-        Typed::Part(part) => said.say_part(debugger, part),
-        Typed::Why(flow) => said.say_why(debugger, &naming.names, flow),
-        Typed::Stalls => said.say_stalls(debugger, &naming.names.flows),
-        Typed::Breaks => tell_breaks(debugger, naming, said),
+        Typed::Go(asked) => go(hands, gate, debugger, naming, asked, said),
+        Typed::State => obey(hands, gate, debugger, Command::State, said),
+        Typed::SetBreak(b) => set_numbered(debugger, naming, b, said),
         Typed::Delete(number) => delete(debugger, naming, number, said),
-        Typed::Lines(count) => said.say_lines(debugger, count),
-        Typed::Where(known) => said.say_where(debugger, naming, known),
-        Typed::Names => said.say_names(naming),
-        Typed::Help => said.say_help(),
-        Typed::HelpOn(topic) => said.say_help_on(topic),
+        Typed::Clear => obey(hands, gate, debugger, Command::Clear, said),
+        Typed::Breaks => tell_breaks(debugger, naming, said),
+        Typed::Show(what) => said.say_shown(debugger, naming, what),
     }
 }

@@ -6,4 +6,4 @@ use Rattle.command_line.proofs.words.code_subcommand.Goals as goal
 pub returns : goal.returns
 returns c =
     let first : Shape = new_shape c.args.name.now in
-    c.with_arg.ensures first code_rule (plain_below c.plain_subcommand.result first c.plain_subcommand.ensures.shape c.plain_subcommand.ensures.no_globals) c.code_word.ensures.rule c.code_word.ensures.local
+    c.with_arg.ensures first code_rule (plain_below c.plain_subcommand.result first c.plain_subcommand.ensures.shape c.plain_subcommand.ensures.no_globals) c.lone_word.ensures.rule c.lone_word.ensures.local

@@ -6,8 +6,8 @@ use Rattle.command_line.proofs.words.run_subcommand.Goals as goal
 pub returns : goal.returns
 returns c =
     let first : Shape = sharing_shape c.args.name.now in
-    let with_file = c.with_arg-with_file.ensures first file_rule c.sharing_subcommand-shared.ensures c.file_word.ensures.rule c.file_word.ensures.local in
+    let with_file = c.with_arg-with_file.ensures first file_rule c.sharing_subcommand-shared.ensures c.lone_word.ensures.rule c.lone_word.ensures.local in
     let shape_with_file : Shape = record first { rules = first.rules ++ file_rule ∷ [] } in
-    let with_progress = c.with_arg-with_progress.ensures shape_with_file progress_rule with_file c.progress_flag.ensures.rule c.progress_flag.ensures.local in
+    let with_progress = c.with_arg-with_progress.ensures shape_with_file progress_rule with_file c.flag.ensures.rule c.flag.ensures.local in
     let shape_with_progress : Shape = record shape_with_file { rules = shape_with_file.rules ++ progress_rule ∷ [] } in
-    c.with_arg.ensures shape_with_progress explain_rule with_progress c.explain_flag.ensures.rule c.explain_flag.ensures.local
+    c.with_arg.ensures shape_with_progress explain_rule with_progress c.flag-2.ensures.rule c.flag-2.ensures.local

@@ -1,5 +1,6 @@
 use Rattle.std.proofs.Common.{refl, sym, ap, Some, ◌∙◌}
 use Rattle.debug_session.specs.Prompt.{at_prompt}
+use Rattle.debug_session.specs.Refusals.{by_code}
 use Rattle.debug_session.proofs.Followed.{is_again, is_obeyed, is_refused}
 use Rattle.debug_session.proofs.prompt.follow_typed.Goals as goal
 
@@ -16,7 +17,7 @@ returns-in-None-clause-start g c = c.move_again.ensures.start
 
 pub returns-in-Some-Err-clause-answers : goal.returns-in-Some-Err-clause-answers
 returns-in-Some-Err-clause-answers g c =
-    is_refused c.args.naming.now c.args.dialogue.now.debugger.start c.args.line.now (at_prompt c.args.dialogue.now) c.say_refused.new.self c.in-Some-Err.refusal (ap (λ r. Some r) (sym c.in-Some-Err.field-0-is) ∙ c.in-Some-Err.ensures) c.say_refused.ensures
+    is_refused c.args.naming.now c.args.dialogue.now.debugger.start c.args.line.now (at_prompt c.args.dialogue.now) c.say_refused.new.self c.in-Some-Err.why.code (ap (λ r. Some (by_code r)) (sym c.in-Some-Err.field-0-is) ∙ c.in-Some-Err.ensures) c.say_refused.ensures
 
 pub returns-in-Some-Err-clause-start : goal.returns-in-Some-Err-clause-start
 returns-in-Some-Err-clause-start g c = refl
@@ -27,7 +28,7 @@ obey_request-requires g c = record { ready = c.requires.ready }
 pub returns-in-Some-Ok-clause-answers : goal.returns-in-Some-Ok-clause-answers
 returns-in-Some-Ok-clause-answers g c =
     let old = c.args.dialogue.now in
-    is_obeyed c.args.naming.now old.debugger.start c.args.line.now (at_prompt old) (at_prompt c.obey_request.new.dialogue) c.obey_request.new.said c.in-Some-Ok.asked (ap (λ r. Some r) (sym c.in-Some-Ok.field-0-is) ∙ c.in-Some-Ok.ensures) c.obey_request.ensures.obeys
+    is_obeyed c.args.naming.now old.debugger.start c.args.line.now (at_prompt old) (at_prompt c.obey_request.new.dialogue) c.obey_request.new.said c.in-Some-Ok.asked (ap (λ r. Some (by_code r)) (sym c.in-Some-Ok.field-0-is) ∙ c.in-Some-Ok.ensures) c.obey_request.ensures.obeys
 
 pub returns-in-Some-Ok-clause-start : goal.returns-in-Some-Ok-clause-start
 returns-in-Some-Ok-clause-start g c = c.obey_request.ensures.start
