@@ -4,7 +4,7 @@ use Rattle.scenario_image.specs.declared.parts.ScenarioParts.{ScenarioParts}
 use Rattle.scenario_asm.specs.Lines.{lines_of_text}
 use Rattle.scenario_asm.specs.Meaning.{MeansScenario}
 use Rattle.debug_session.specs.Input.{text_lines, command_lines}
-use Rattle.debug_session.specs.Sessions.{Ended as CommandsEnded, IsEnding}
+use Rattle.debug_session.specs.Sessions.{Ended as CommandsEnded, IsEnding, failures_of}
 use Rattle.debug_session.specs.declared.session.DialogueFault.{DialogueFault as CommandsFault}
 use Rattle.debug_session.specs.declared.session.DialogueFault.TheVariants.{NoMemory as commands_NoMemory, OutputFailed}
 use Rattle.debug_session.proofs.Meanings.{scenario_of, fault_of}
@@ -157,3 +157,9 @@ pub groups_no_failure : (groups : List ℕ) (parts : ScenarioParts) (fault : Ses
 groups_no_failure groups parts NoMemory lacks = no_memory_no_failure
 groups_no_failure groups parts Groups lacks = (λ n. refl, λ e. cc)
 groups_no_failure groups parts _ lacks = absurd lacks
+
+-- nor is an end of the commands one of the reader, and it counts for the writer as it did
+pub commands_no_failure : (fault : CommandsFault)
+    → ((n : ℕ) → failures_of (Err fault) n ≡ writes_after {T = Unit {0}} (Err (of_commands fault)) n) × (◌≡◌ {A = SessionEnded} (Err (of_commands fault)) (Err ReadFailed) → ⊥)
+commands_no_failure commands_NoMemory = (λ n. refl, λ e. cc)
+commands_no_failure OutputFailed = (λ n. refl, λ e. cc)

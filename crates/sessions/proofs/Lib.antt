@@ -11,7 +11,6 @@ pub mod Worked
 pub mod Shared
 pub mod Prompting
 pub mod PromptEnds
-pub mod Rests
 pub mod Overs
 pub mod Figured
 pub mod Endless

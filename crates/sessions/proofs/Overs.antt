@@ -1,5 +1,6 @@
 -- The session of a task over the input that is named, by what came of reading it and of what followed.
-use Rattle.std.proofs.Common.{◌≡◌, ◌≢◌, ◌∙◌, ℕ, Bool, true, false, List, codes, bytes_eq, MatchBool, if◌then◌else◌, Option, None, Some, Result, Ok, Err, IfErr, IfOk, refl, ap, subst}
+use Rattle.std.proofs.Common.{◌≡◌, ◌≢◌, ◌∙◌, ℕ, Bool, true, false, List, codes, bytes_eq, MatchBool, if◌then◌else◌, Option, None, Some, Result, Ok, Err, IfErr, IfOk, refl, sym, ap, subst}
+use Rattle.std.specs.Option.{option_map}
 use Rattle.sessions.specs.declared.fault.SessionFault.{SessionFault}
 use Rattle.sessions.specs.declared.fault.SessionFault.TheVariants.{TooLong, ReadFailed, CannotRead, NoMemory}
 use Rattle.command_line.specs.declared.subcommand.Subcommand.{Subcommand}
@@ -7,10 +8,10 @@ use Rattle.command_line.specs.declared.subcommand.Task.{Task}
 use Rattle.command_line.specs.declared.subcommand.Task.TheVariants.{Scenario, Debug}
 use Rattle.sessions.specs.Asked.{IsTaskOnFile, IsOverFile, IsNamedOn}
 use Rattle.sessions.specs.Debug.{IsTaskOn}
+use Rattle.sessions.specs.Done.{IsTaskWith}
 use Rattle.sessions.specs.Ended.{SessionEnded, IsReportedOf, reads_after}
 use Rattle.sessions.specs.Named.{IsInputFault, IsTaskOver, input_reads_after, known_of, named_file}
 use Rattle.sessions.specs.Prompt.{IsFileFault, IsPromptOn, line_reads_after}
-use Rattle.sessions.specs.Rest.{IsTaskWith}
 use Rattle.sessions.specs.Streams.{Streams, IsInputOf}
 use Rattle.sessions.proofs.DebugReading.{debug_read, task_unread}
 use Rattle.sessions.proofs.PromptEnds.{file_ending, file_over, file_reads, file_writes, over_reads, same_typed}
@@ -108,3 +109,10 @@ named task (Some word) known bytes_of ended before after over = go (bytes_eq wor
         → MatchBool dash (IsTaskOn task known ended before after) (IsOverFile task word (bytes_of word) ended before after)
     go true over = over
     go false over = over
+
+-- a word that may be left out is there, or is not
+pub where_some : {A B : Type 0} (f : A → B) (found : Option A) (x : A) (value : Option B) → option_map f found ≡ value → found ≡ Some x → value ≡ Some (f x)
+where_some f found x value is some = sym is ∙ ap (option_map f) some
+
+pub where_none : {A B : Type 0} (f : A → B) (found : Option A) (value : Option B) → option_map f found ≡ value → found ≡ None → value ≡ None
+where_none f found value is none = sym is ∙ ap (option_map f) none

@@ -13,6 +13,8 @@ use Rattle.debug_session.specs.Sessions.{limits_of}
 use Rattle.debug_session.specs.Prompt.{Typing, Typed, at_prompt, unmoved}
 use Rattle.sessions.specs.declared.fault.SessionFault.{SessionFault}
 use Rattle.sessions.specs.declared.fault.SessionFault.TheVariants.{TooLong, Refused, RefusedImage, Groups, ReadFailed, CannotRead, WriteFailed, NoMemory}
+use Rattle.sessions.specs.declared.prompt.Prompt.{Prompt}
+use Rattle.sessions.specs.Done.{IsPromptDone, IsPromptOpened, IsRefused}
 use Rattle.sessions.specs.Ended.{SessionEnded, reads_after, writes_after}
 use Rattle.sessions.specs.Input.{InputHasScenario, InputHasFault, Reads, is_image}
 use Rattle.sessions.specs.Namings.{IsNamingOf}
@@ -51,32 +53,34 @@ no_fault true has = has
 no_fault false has = has
 
 -- an input that has a fault is refused for it
-pub record IsRefused (groups input : List ℕ) (fault : SessionFault) (streams : Streams) : Type 0 where
-  pub over : IsPromptOver groups input (Err fault) streams streams
-  pub reads : (n : ℕ) → n ≡ reads_after {T = Unit {0}} (Err fault) n
-  pub writes : (n : ℕ) → n ≡ writes_after {T = Unit {0}} (Err fault) n
+pub short_refused : (groups input : List ℕ) → IsRefused groups input NoMemory
+short_refused groups input = record { over = unbegun; reads = λ n. refl; writes = λ n. refl }
 
-short_refused : (groups input : List ℕ) (streams : Streams) → IsRefused groups input NoMemory streams
-short_refused groups input streams = record { over = unbegun streams; reads = λ n. refl; writes = λ n. refl }
+fault_refused : (groups input : List ℕ) (fault : SessionFault) → IsWithin input → InputHasFault input fault → IsRefused groups input fault
+fault_refused groups input (Refused line fault) within has = record { over = λ streams. (within, has, unbegun streams); reads = λ n. refl; writes = λ n. refl }
+fault_refused groups input (RefusedImage fault) within has = record { over = λ streams. (within, has, unbegun streams); reads = λ n. refl; writes = λ n. refl }
+fault_refused groups input _ within has = absurd (no_fault (is_image input) has)
 
-fault_refused : (groups input : List ℕ) (fault : SessionFault) (streams : Streams) → IsWithin input → InputHasFault input fault → IsRefused groups input fault streams
-fault_refused groups input (Refused line fault) streams within has = record { over = (within, has, unbegun streams); reads = λ n. refl; writes = λ n. refl }
-fault_refused groups input (RefusedImage fault) streams within has = record { over = (within, has, unbegun streams); reads = λ n. refl; writes = λ n. refl }
-fault_refused groups input _ streams within has = absurd (no_fault (is_image input) has)
-
-pub input_refused : (groups input : List ℕ) (fault : SessionFault) (read : Result ScenarioParts SessionFault) (streams : Streams) → IsWithin input → read ≡ Err fault → Reads (InputHasScenario input) (InputHasFault input) read
-    → IsRefused groups input fault streams
-input_refused groups input fault read streams within is says =
+pub input_refused : (groups input : List ℕ) (fault : SessionFault) (read : Result ScenarioParts SessionFault) → IsWithin input → read ≡ Err fault → Reads (InputHasScenario input) (InputHasFault input) read → IsRefused groups input fault
+input_refused groups input fault read within is says =
     elim (subst (λ r. IfErr r (λ f. (f ≡ NoMemory) ⊎ InputHasFault input f)) is says.fault) [
-      | inl short ↦ subst (λ f. IsRefused groups input f streams) (sym short) (short_refused groups input streams)
-      | inr has ↦ fault_refused groups input fault streams within has
+      | inl short ↦ subst (λ f. IsRefused groups input f) (sym short) (short_refused groups input)
+      | inr has ↦ fault_refused groups input fault within has
     ]
 
 -- or the text names no groups for its nodes
-pub groups_refused : (groups input : List ℕ) (p : ScenarioParts) (fault : SessionFault) (streams : Streams) → IsWithin input → InputHasScenario input p → LacksGroups groups p fault → IsRefused groups input fault streams
-groups_refused groups input p NoMemory streams within means lacks = short_refused groups input streams
-groups_refused groups input p Groups streams within means lacks = record { over = ((within, (p, means, lacks)), unbegun streams); reads = λ n. refl; writes = λ n. refl }
-groups_refused groups input p _ streams within means lacks = absurd lacks
+pub groups_refused : (groups input : List ℕ) (p : ScenarioParts) (fault : SessionFault) → IsWithin input → InputHasScenario input p → LacksGroups groups p fault → IsRefused groups input fault
+groups_refused groups input p NoMemory within means lacks = short_refused groups input
+groups_refused groups input p Groups within means lacks = record { over = λ streams. ((within, (p, means, lacks)), unbegun streams); reads = λ n. refl; writes = λ n. refl }
+groups_refused groups input p _ within means lacks = absurd lacks
+
+-- lines were typed at a prompt that was opened over an input, and so its session has ended
+pub typed_end : (groups input : List ℕ) (prompt : Prompt) (ended : SessionEnded) (now after : Streams) → IsWithin input → IsPromptOpened groups input prompt
+    → IsTypedSession prompt.naming prompt.dialogue.debugger.start (at_prompt prompt.dialogue) ended now after → after.read_failures ≡ reads_after ended now.read_failures → after.write_failures ≡ writes_after ended now.write_failures
+    → IsPromptDone groups input now ended after
+typed_end groups input prompt ended now after within opened typed reads writes =
+    let over = typed_over opened.p prompt.dialogue prompt.naming ended now after opened.debugger opened.memo opened.displays typed in
+    record { over = input_over groups input opened.p prompt.naming ended now after within opened.has_scenario opened.has_groups opened.naming over; reads = reads; writes = writes }
 
 pub scenario_of : (input : List ℕ) (read : Result ScenarioParts SessionFault) (p : ScenarioParts) → read ≡ Ok p → Reads (InputHasScenario input) (InputHasFault input) read → InputHasScenario input p
 scenario_of input read p is says = subst (λ r. IfOk r (InputHasScenario input)) is says.scenario

@@ -18,7 +18,7 @@ use Rattle.sessions.specs.declared.prompt.Turn.{Turn}
 use Rattle.sessions.specs.Ended.{reads_after, writes_after}
 use Rattle.sessions.specs.Prompt.{IsFileFault, IsTypedSession}
 use Rattle.sessions.specs.Streams.{Streams, IsInputOf}
-use Rattle.sessions.specs.Turns.{IsAnswered, IsCutOff, IsQuitting, IsSilent, IsTurn}
+use Rattle.sessions.specs.Turns.{IsAll, IsAnswered, IsCutOff, IsQuitting, IsSilent, IsTurn}
 use Rattle.sessions.specs.Typed.{IsCut, TypesLine, TypesOne}
 use Rattle.sessions.proofs.Reading.{text_of}
 
@@ -71,6 +71,19 @@ cut_answers naming start room line count old new said cut wide answers =
 
     refused : (l : List ℕ) → is_long l ≡ true → Rests old new said (refusal_line B2) → TypedAnswers naming start l old new said
     refused l long = subst (λ (t : Bool). MatchBool t (Rests old new said (refusal_line B2)) (MatchBool (is_quit l) (Rests old new said []) (AnswersTyped naming start l old new said))) (sym long)
+
+-- a line that was found was answered
+pub answered_as : (naming : Naming) (start : State) (count : ℕ) (room : List ℕ) (old new : AtPrompt) (said : List ℕ) (before after : Streams) (IsPut : List ℕ → Type 0) → Found before.typed after.typed count room before.written → 65536 < length room
+    → is_quit (take count room) ≡ false → TypedAnswers naming start (take count room) old new said → IsPut (answer_out said) → IsAnswered IsPut naming start old new before after
+answered_as naming start count room old new said before after IsPut found wide goes_on answers put =
+    record {
+      ask = record { line = found.line; seen = before.written };
+      asked = record { typed = found.typed; seen = refl };
+      goes_on = sym (cut_quits room found.line count found.cut wide) ∙ goes_on;
+      said = said;
+      answers = cut_answers naming start room found.line count old new said found.cut wide answers;
+      put = put;
+    }
 
 -- memory was refused before the file was read
 pub file_hindered : {T : Type 0} (r : Result T SessionFault) (known : Option (List ℕ)) (file : List ℕ) → r ≡ Err NoMemory
@@ -141,7 +154,7 @@ module _ (naming : Naming) (start : State) (old was : AtPrompt) (first before : 
   asked_in_time ask seen = in_time_more naming start old first.written [] so_far.asks ask so_far.in_time (subst (λ (held : Option (List ℕ)). IsSoFar naming start old (lines_in so_far.asks) first.written held) (sym seen) answers_so_far)
 
   -- one line more is answered
-  pub one_more : (now : AtPrompt) (after : Streams) → IsAnswered naming start was now before after → SoFar naming start old now first after
+  pub one_more : (now : AtPrompt) (after : Streams) → IsAnswered (IsAll before after) naming start was now before after → SoFar naming start old now first after
   one_more now after turn =
       let ask = turn.ask in
       let made = so_far.answered.0 in
@@ -204,7 +217,7 @@ module _ (naming : Naming) (start : State) (old was : AtPrompt) (first before : 
   }
 
   -- an answer could not be written
-  pub is_cut_off : (now : AtPrompt) (after : Streams) → IsCutOff naming start was now before after → IsTypedSession naming start old (Err WriteFailed) first after
+  pub is_cut_off : (now : AtPrompt) (after : Streams) → IsAnswered (IsCutOff before after) naming start was now before after → IsTypedSession naming start old (Err WriteFailed) first after
   is_cut_off now after turn =
       let ask = turn.ask in
       let made = so_far.answered.0 in

@@ -25,7 +25,7 @@ pub mod Nearest
 pub mod Turns
 pub mod Asked
 pub mod Named
-pub mod Rest
+pub mod Done
 pub mod Answered
 pub use Rattle.command_line.specs.CommandLine
 pub use Rattle.command_line.specs.Subcommand

@@ -16,23 +16,22 @@ pub record IsAsked (ask : Ask) (before after : Streams) : Type 0 where
   pub typed : Typed before.typed after.typed (ask ∷ [])
   pub seen : ask.seen ≡ before.written
 
--- a line was asked for and answered
-pub record IsAnswered (naming : Naming) (start : State) (old new : AtPrompt) (before after : Streams) : Type 0 where
+-- a line was asked for and answered, and this was put out of the answer
+pub record IsAnswered (IsPut : List ℕ → Type 0) (naming : Naming) (start : State) (old new : AtPrompt) (before after : Streams) : Type 0 where
   pub ask : Ask
   pub asked : IsAsked ask before after
   pub goes_on : is_quit ask.line ≡ false
   pub said : List ℕ
   pub answers : TypedAnswers naming start ask.line old new said
-  pub put : Appends before.written after.written (answer_out said)
+  pub put : IsPut (answer_out said)
 
--- or the writer failed over the answer
-pub record IsCutOff (naming : Naming) (start : State) (old new : AtPrompt) (before after : Streams) : Type 0 where
-  pub ask : Ask
-  pub asked : IsAsked ask before after
-  pub goes_on : is_quit ask.line ≡ false
-  pub said : List ℕ
-  pub answers : TypedAnswers naming start ask.line old new said
-  pub put : Writes (IsBeginningOf (λ all. all ≡ answer_out said)) before.written after.written
+-- all of it
+abbrev pub IsAll : Streams → Streams → List ℕ → Type 0
+IsAll before after answer = Appends before.written after.written answer
+
+-- or as much as the writer took before it failed
+abbrev pub IsCutOff : Streams → Streams → List ℕ → Type 0
+IsCutOff before after answer = Writes (IsBeginningOf (λ all. all ≡ answer)) before.written after.written
 
 -- the line is `quit`
 pub record IsQuitting (old new : AtPrompt) (before after : Streams) : Type 0 where
@@ -50,9 +49,9 @@ pub record IsSilent (old new : AtPrompt) (before after : Streams) : Type 0 where
 
 -- what a turn that ended so did
 abbrev pub IsTurn : Naming → State → AtPrompt → AtPrompt → Result Turn SessionFault → Streams → Streams → Type 0
-IsTurn naming start old new (Ok Answered) before after = IsAnswered naming start old new before after
+IsTurn naming start old new (Ok Answered) before after = IsAnswered (IsAll before after) naming start old new before after
 IsTurn naming start old new (Ok Quit) before after = IsQuitting old new before after
 IsTurn naming start old new (Ok NoLine) before after = IsSilent old new before after × IsTypedOut after.typed
 IsTurn naming start old new (Err ReadFailed) before after = IsSilent old new before after
-IsTurn naming start old new (Err WriteFailed) before after = IsCutOff naming start old new before after
+IsTurn naming start old new (Err WriteFailed) before after = IsAnswered (IsCutOff before after) naming start old new before after
 IsTurn naming start old new _ before after = ⊥

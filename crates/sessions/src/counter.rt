@@ -1,6 +1,7 @@
 //! A run whose figures are counted.
 
 use crate::fault::SessionFault;
+use crate::means::Means;
 use crate::progress::{Progress, Telling};
 use command_line::notes::Notes;
 use figures::Figures;
@@ -14,7 +15,7 @@ use std::alloc::{AllocError, Global};
 
 /// A run whose figures are counted.
 #[derive(Drop)]
-pub(crate) struct Counter {
+pub(crate) struct Counter<'a, N> {
     /// Where memory is taken.
     alloc: Global,
     /// The net, as it stands.
@@ -23,11 +24,11 @@ pub(crate) struct Counter {
     pub figures: Figures,
     /// The line that is lent to each event.
     line: Line,
-    /// How far it is.
-    progress: Progress,
+    /// Who is told how far it is.
+    telling: Telling<'a, N>,
 }
 
-impl Counter {
+impl<'a, N: Notes> Counter<'a, N> {
     ghost use Rattle.std.specs.Prelude.{◌≡◌, ◌≤◌, min, None, MatchBool, IfOk, IfErr};
     ghost use Rattle.scenario_image.specs.declared.parts.ScenarioParts.{ScenarioParts};
     ghost use Rattle.table_run.specs.State.{due};
@@ -39,23 +40,24 @@ impl Counter {
 
     /// The initial state of a scenario's run, of which nothing is counted. It tells how far it is where that is wanted.
     pub(crate) fn new(
-        alloc: Global,
-        reported: bool,
+        means: &Means,
         scenario: &Scenario,
-    ) -> Result<Counter, AllocError>
+        notes: &'a mut N,
+    ) -> Result<Counter<'a, N>, AllocError>
         ensures opened { IfOk result (λ counter. IsOpenedRun scenario.now counter.figures counter.net) }
         ensures some { IfOk result (λ counter. AreOfSomeRun counter.figures counter.net) }
     {
         let _parts = scenario.parts();
+        let alloc = means.alloc;
         let net = Net::new(alloc, scenario)?;
         let figures = Figures::new(alloc, &net)?;
-        let progress = Progress::new(reported, net.end());
+        let progress = Progress::new(means.wishes.progress, net.end());
         Ok(Counter {
             alloc,
             net,
             figures,
             line: Line::new(alloc),
-            progress,
+            telling: Telling { progress, notes },
         })
     }
 
@@ -65,11 +67,7 @@ impl Counter {
     }
 
     /// Runs it up to its first event at or past a moment.
-    pub(crate) fn run_before<N: Notes>(
-        &mut self,
-        moment: Time,
-        notes: &mut N,
-    ) -> Result<(), SessionFault>
+    pub(crate) fn run_before(&mut self, moment: Time) -> Result<(), SessionFault>
         requires { AreOfSomeRun self.old.figures self.old.net }
         ensures figures { (p : ScenarioParts) (b : Base) → AreOfRun p b self.old.figures self.old.net → AreOfRun p b self.new.figures self.new.net }
         ensures some { AreOfSomeRun self.new.figures self.new.net }
@@ -81,29 +79,26 @@ impl Counter {
             first: &mut self.figures,
             second: Before { moment },
         };
-        let mut telling = Telling {
-            progress: &mut self.progress,
-            notes,
-        };
-        run_by_two(&mut self.net, &mut counted, &mut telling, &mut self.line)?;
+        run_by_two(
+            &mut self.net,
+            &mut counted,
+            &mut self.telling,
+            &mut self.line,
+        )?;
         Ok(())
     }
 
     /// Runs it to its end.
-    pub(crate) fn run_to_end<N: Notes>(&mut self, notes: &mut N) -> Result<(), SessionFault>
+    pub(crate) fn run_to_end(&mut self) -> Result<(), SessionFault>
         requires { AreOfSomeRun self.old.figures self.old.net }
         ensures figures { (p : ScenarioParts) (b : Base) → AreOfRun p b self.old.figures self.old.net → AreOfRun p b self.new.figures self.new.net }
         ensures ended { IfOk result (λ _. due self.new.net.state ≡ None) }
         ensures faults { IfErr result (IsCountFault self.new.net) }
     {
-        let mut telling = Telling {
-            progress: &mut self.progress,
-            notes,
-        };
         run_by_two(
             &mut self.net,
             &mut self.figures,
-            &mut telling,
+            &mut self.telling,
             &mut self.line,
         )?;
         Ok(())
@@ -123,41 +118,38 @@ impl Counter {
     }
 
     /// Runs it up to its first event at or past a moment, and counts from there on.
-    pub(crate) fn begin_at<N: Notes>(
-        &mut self,
-        moment: Time,
-        notes: &mut N,
-    ) -> Result<(), SessionFault>
+    pub(crate) fn begin_at(&mut self, moment: Time) -> Result<(), SessionFault>
         requires { AreOfSomeRun self.old.figures self.old.net }
         ensures begun { IfOk result (λ _. (p : ScenarioParts) → IsOpenedRun p self.old.figures self.old.net → IsStepBegun p moment self.new.figures self.new.net) }
         ensures some { IfOk result (λ _. AreOfSomeRun self.new.figures self.new.net) }
         ensures come { (p : ScenarioParts) → IsOpenedRun p self.old.figures self.old.net → HasCome p self.new.net }
         ensures faults { IfErr result (IsCountFault self.new.net) }
     {
-        self.run_before(moment, notes)?;
+        self.run_before(moment)?;
         self.restart(moment)?;
         Ok(())
     }
 
     /// Runs it to its end, and counts from a moment on.
-    pub(crate) fn count_from<N: Notes>(
-        &mut self,
-        moment: Time,
-        notes: &mut N,
-    ) -> Result<(), SessionFault>
+    pub(crate) fn count_from(&mut self, moment: Time) -> Result<(), SessionFault>
         requires { AreOfSomeRun self.old.figures self.old.net }
         ensures counted { IfOk result (λ _. (p : ScenarioParts) → IsOpenedRun p self.old.figures self.old.net → AreCounted p moment self.new.figures self.new.net) }
         ensures come { (p : ScenarioParts) → IsOpenedRun p self.old.figures self.old.net → HasCome p self.new.net }
         ensures ended { IfOk result (λ _. due self.new.net.state ≡ None) }
         ensures faults { IfErr result (IsCountFault self.new.net) }
     {
-        self.begin_at(moment, notes)?;
-        self.run_to_end(notes)
+        self.begin_at(moment)?;
+        self.run_to_end()
     }
 
     /// The run has ended, done or not.
-    pub(crate) fn tell_end<N: Notes>(&self, done: bool, notes: &mut N) {
-        self.progress.ends(done, self.net.position(), notes);
+    pub(crate) fn tell_end(&mut self, done: bool)
+        ensures net { self.new.net ≡ self.old.net }
+        ensures figures { self.new.figures ≡ self.old.figures }
+    {
+        let events = self.net.position();
+        let telling = &mut self.telling;
+        telling.progress.ends(done, events, telling.notes);
     }
 
     /// Whether there is something to count from a moment on, before which all events were run: an event is due, or a

@@ -1,18 +1,13 @@
 //! A debugging session: the commands behind a scenario text are answered.
-ghost use Rattle.std.specs.Prelude.{◌≡◌};
-ghost use Rattle.debug_session.specs.Input.{command_lines};
 ghost use Rattle.sessions.specs.Debug.{IsDebugSession, IsDebugSessionOn};
-ghost use Rattle.sessions.specs.Ended.{writes_after};
-ghost use Rattle.sessions.specs.Rest.{AreAnswered, AreReady, BeginsSession, SessionIsDone, written_by};
+ghost use Rattle.sessions.specs.Done.{SessionIsDone, written_by};
 ghost use Rattle.sessions.specs.Session.{IsWithin, OutcomeTells};
 ghost use Rattle.sessions.specs.Streams.{Streams, streams_of};
-ghost use Rattle.sessions.specs.Written.{Writes};
 
 use crate::fault::SessionFault;
-use crate::means::Means;
+use crate::means::SessionTools;
 use crate::outcome::Outcome;
-use crate::rest::{Rest, nothing_left};
-use crate::run::{groups_to_debug, is_alone};
+use crate::run::groups_to_debug;
 use crate::scenario_input::reported_text;
 use crate::session::run_task;
 use crate::source::Source;
@@ -20,77 +15,36 @@ use command_line::notes::Notes;
 use command_line::sharing::Sharing;
 use command_line::subcommand::Task;
 use debug_session::split;
-use scenario_image::Scenario;
 use std::alloc::Global;
 use std::sync::Wait;
 use std::thread::Threads;
-use window_core::Partition;
-use window_engine::{Alone, Gate, Hands, Sink};
+use window_engine::{Gate, Hands, Sink};
 
-/// Commands behind a scenario's text, and what they are answered over.
-#[derive(Drop)]
-pub(crate) struct Commands {
-    /// The text, with the commands behind it.
-    pub input: Vec<u8>,
-    /// The scenario that the text means.
-    pub scenario: Scenario,
-    /// The group of each of its nodes.
-    pub partition: Partition,
-    /// How many workers run the groups.
-    pub workers: usize,
-}
-
-/// Begins a debugging session over an input, where its text has a scenario whose nodes are in the
-/// groups: its commands are answered where the calling thread alone runs the groups, and else left.
-pub(crate) fn begin_commands<W: Sink, N: Notes>(
-    means: &Means,
+/// Does a debugging session over an input, where its text has a scenario whose nodes are in the groups:
+/// its commands are answered. Moves to a breakpoint and to a moment go by workers.
+pub(crate) fn answer_commands<W: Sink, H: Hands, N: Notes>(
+    tools: &SessionTools<H>,
     sharing: &Sharing,
-    input: Vec<u8>,
+    input: &[u8],
     writer: &mut W,
     notes: &mut N,
-) -> Result<Rest, SessionFault>
-    requires { IsWithin input.items }
-    ensures { (now : Streams) → let at = written_by W.failures W.contents now in BeginsSession (SessionIsDone (IsDebugSession sharing.now.groups input.items) (at writer.old)) result (at writer.new) }
-{
-    let (text, _commands) = split(input.as_slice());
-    let scenario = reported_text(means, text, notes)?;
-    let partition = groups_to_debug(means, sharing, &scenario, notes)?;
-    let workers = sharing.workers();
-    let commands = Commands {
-        input,
-        scenario,
-        partition,
-        workers,
-    };
-    if is_alone(workers, &commands.partition) {
-        let ended = answer_commands(&Alone, means.gate, means.alloc, commands, writer);
-        return nothing_left(ended);
-    }
-    Ok(Rest::Listed(commands))
-}
-
-/// Writes the answers to commands. Moves to a breakpoint and to a moment go by workers.
-pub(crate) fn answer_commands<W: Sink, H: Hands>(
-    hands: &H,
-    gate: &Gate,
-    alloc: Global,
-    commands: Commands,
-    writer: &mut W,
 ) -> Result<(), SessionFault>
-    requires hands { H.ready hands.now }
-    requires ready { AreReady commands }
-    ensures output { Writes (AreAnswered commands.scenario (command_lines commands.input.items) result) (W.contents writer.old) (W.contents writer.new) }
-    ensures failures { W.failures writer.new ≡ writes_after result (W.failures writer.old) }
+    requires ready { H.ready tools.now.hands.now }
+    requires within { IsWithin input.now }
+    ensures { (now : Streams) → let at = written_by W.failures W.contents now in SessionIsDone (IsDebugSession sharing.now.groups input.now) (at writer.old) result (at writer.new) }
 {
-    let Commands {
-        input,
-        scenario,
-        partition,
-        workers,
-    } = commands;
-    let (_text, lines) = split(input.as_slice());
+    let (text, lines) = split(input);
+    let scenario = reported_text(tools.means, text, notes)?;
+    let partition = groups_to_debug(tools.means, sharing, &scenario, notes)?;
     let answered = debug_session::run_session(
-        hands, gate, alloc, &scenario, partition, workers, lines, writer,
+        tools.hands,
+        tools.means.gate,
+        tools.means.alloc,
+        &scenario,
+        partition,
+        sharing.workers(),
+        lines,
+        writer,
     );
     drop(scenario);
     match answered {

@@ -20,11 +20,7 @@ use sim_time::Time;
 use window_engine::Sink;
 
 /// Runs it to its end, and counts from a moment on.
-fn count_reported<N: Notes>(
-    counter: &mut Counter,
-    moment: Time,
-    notes: &mut N,
-) -> Result<(), SessionFault>
+fn count_reported<N: Notes>(counter: &mut Counter<'_, N>, moment: Time) -> Result<(), SessionFault>
     requires { AreOfSomeRun counter.old.figures counter.old.net }
     ensures counted { IfOk result (λ _. (p : ScenarioParts) → IsOpenedRun p counter.old.figures counter.old.net → AreCounted p moment counter.new.figures counter.new.net) }
     ensures come { (p : ScenarioParts) → IsOpenedRun p counter.old.figures counter.old.net → HasCome p counter.new.net }
@@ -32,8 +28,8 @@ fn count_reported<N: Notes>(
     ensures fits { counter.new.net.position ≤ MOST_EVENTS }
     ensures faults { IfErr result (IsCountFault counter.new.net) }
 {
-    let ended = counter.count_from(moment, notes);
-    counter.tell_end(ended.is_ok(), notes);
+    let ended = counter.count_from(moment);
+    counter.tell_end(ended.is_ok());
     let _position = counter.net.position();
     ended
 }
@@ -49,8 +45,8 @@ fn table_from<N: Notes>(
     ensures table { IfOk result (λ text. IsTableFrom column.now scenario.now moment text.items) }
     ensures faults { IfErr result (IsRunFault scenario.now) }
 {
-    let mut counter = Counter::new(means.alloc, means.wishes.progress, scenario)?;
-    count_reported(&mut counter, moment, notes)?;
+    let mut counter = Counter::new(means, scenario, notes)?;
+    count_reported(&mut counter, moment)?;
     let text = run_text(
         means.alloc,
         column,

@@ -2,7 +2,6 @@
 //! canonical text or the answers of a debugging session go out on a writer.
 #![tactic(auto)]
 
-mod begin;
 pub mod conversion;
 mod counter;
 pub mod debug;
@@ -25,13 +24,13 @@ mod output;
 mod progress;
 mod prompt;
 mod refused_line;
-mod rest;
 mod row_limit;
 mod run;
 pub mod scenario_input;
 mod series;
 pub mod session;
 pub mod source;
+mod task;
 pub mod trace;
 pub mod typed;
 mod why;

@@ -1,10 +1,10 @@
 //! What a session is done with.
 
-use command_line::subcommand::Wishes;
+use command_line::subcommand::{OptionalWord, Wishes};
 use std::alloc::Global;
 use window_engine::Gate;
 
-/// What all is done with that waits for nobody, beside its reader and its writer.
+/// What a session is done with, beside its reader and its writer.
 #[derive(Drop)]
 pub(crate) struct Means<'m> {
     /// Where memory is taken.
@@ -13,17 +13,15 @@ pub(crate) struct Means<'m> {
     pub gate: &'m Gate,
     /// What is wished beside the output.
     pub wishes: Wishes,
+    /// The file that has the input, where that is not the reader's own.
+    pub file: OptionalWord<'m>,
 }
 
-/// What is done with several workers, or by commands, is done with.
+/// What a session is done with, and by whom its windows are run.
 #[derive(Drop)]
 pub(crate) struct SessionTools<'m, H> {
-    /// Where memory is taken.
-    pub alloc: Global,
-    /// Where threads are started, and waited for.
-    pub rt: &'m H,
-    /// Who is told of the workers.
-    pub gate: &'m Gate,
-    /// Whether the calling thread alone moves all the same.
-    pub is_alone: bool,
+    /// What it is done with.
+    pub means: &'m Means<'m>,
+    /// Who runs windows.
+    pub hands: &'m H,
 }

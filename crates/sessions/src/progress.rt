@@ -96,7 +96,7 @@ impl Progress {
 #[derive(Drop)]
 pub(crate) struct Telling<'a, N> {
     /// How far it is.
-    pub progress: &'a mut Progress,
+    pub progress: Progress,
     /// Who is told.
     pub notes: &'a mut N,
 }
@@ -106,9 +106,9 @@ impl<N: Notes> Watch for Telling<'_, N> {
 
     type Note = ();
 
-    ghost has = { λ began _ w _ goes_on. (goes_on ≡ true) × (w.progress.ghost_name ≡ began.progress.ghost_name) };
+    ghost has = { λ _ _ _ _ goes_on. goes_on ≡ true };
 
-    ghost begins = { λ _ _. (refl, refl) };
+    ghost begins = { λ _ _. refl };
 
     #[inline(always)]
     fn ahead(&self, _at: &Net, _next: Option<Due>) -> Option<()> {

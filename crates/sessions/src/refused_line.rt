@@ -4,7 +4,7 @@ use crate::nearest::{command_begun, first_word, tell_nearest};
 use command_line::notes::{Notes, Numbers};
 use command_line::reasons::{meaning_of, shown_bytes};
 use debug_session::{
-    CommandName, Expected, MOST_LINE, Misnamed, Naming, PartSort, expected_in, misnamed_in,
+    CommandName, Expected, MOST_LINE, Misnamed, Naming, PartSort, Refusal, Refused, refused_in,
 };
 use std::alloc::{AllocError, Global};
 use std::str;
@@ -79,27 +79,26 @@ fn of_other_debuggers(word: &[u8]) -> Option<&'static str> {
     }
 }
 
-/// Tells what there is in the place of a line that names no command, no part of a state, nothing that can be displayed, or
-/// nothing that help is there of.
-fn tell_instead<N: Notes>(alloc: Global, line: &[u8], notes: &mut N) {
-    match command_begun(line) {
-        Some(CommandName::Display) => notes.refusal_means(DISPLAYS),
-        Some(CommandName::State) => notes.refusal_means(PARTS),
-        Some(CommandName::Help) => notes.refusal_means(TOPICS),
-        Some(_) => {}
-        None => match of_other_debuggers(first_word(line)) {
-            Some(advice) => notes.refusal_means(advice),
-            None => tell_nearest(alloc, line, notes),
-        },
+/// What there is in the place of what a line of a command has, or lacks.
+fn advice(code: &str, command: Option<CommandName>) -> Option<&'static str> {
+    match (code, command?) {
+        ("B1" | "B2", CommandName::Display) => Some(DISPLAYS),
+        ("B1" | "B2", CommandName::State) => Some(PARTS),
+        ("B1", CommandName::Help) => Some(TOPICS),
+        ("B2" | "B3", CommandName::Until | CommandName::Goto) => Some(UNITS),
+        ("B2", CommandName::Why) => Some(WHY),
+        ("B2", CommandName::Stalls) => Some(STALLS),
+        ("B2" | "B5", CommandName::Delete) => Some(BREAKS),
+        ("B2" | "B5", CommandName::Undisplay) => Some(DISPLAYED),
+        _ => None,
     }
 }
 
-/// Tells where the numbers are of which a line has none.
-fn tell_lists<N: Notes>(line: &[u8], notes: &mut N) {
-    match command_begun(line) {
-        Some(CommandName::Delete) => notes.refusal_means(BREAKS),
-        Some(CommandName::Undisplay) => notes.refusal_means(DISPLAYED),
-        _ => {}
+/// Tells what there is in the place of a line that names no command.
+fn tell_instead<N: Notes>(alloc: Global, line: &[u8], notes: &mut N) {
+    match of_other_debuggers(first_word(line)) {
+        Some(advice) => notes.refusal_means(advice),
+        None => tell_nearest(alloc, line, notes),
     }
 }
 
@@ -114,20 +113,19 @@ fn one_of(sort: PartSort) -> &'static str {
 
 /// Which sort of part it is that a word names.
 fn reported_sort(alloc: Global, found: &Misnamed<'_>) -> Result<String, AllocError> {
-    let mut reported = String::new(alloc);
-    reported.push_str("tcpsim: ")?;
     let word = shown_bytes(alloc, found.word)?;
-    reported.push_str(word.as_str())?;
-    reported.push_str(" is ")?;
-    reported.push_str(one_of(found.sort))?;
-    reported.push_str(": see help numbers")?;
+    let mut reported = String::new(alloc);
+    write!(
+        reported,
+        "tcpsim: {word} is {}: see help numbers",
+        one_of(found.sort)
+    )?;
     Ok(reported)
 }
 
-/// Tells of the first name in a line that is of a part of another sort than is asked for there, if there is one and memory
-/// to say it.
-fn tell_misnamed<N: Notes>(alloc: Global, naming: &Naming, line: &[u8], notes: &mut N) {
-    if let Some(found) = misnamed_in(naming, line) {
+/// Tells of the first name that is of a part of another sort than is asked for there, if there is one and memory to say it.
+fn tell_misnamed<N: Notes>(alloc: Global, refused: &Refused<'_>, notes: &mut N) {
+    if let Some(found) = refused.misnamed {
         if let Ok(reported) = reported_sort(alloc, &found) {
             notes.refusal_means(reported.as_str());
         }
@@ -143,9 +141,9 @@ fn tell_numbers<N: Notes>(naming: &Naming, notes: &mut N) {
     });
 }
 
-/// Tells what is expected at the first word behind `break` that does not fit.
-fn tell_expected<N: Notes>(naming: &Naming, line: &[u8], notes: &mut N) {
-    match expected_in(naming, line) {
+/// Tells what is expected at the first word that does not fit.
+fn tell_expected<N: Notes>(naming: &Naming, expected: Option<Expected>, notes: &mut N) {
+    match expected {
         None => {}
         Some(Expected::Sort) => notes.refusal_means(CONDITIONS),
         Some(Expected::OtherSort) => notes.refusal_means(ONCE),
@@ -159,32 +157,13 @@ fn tell_expected<N: Notes>(naming: &Naming, line: &[u8], notes: &mut N) {
     }
 }
 
-/// Tells what there is in the place of a word that is no number, no time and no name of the sort that is asked for.
-fn tell_values<N: Notes>(alloc: Global, naming: &Naming, line: &[u8], notes: &mut N) {
-    match command_begun(line) {
-        Some(CommandName::Until) | Some(CommandName::Goto) => notes.refusal_means(UNITS),
-        Some(CommandName::Break) => {
-            tell_misnamed(alloc, naming, line, notes);
-            tell_expected(naming, line, notes);
+/// Tells what would fit, where a line says no command.
+fn tell_fitting<N: Notes>(alloc: Global, naming: &Naming, line: &[u8], notes: &mut N) {
+    if let Some(refused) = refused_in(naming, line) {
+        if matches!(refused.code, Refusal::B3) {
+            tell_misnamed(alloc, &refused, notes);
         }
-        Some(CommandName::State) | Some(CommandName::Why) | Some(CommandName::Display) => {
-            tell_misnamed(alloc, naming, line, notes);
-            tell_numbers(naming, notes);
-        }
-        _ => {}
-    }
-}
-
-/// Tells what a line lacks, or has too much of.
-fn tell_words<N: Notes>(naming: &Naming, line: &[u8], notes: &mut N) {
-    match command_begun(line) {
-        Some(CommandName::Break) => tell_expected(naming, line, notes),
-        Some(CommandName::Display) => notes.refusal_means(DISPLAYS),
-        Some(CommandName::State) => notes.refusal_means(PARTS),
-        Some(CommandName::Until) | Some(CommandName::Goto) => notes.refusal_means(UNITS),
-        Some(CommandName::Why) => notes.refusal_means(WHY),
-        Some(CommandName::Stalls) => notes.refusal_means(STALLS),
-        _ => tell_lists(line, notes),
+        tell_expected(naming, refused.expected, notes);
     }
 }
 
@@ -204,21 +183,20 @@ pub(crate) fn tell_refused<N: Notes>(
     if let Some(meaning) = meaning_of(code) {
         notes.refusal_means(meaning);
     }
-    match code {
-        "B1" => {
-            if command_begun(line) == Some(CommandName::Break) {
-                tell_expected(naming, line, notes);
-            } else {
-                tell_instead(alloc, line, notes);
+    if code == "B2" && line.len() > MOST_LINE {
+        return;
+    }
+    let command = command_begun(line);
+    match (code, command) {
+        ("B1", None) => tell_instead(alloc, line, notes),
+        ("B1" | "B2", Some(CommandName::Break)) => tell_fitting(alloc, naming, line, notes),
+        _ => match advice(code, command) {
+            Some(advice) => notes.refusal_means(advice),
+            None => {
+                if code == "B3" {
+                    tell_fitting(alloc, naming, line, notes);
+                }
             }
-        }
-        "B2" => {
-            if line.len() <= MOST_LINE {
-                tell_words(naming, line, notes);
-            }
-        }
-        "B3" => tell_values(alloc, naming, line, notes),
-        "B5" => tell_lists(line, notes),
-        _ => {}
+        },
     }
 }

@@ -45,19 +45,19 @@ fn row_limit(scenario: &Scenario, row_steps: RowSteps) -> Option<Time>
 }
 
 /// Whether a run that stands at a moment goes on past it, after fewer than 10^15 events.
-fn goes_past(counter: &Counter, moment: Time) -> bool
+fn goes_past<N: Notes>(counter: &Counter<'_, N>, moment: Time) -> bool
     ensures { (p : ScenarioParts) → counter.now.net.state.end ≡ p.end → MatchBool result ((counter.now.net.position < MOST_EVENTS) × IsGoingOn p moment counter.now.net.state) (¬ ((counter.now.net.position < MOST_EVENTS) × IsGoingOn p moment counter.now.net.state)) }
 {
     counter.net.position() < MOST_EVENTS && counter.goes_on(moment)
 }
 
 /// Runs it up to a moment, and refuses it where it goes on past that.
-fn stop_at<N: Notes>(counter: &mut Counter, limit: Time, notes: &mut N) -> Result<(), SessionFault>
+fn stop_at<N: Notes>(counter: &mut Counter<'_, N>, limit: Time) -> Result<(), SessionFault>
     requires { AreOfSomeRun counter.old.figures counter.old.net }
     ensures done { (p : ScenarioParts) → IsOpenedRun p counter.old.figures counter.old.net → IfOk result (λ _. ¬ GoesPast p limit) }
     ensures faults { (p : ScenarioParts) → IsOpenedRun p counter.old.figures counter.old.net → IfErr result (IsPastFault p limit) }
 {
-    counter.run_before(limit, notes)?;
+    counter.run_before(limit)?;
     if goes_past(counter, limit) {
         return Err(SessionFault::Figures(FiguresFault::TooManyRows));
     }
@@ -79,8 +79,8 @@ pub(crate) fn check_rows<N: Notes>(
     let Some(limit) = row_limit(scenario, row_steps) else {
         return Ok(());
     };
-    let mut counter = Counter::new(means.alloc, means.wishes.progress, scenario)?;
-    let stopped = stop_at(&mut counter, limit, notes);
-    counter.tell_end(stopped.is_ok(), notes);
+    let mut counter = Counter::new(means, scenario, notes)?;
+    let stopped = stop_at(&mut counter, limit);
+    counter.tell_end(stopped.is_ok());
     stopped
 }

@@ -1,43 +1,24 @@
 //! The run of a scenario, shared out as the command line says.
-ghost use Rattle.std.specs.Prelude.{◌≡◌, ◌≢◌, false, length, IfErr, IfOk};
+ghost use Rattle.std.specs.Prelude.{◌≡◌, length, IfErr, IfOk};
 ghost use Rattle.sessions.specs.Ended.{writes_after};
 ghost use Rattle.sessions.specs.Nodes.{HasGroups, LacksGroups};
 ghost use Rattle.sessions.specs.Output.{IsSharedOutput};
-ghost use Rattle.sessions.specs.Rest.{BeginsRun};
 ghost use Rattle.sessions.specs.Written.{Writes};
 
 use crate::fault::SessionFault;
 use crate::groups::groups_for;
-use crate::means::Means;
-use crate::rest::{Rest, nothing_left};
+use crate::means::{Means, SessionTools};
 use crate::trace::run_scenario;
-use crate::workers::open_run;
+use crate::workers::run_by_windows;
 use command_line::notes::Notes;
 use command_line::reasons::groups_reason;
 use command_line::sharing::Sharing;
 use scenario_image::Scenario;
 use window_core::Partition;
-use window_engine::Sink;
+use window_engine::{Hands, Sink};
 
 /// So many groups that the program finds are worth their threads in the debugger.
 const FEWEST_TO_DEBUG: usize = 3;
-
-/// Whether nodes are in more groups than one.
-fn is_parted(partition: &Partition) -> bool {
-    for node in 1..partition.nodes() {
-        if partition.group(node) != partition.group(0) {
-            return true;
-        }
-    }
-    false
-}
-
-/// Whether the calling thread alone runs the groups: there is one worker, or one group.
-pub(crate) fn is_alone(workers: usize, partition: &Partition) -> bool
-    ensures { result ≡ false → workers ≢ 1 }
-{
-    workers == 1 || !is_parted(partition)
-}
 
 /// The groups in which the nodes of a scenario are. Tells why they are refused, where that is wished
 /// and there is memory to say it.
@@ -82,22 +63,24 @@ pub(crate) fn groups_to_debug<N: Notes>(
 }
 
 /// Runs a scenario to its end, and writes its trace: one event at a time where there is one worker, or
-/// all nodes are in one group. A run by several workers, which goes by windows, is left.
-pub(crate) fn begin_run<W: Sink, N: Notes>(
-    means: &Means,
-    sharing: Sharing,
+/// all nodes are in one group, and else by windows.
+pub(crate) fn put_trace<W: Sink, H: Hands, N: Notes>(
+    tools: &SessionTools<H>,
+    sharing: &Sharing,
     scenario: &Scenario,
     writer: &mut W,
     notes: &mut N,
-) -> Result<Rest, SessionFault>
-    ensures output { BeginsRun (λ ended after. Writes (IsSharedOutput sharing.entry.groups scenario.now ended) (W.contents writer.old) after) result (W.contents writer.new) }
+) -> Result<(), SessionFault>
+    requires { H.ready tools.now.hands.now }
+    ensures output { Writes (IsSharedOutput sharing.now.groups scenario.now result) (W.contents writer.old) (W.contents writer.new) }
     ensures failures { W.failures writer.new ≡ writes_after result (W.failures writer.old) }
 {
-    let partition = reported_groups(means, &sharing, scenario, notes)?;
+    let means = tools.means;
+    let partition = reported_groups(means, sharing, scenario, notes)?;
     let workers = sharing.workers();
-    if is_alone(workers, &partition) {
-        return nothing_left(run_scenario(means.alloc, means.wishes, scenario, writer, notes));
+    let is_alone = workers == 1 || partition.groups() < 2;
+    if is_alone {
+        return run_scenario(means.alloc, means.wishes, scenario, writer, notes);
     }
-    let run = open_run(means, workers, scenario, partition)?;
-    Ok(Rest::Shared(run))
+    run_by_windows(tools, workers, scenario, partition, writer, notes)
 }

@@ -48,11 +48,11 @@ fn put_heading<W: Sink>(
 }
 
 /// Writes the rows of a step, of which this was counted.
-fn put_rows<W: Sink>(
+fn put_rows<W: Sink, N: Notes>(
     column: &NameColumn,
     scenario: &Scenario,
     span: Span,
-    counter: &Counter,
+    counter: &Counter<'_, N>,
     text: &mut Vec<u8>,
     writer: &mut W,
 ) -> Result<(), SessionFault>
@@ -71,9 +71,8 @@ fn put_steps<W: Sink, N: Notes>(
     column: &NameColumn,
     scenario: &Scenario,
     row_steps: RowSteps,
-    counter: &mut Counter,
+    counter: &mut Counter<'_, N>,
     writer: &mut W,
-    notes: &mut N,
 ) -> Result<(), SessionFault>
     requires begun { IsStepBegun scenario.now row_steps.from counter.old.figures counter.old.net }
     requires some { AreOfSomeRun counter.old.figures counter.old.net }
@@ -88,7 +87,7 @@ fn put_steps<W: Sink, N: Notes>(
     let mut begin = row_steps.from;
     loop {
         let until = begin + row_steps.every;
-        counter.run_before(until, notes)?;
+        counter.run_before(until)?;
         put_rows(
             column,
             scenario,
@@ -110,9 +109,8 @@ fn put_from<W: Sink, N: Notes>(
     column: &NameColumn,
     scenario: &Scenario,
     row_steps: RowSteps,
-    counter: &mut Counter,
+    counter: &mut Counter<'_, N>,
     writer: &mut W,
-    notes: &mut N,
 ) -> Result<(), SessionFault>
     requires opened { IsOpenedRun scenario.now counter.old.figures counter.old.net }
     requires some { AreOfSomeRun counter.old.figures counter.old.net }
@@ -123,8 +121,8 @@ fn put_from<W: Sink, N: Notes>(
     ensures output { Writes (IsRowsOutput column.now scenario.now row_steps.from row_steps.every result) (W.contents writer.old) (W.contents writer.new) }
     ensures failures { W.failures writer.new ≡ writes_after result (W.failures writer.old) }
 {
-    counter.begin_at(row_steps.from, notes)?;
-    put_steps(column, scenario, row_steps, counter, writer, notes)
+    counter.begin_at(row_steps.from)?;
+    put_steps(column, scenario, row_steps, counter, writer)
 }
 
 /// Runs a scenario to its end, and writes its figures by time: the heading, and the rows of each step as soon as it has
@@ -144,9 +142,9 @@ pub(crate) fn put_series<W: Sink, N: Notes>(
     ensures failures { W.failures writer.new ≡ writes_after result (W.failures writer.old) }
 {
     let _parts = scenario.parts();
-    let mut counter = Counter::new(means.alloc, means.wishes.progress, scenario)?;
+    let mut counter = Counter::new(means, scenario, notes)?;
     put_heading(means.alloc, column, writer)?;
-    let ended = put_from(column, scenario, row_steps, &mut counter, writer, notes);
-    counter.tell_end(ended.is_ok(), notes);
+    let ended = put_from(column, scenario, row_steps, &mut counter, writer);
+    counter.tell_end(ended.is_ok());
     ended
 }

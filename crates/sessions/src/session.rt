@@ -12,17 +12,15 @@ ghost use Rattle.sessions.specs.Session.{IsSessionOn, OutcomeTells};
 ghost use Rattle.sessions.specs.Streams.{streams_of};
 ghost use Rattle.sessions.specs.Written.{Writes};
 
-use crate::begin::begin;
-use crate::debug::answer_commands;
+use crate::explain::explain;
 use crate::fault::SessionFault;
-use crate::means::SessionTools;
+use crate::input::named_file;
+use crate::means::{Means, SessionTools};
 use crate::mistake::tell_mistake;
 use crate::outcome::Outcome;
 use crate::output::put_all;
-use crate::prompt::answer_prompt;
-use crate::rest::Rest;
 use crate::source::Source;
-use crate::workers::{end_run, run_by_workers};
+use crate::task::answer_named;
 use clap::error::ErrorKind;
 use command_line::notes::{NoNotes, Notes};
 use command_line::subcommand::{Asked, OptionalWord, Subcommand, Task, Wishes};
@@ -33,10 +31,25 @@ use std::sync::Wait;
 use std::thread::Threads;
 use window_engine::{Gate, Several, Sink};
 
-/// Does what the words ask for: first all that waits for nobody, and then what is left.
-fn answer_asked<R: Source, W: Sink, H: Threads + Wait + Sync, N: Notes>(
-    tools: &SessionTools<H>,
-    alloc: Global,
+/// Tells that standard input is awaited for a task, where the words name no file.
+fn tell_awaited<N: Notes>(task: &Task, word: &OptionalWord, notes: &mut N) {
+    if word.get().is_none() {
+        notes.input_is_awaited(task);
+    }
+}
+
+/// What the words wish, with what the notes ask for beside it.
+fn wishes_with<N: Notes>(wishes: Wishes, notes: &N) -> Wishes {
+    Wishes {
+        progress: wishes.progress,
+        explain: wishes.explain || notes.explains(),
+    }
+}
+
+/// Does what the words ask for.
+fn answer_asked<R: Source, W: Sink, H: AllocGlobal + Threads + Wait + Sync, N: Notes>(
+    rt: &H,
+    gate: &Gate,
     asked: Asked,
     reader: &mut R,
     writer: &mut W,
@@ -44,29 +57,23 @@ fn answer_asked<R: Source, W: Sink, H: Threads + Wait + Sync, N: Notes>(
 ) -> Result<(), SessionFault>
     ensures { let seen = streams_of R.failures R.typed W.failures W.contents in IsAskedOn asked.entry (R.remaining reader.old) (R.bytes_of reader.old) result (seen reader.old writer.old) (seen reader.new writer.new) }
 {
-    let rest = begin(alloc, tools.gate, asked, reader, writer, notes)?;
-    match rest {
-        Rest::Nothing => Ok(()),
-        Rest::Shared(shared) => {
-            let mut run = shared;
-            let ran = run_by_workers(
-                tools,
-                run.workers,
-                &run.progress,
-                &mut run.engine,
-                writer,
-                notes,
-            );
-            end_run(alloc, ran, run, writer, notes)
+    match asked {
+        Asked::Session(task, word, wishes) => {
+            tell_awaited(&task, &word, notes);
+            let means = Means {
+                alloc: rt.alloc(),
+                gate,
+                wishes: wishes_with(wishes, notes),
+                file: named_file(&word),
+            };
+            let hands = Several { rt };
+            let tools = SessionTools {
+                means: &means,
+                hands: &hands,
+            };
+            answer_named(&tools, task, reader, writer, notes)
         }
-        Rest::Listed(commands) => answer_commands(
-            &Several { rt: tools.rt },
-            tools.gate,
-            alloc,
-            commands,
-            writer,
-        ),
-        Rest::Typed(prompt) => answer_prompt(tools, prompt, reader, writer, notes),
+        Asked::Explanation(code) => explain(rt.alloc(), &code, writer),
     }
 }
 
@@ -95,14 +102,18 @@ pub fn run_task<R: Source, W: Sink, H: Threads + Wait + Sync>(
 ) -> Outcome
     ensures { let seen = streams_of R.failures R.typed W.failures W.contents in OutcomeTells result (λ ended. IsTaskOn task.entry (R.remaining reader.old) ended (seen reader.old writer.old) (seen reader.new writer.new)) }
 {
-    let tools = SessionTools {
+    let means = Means {
         alloc,
-        rt,
         gate,
-        is_alone: false,
+        wishes: Wishes::NONE,
+        file: OptionalWord::new(None),
     };
-    let asked = Asked::Session(task, OptionalWord::new(None), Wishes::NONE);
-    Outcome::from(answer_asked(&tools, alloc, asked, reader, writer, &mut NoNotes))
+    let hands = Several { rt };
+    let tools = SessionTools {
+        means: &means,
+        hands: &hands,
+    };
+    Outcome::from(answer_named(&tools, task, reader, writer, &mut NoNotes))
 }
 
 /// Writes what the command line asks to be shown.
@@ -149,15 +160,7 @@ pub fn run_noted<H: AllocGlobal + Threads + Wait + Sync, R: Source, W: Sink, S: 
     ensures unread { word_faults (map S.text words.now) ≢ [] → reader.new ≡ reader.old }
 {
     match read_words(rt.alloc(), words) {
-        Ok(asked) => {
-            let tools = SessionTools {
-                alloc: rt.alloc(),
-                rt,
-                gate,
-                is_alone: false,
-            };
-            Outcome::from(answer_asked(&tools, rt.alloc(), asked, reader, writer, notes))
-        }
+        Ok(asked) => Outcome::from(answer_asked(rt, gate, asked, reader, writer, notes)),
         Err(error) => {
             tell_mistake(rt.alloc(), words, error.kind(), notes);
             Outcome::from(answer_words(rt.alloc(), error, writer))

@@ -38,8 +38,11 @@ pub fn run_scenario<W: Sink, N: Notes>(
     let mut page = Page::new(alloc, PAGE)?;
     let mut net = Net::new(alloc, scenario)?;
     let mut line = unused_line(alloc);
-    let mut progress = Progress::new(wishes.progress, net.end());
-    run_net(&mut net, &mut line, &mut page, writer, &mut progress, notes)
+    let mut telling = Telling {
+        progress: Progress::new(wishes.progress, net.end()),
+        notes,
+    };
+    run_net(&mut net, &mut line, &mut page, writer, &mut telling)
 }
 
 /// A line to be lent to each step. What it shows before the first one is used nowhere.
@@ -63,16 +66,16 @@ fn run_net<W: Sink, N: Notes>(
     line: &mut Line,
     page: &mut Page,
     writer: &mut W,
-    progress: &mut Progress,
-    notes: &mut N,
+    telling: &mut Telling<'_, N>,
 ) -> Result<(), SessionFault>
     requires initial { net.old.position ≡ 0 }
     requires empty { page.old ≡ [] }
     ensures output { Writes (IsRunOutput net.old.state result) (W.contents writer.old) (W.contents writer.new) }
     ensures failures { W.failures writer.new ≡ writes_after result (W.failures writer.old) }
 {
-    let ended = put_lines(net, line, page, writer, progress, notes);
-    progress.ends(ended.is_ok(), net.position(), notes);
+    let ended = put_lines(net, line, page, writer, telling);
+    let (done, events) = (ended.is_ok(), net.position());
+    telling.progress.ends(done, events, telling.notes);
     let failed = writer_failed(&ended);
     if failed {
         return ended;
@@ -169,8 +172,7 @@ fn put_lines<W: Sink, N: Notes>(
     line: &mut Line,
     page: &mut Page,
     writer: &mut W,
-    progress: &mut Progress,
-    notes: &mut N,
+    telling: &mut Telling<'_, N>,
 ) -> Result<(), SessionFault>
     requires initial { net.old.position ≡ 0 }
     requires empty { page.old ≡ [] }
@@ -183,7 +185,6 @@ fn put_lines<W: Sink, N: Notes>(
         writer,
         refused: false,
     };
-    let mut telling = Telling { progress, notes };
-    let end = run_by_two(net, &mut tracing, &mut telling, line);
+    let end = run_by_two(net, &mut tracing, telling, line);
     tracing.finish(net, end)
 }

@@ -1,64 +1,28 @@
 //! A scenario's run by windows, written as its trace.
-ghost use Rattle.std.specs.Prelude.{◌≡◌, ◌<◌, ◌≤◌, ℕ, List, length, Option, is_err, IfErr, IfOk};
-ghost use Rattle.table_run.specs.State.{State, initial};
+ghost use Rattle.std.specs.Prelude.{◌≡◌, ◌<◌, ◌≤◌, ℕ, length, is_err, IfErr, IfOk};
+ghost use Rattle.table_run.specs.State.{initial};
 ghost use Rattle.trace_text.specs.End.{end_bytes};
 ghost use Rattle.window_core.specs.Full.{HasTooMany};
 ghost use Rattle.window_engine.specs.Engines.{IsStop, sink_failures};
 ghost use Rattle.sessions.specs.Ended.{IsRunOutput, writes_after};
 ghost use Rattle.sessions.specs.Output.{IsAllOrNothing};
-ghost use Rattle.sessions.specs.Rest.{IsAtStart};
-ghost use Rattle.sessions.specs.Worked.{RunsTo, HasRun, EndsRun};
+ghost use Rattle.sessions.specs.Worked.{RunsTo, EndsRun};
 ghost use Rattle.sessions.specs.Written.{Writes};
 
 use crate::fault::SessionFault;
-use crate::means::{Means, SessionTools};
+use crate::means::SessionTools;
 use crate::output::put_all;
 use crate::progress::{Progress, WHOLE, hundredths};
 use command_line::notes::Notes;
 use scenario_image::Scenario;
-use std::alloc::{AllocError, Global};
-use std::sync::Wait;
-use std::thread::Threads;
+use std::alloc::Global;
 use trace_text::end_text;
 use window_core::Partition;
-use window_engine::{Engine, EngineFault, Several, Sink, Stop};
+use window_engine::{Engine, EngineFault, Hands, Sink, Stop};
 
-/// A run by windows.
-#[derive(Drop)]
-pub(crate) struct WindowRun {
-    /// The engine, which goes from window to window.
-    pub engine: Engine,
-    /// How many workers run the groups.
-    pub workers: usize,
-    /// By which moment it ends, and whether it is told how far it is.
-    pub progress: Progress,
-}
-
-/// A scenario's run by windows, from its beginning.
-pub(crate) fn open_run(
-    means: &Means,
-    workers: usize,
-    scenario: &Scenario,
-    partition: Partition,
-) -> Result<WindowRun, AllocError>
-    requires nodes { length partition ≡ length scenario.now.nodes }
-    requires workers { (0 < workers) × (workers ≤ 64) }
-    ensures start { IfOk result IsAtStart }
-    ensures state { IfOk result (λ run. run.engine.net.state ≡ initial scenario.now) }
-    ensures shared { IfOk result (λ run. run.workers ≡ workers) }
-{
-    let engine = Engine::new(means.alloc, scenario, partition)?;
-    let progress = Progress::new(means.wishes.progress, scenario.parts().end);
-    Ok(WindowRun {
-        engine,
-        workers,
-        progress,
-    })
-}
-
-/// Runs an engine to a moment by several workers, for which it may wait, from one hundredth of it to
-/// the next where it is told how far it is.
-pub(crate) fn run_by_workers<W: Sink, H: Threads + Wait + Sync, N: Notes>(
+/// Runs an engine to a moment by several workers, from one hundredth of it to the next where it is told
+/// how far it is.
+fn run_by_workers<W: Sink, H: Hands, N: Notes>(
     tools: &SessionTools<H>,
     workers: usize,
     progress: &Progress,
@@ -66,6 +30,7 @@ pub(crate) fn run_by_workers<W: Sink, H: Threads + Wait + Sync, N: Notes>(
     writer: &mut W,
     notes: &mut N,
 ) -> Result<Stop, EngineFault>
+    requires ready { H.ready tools.now.hands.now }
     requires first { engine.old.net.position ≡ 0 }
     requires workers { (0 < workers) × (workers ≤ 64) }
     ensures runs { RunsTo engine.old.net.state result engine.new.net (W.contents writer.old) (W.contents writer.new) }
@@ -74,16 +39,16 @@ pub(crate) fn run_by_workers<W: Sink, H: Threads + Wait + Sync, N: Notes>(
     ensures failed { engine.new.failed ≡ is_err result }
     ensures failures { W.failures writer.new ≡ sink_failures result (W.failures writer.old) }
 {
-    let hands = Several { rt: tools.rt };
+    let (hands, gate) = (tools.hands, tools.means.gate);
     for percent in progress.first()..WHOLE {
         let moment = hundredths(progress.end, percent);
-        let stop = engine.run(&hands, workers, tools.gate, moment, writer)?;
+        let stop = engine.run(hands, workers, gate, moment, writer)?;
         let events = engine.position();
         if stop == Stop::Until {
             progress.say(percent, events, notes);
         }
     }
-    engine.run(&hands, workers, tools.gate, progress.end, writer)
+    engine.run(hands, workers, gate, progress.end, writer)
 }
 
 /// Writes the last line of a run of so many events.
@@ -113,21 +78,29 @@ fn write_end<W: Sink>(
     }
 }
 
-/// Ends a run by windows that came to this: writes its last line, and tells that it has ended where
-/// that is wished. Whatever ends it sooner does so after whole lines, unless it is the writer.
-pub(crate) fn end_run<W: Sink, N: Notes>(
-    alloc: Global,
-    ran: Result<Stop, EngineFault>,
-    run: WindowRun,
+/// Runs a scenario to its end by windows, and writes its trace. Whatever ends it sooner does so after
+/// whole lines, unless it is the writer.
+pub(crate) fn run_by_windows<W: Sink, H: Hands, N: Notes>(
+    tools: &SessionTools<H>,
+    workers: usize,
+    scenario: &Scenario,
+    partition: Partition,
     writer: &mut W,
     notes: &mut N,
 ) -> Result<(), SessionFault>
-    ensures output { (s : State) (before : Option (List ℕ)) → HasRun s run.progress.end ran run.engine before (W.contents writer.old) → Writes (IsRunOutput s result) before (W.contents writer.new) }
-    ensures failures { (n : ℕ) → W.failures writer.old ≡ sink_failures ran n → W.failures writer.new ≡ writes_after result n }
+    requires ready { H.ready tools.now.hands.now }
+    requires nodes { length partition ≡ length scenario.now.nodes }
+    requires workers { (0 < workers) × (workers ≤ 64) }
+    ensures output { Writes (IsRunOutput (initial scenario.now) result) (W.contents writer.old) (W.contents writer.new) }
+    ensures failures { W.failures writer.new ≡ writes_after result (W.failures writer.old) }
 {
-    let events = run.engine.position();
-    let ended = write_end(alloc, ran, events, writer);
-    run.progress.ends(ended.is_ok(), events, notes);
-    drop(run);
+    let means = tools.means;
+    let mut engine = Engine::new(means.alloc, scenario, partition)?;
+    let progress = Progress::new(means.wishes.progress, scenario.parts().end);
+    let ran = run_by_workers(tools, workers, &progress, &mut engine, writer, notes);
+    let events = engine.position();
+    let ended = write_end(means.alloc, ran, events, writer);
+    progress.ends(ended.is_ok(), events, notes);
+    drop(engine);
     ended
 }

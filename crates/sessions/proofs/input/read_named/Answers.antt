@@ -1,7 +1,7 @@
 use Rattle.std.proofs.Common.{◌≡◌, List, ℕ, Option, IfOk, IfErr, sym, subst}
 use Rattle.sessions.specs.Named.{IsInputFault, input_reads_after, known_of}
 use Rattle.sessions.specs.Streams.{IsInputOf}
-use Rattle.sessions.proofs.Rests.{where_none, where_some}
+use Rattle.sessions.proofs.Overs.{where_none, where_some}
 use Rattle.sessions.proofs.input.read_named.Goals as goal
 
 pub returns-in-Some-clause-input : goal.returns-in-Some-clause-input

@@ -11,8 +11,9 @@ invariant-loop g l =
     record {
       can_next : (goal.iterator-loop g).can_next l.iterator';
       is_finite : (goal.iterator-loop g).is_finite l.iterator';
-      so_far : SoFar l.naming l.fn.dialogue.debugger.start (at_prompt l.fn.dialogue) (at_prompt l.dialogue) (seen l.fn.reader l.fn.writer) (seen l.reader l.writer);
-      start : l.dialogue.debugger.start ≡ l.fn.dialogue.debugger.start;
+      so_far : SoFar l.fn.prompt.naming l.fn.prompt.dialogue.debugger.start (at_prompt l.fn.prompt.dialogue) (at_prompt l.prompt.dialogue) (seen l.fn.reader l.fn.writer) (seen l.reader l.writer);
+      start : l.prompt.dialogue.debugger.start ≡ l.fn.prompt.dialogue.debugger.start;
+      naming : l.prompt.naming ≡ l.fn.prompt.naming;
       room : 65536 < length l.room;
       reads : g.R.Source.failures l.reader ≡ g.R.Source.failures l.fn.reader;
       writes : g.W.Sink.failures l.writer ≡ g.W.Sink.failures l.fn.writer;

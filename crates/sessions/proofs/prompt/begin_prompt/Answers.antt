@@ -1,58 +1,57 @@
-use Rattle.std.proofs.Common.{◌≡◌, Result, Err, refl, sym, subst, rules}
+use Rattle.std.proofs.Common.{◌≡◌, Result, Err, IfErr, sym, subst, rules}
+use Rattle.debug_session.specs.Sessions.{limits_of}
+use Rattle.debug_session.specs.declared.naming.Naming.{Naming}
 use Rattle.sessions.specs.declared.fault.SessionFault.{SessionFault}
 use Rattle.sessions.specs.declared.fault.SessionFault.TheVariants.{NoMemory}
-use Rattle.sessions.specs.declared.rest.Rest.{Rest}
-use Rattle.debug_session.specs.declared.naming.Naming.{Naming}
-use Rattle.debug_session.specs.Sessions.{limits_of}
+use Rattle.sessions.specs.declared.prompt.Prompt.{Prompt}
+use Rattle.sessions.specs.Done.{IsRefused}
 use Rattle.sessions.specs.Namings.{IsNamingOf}
-use Rattle.sessions.specs.Rest.{BeginsSession, IsPromptDone}
-use Rattle.sessions.proofs.PromptEnds.{groups_refused, input_refused, scenario_of, unbegun}
-use Rattle.sessions.proofs.Rests.{typed_end}
+use Rattle.sessions.proofs.PromptEnds.{groups_refused, input_refused, scenario_of, short_refused}
 use Rattle.sessions.proofs.prompt.begin_prompt.Goals as goal
 
-pub returns-in_err-scenario : goal.returns-in_err-scenario
-returns-in_err-scenario g c now =
+pub returns-in_err-scenario-clause-refused : goal.returns-in_err-scenario-clause-refused
+returns-in_err-scenario-clause-refused g c =
     let fault = c.in_err-scenario.field-0.0 in
     let groups = c.args.sharing.now.groups in
     let input = c.args.input.now in
     let is : c.from_residual.result ≡ Err fault = search rules in
-    let refused = input_refused groups input fault c.reported_scenario.result now c.requires c.in_err-scenario.was c.reported_scenario.ensures in
-    subst (λ (r : Result Rest SessionFault). BeginsSession (IsPromptDone groups input now) r now) (sym is)
-    (record { over = refused.over; reads = refused.reads now.read_failures; writes = refused.writes now.write_failures })
+    subst (λ (r : Result Prompt SessionFault). IfErr r (IsRefused groups input)) (sym is) (input_refused groups input fault c.reported_scenario.result c.requires c.in_err-scenario.was c.reported_scenario.ensures)
 
-pub returns-in_err-partition : goal.returns-in_err-partition
-returns-in_err-partition g c now =
+pub returns-in_err-partition-clause-refused : goal.returns-in_err-partition-clause-refused
+returns-in_err-partition-clause-refused g c =
     let fault = c.in_err-partition.field-0.0 in
     let groups = c.args.sharing.now.groups in
     let input = c.args.input.now in
     let p = c.in_ok-scenario.scenario in
     let is : c.from_residual-in_err-partition.result ≡ Err fault = search rules in
     let means = scenario_of input c.reported_scenario.result p c.in_ok-scenario.was c.reported_scenario.ensures in
-    let refused = groups_refused groups input p fault now c.requires means c.in_err-partition.ensures.faults in
-    subst (λ (r : Result Rest SessionFault). BeginsSession (IsPromptDone groups input now) r now) (sym is)
-    (record { over = refused.over; reads = refused.reads now.read_failures; writes = refused.writes now.write_failures })
+    subst (λ (r : Result Prompt SessionFault). IfErr r (IsRefused groups input)) (sym is) (groups_refused groups input p fault c.requires means c.in_err-partition.ensures.faults)
 
-pub returns-in_err-naming : goal.returns-in_err-naming
-returns-in_err-naming g c now =
+pub returns-in_err-naming-clause-refused : goal.returns-in_err-naming-clause-refused
+returns-in_err-naming-clause-refused g c =
     let is : c.from_residual-in_err-naming.result ≡ Err NoMemory = search rules in
-    subst (λ (r : Result Rest SessionFault). BeginsSession (IsPromptDone c.args.sharing.now.groups c.args.input.now now) r now) (sym is) (record { over = unbegun now; reads = refl; writes = refl })
+    subst (λ (r : Result Prompt SessionFault). IfErr r (IsRefused c.args.sharing.now.groups c.args.input.now)) (sym is) (short_refused c.args.sharing.now.groups c.args.input.now)
 
 pub naming_of-requires : goal.naming_of-requires
 naming_of-requires g c = scenario_of c.args.input.now c.reported_scenario.result c.in_ok-scenario.scenario c.in_ok-scenario.was c.reported_scenario.ensures
 
-pub returns-in_err-prompt : goal.returns-in_err-prompt
-returns-in_err-prompt g c now =
+pub returns-in_err-prompt-clause-refused : goal.returns-in_err-prompt-clause-refused
+returns-in_err-prompt-clause-refused g c =
     let is : c.from_residual-in_err-prompt.result ≡ Err NoMemory = search rules in
-    subst (λ (r : Result Rest SessionFault). BeginsSession (IsPromptDone c.args.sharing.now.groups c.args.input.now now) r now) (sym is) (record { over = unbegun now; reads = refl; writes = refl })
+    subst (λ (r : Result Prompt SessionFault). IfErr r (IsRefused c.args.sharing.now.groups c.args.input.now)) (sym is) (short_refused c.args.sharing.now.groups c.args.input.now)
 
-pub returns : goal.returns
-returns g c now =
+pub returns-clause-opened : goal.returns-clause-opened
+returns-clause-opened g c =
     let input = c.args.input.now in
     let p = c.in_ok-scenario.scenario in
-    let means = scenario_of input c.reported_scenario.result p c.in_ok-scenario.was c.reported_scenario.ensures in
     let opens = c.in_ok-prompt.ensures in
-    let called = subst (λ (n : Naming). IsNamingOf input (limits_of p) n) (sym opens.naming) c.in_ok-naming.ensures in (
-      opens.room,
-      λ ended after left.
-          typed_end c.args.sharing.now.groups input p c.in_ok-prompt.prompt ended now after c.requires means c.in_ok-partition.ensures.named opens.debugger opens.memo opens.displays called left,
-    )
+    record {
+      p = p;
+      workers = c.workers.result;
+      has_scenario = scenario_of input c.reported_scenario.result p c.in_ok-scenario.was c.reported_scenario.ensures;
+      has_groups = c.in_ok-partition.ensures.named;
+      naming = subst (λ (n : Naming). IsNamingOf input (limits_of p) n) (sym opens.naming) c.in_ok-naming.ensures;
+      debugger = opens.debugger;
+      memo = opens.memo;
+      displays = opens.displays;
+    }

@@ -5,7 +5,7 @@ use Rattle.sessions.proofs.RowLimits.{both_or_not}
 use Rattle.sessions.proofs.row_limit.goes_past.Goals as goal
 
 pub returns-then-position-lt-MOST_EVENTS : goal.returns-then-position-lt-MOST_EVENTS
-returns-then-position-lt-MOST_EVENTS c = λ p end.
+returns-then-position-lt-MOST_EVENTS g c = λ p end.
     let net = c.args.counter.now.net in
     let less = c.if-position-lt-MOST_EVENTS.true in
     let count = c.position.ensures.count in

@@ -1,5 +1,0 @@
-use Rattle.std.proofs.Common.{sym}
-use Rattle.sessions.proofs.counter.Counter.run_to_end.Goals as goal
-
-pub shape_of-self : goal.shape_of-self
-shape_of-self g c = sym c.run_by_two.ensures.watched.second_has.holds.1
