@@ -1,10 +1,13 @@
 #!/usr/bin/env python3
-"""Writes the parts of two pages that list the crates. docs/ARCHITECTURE.md has their levels, from crates.txt, and a row for each,
-from the first sentence of its code. docs/FILES.md has a row for each file, from its first sentence. It also has a row for each crate
-whose lemmas others use, from the lines `use Rattle.CRATE.proofs..` of their files.
+"""Writes the parts of two pages that list the crates: docs/ARCHITECTURE.md has their levels, from crates.txt, and crates/README.md
+has a row for each, from the first sentence of its code.
 
-    dev/crates_page.py
+    dev/crates_page.py [--files FILE]
+
+With --files it writes another page, as `make install` does: a row for each file, from its first sentence, and one for each crate
+whose lemmas others use, from the lines `use Rattle.CRATE.proofs..` of their files.
 """
+import argparse
 import glob
 import os
 import re
@@ -13,6 +16,24 @@ from collections import defaultdict
 TOP = os.path.dirname(os.path.dirname(os.path.abspath(__file__)))
 BEGIN, END = '<!-- {} of dev/crates_page.py -->\n', '<!-- its end -->'
 MOST_WORDS = 25     # of a cell, as of any sentence (dev/style.py)
+# The crates in the order in which one reads them, each with the file to open first.
+GROUPS = {
+    'The kernel: queues, senders, receivers, one event at a time': {
+        'sim_time': 'src/key.rt', 'packet_chain': 'src/chain.rt', 'aqm': 'src/queue.rt', 'port': 'src/port.rt', 'reno_sender': 'src/sender.rt',
+        'reno_receiver': 'src/receiver.rt', 'tournament': 'src/timetable.rt', 'node_core': 'src/fire.rt', 'table_run': 'specs/State.antt',
+        'net_machine': 'src/net.rt', 'net_watch': 'src/one_loop.rt'},
+    'Windows and workers': {
+        'net_partition': 'src/partition.rt', 'window_law': 'src/laws.rt', 'line_merge': 'src/merge.rt', 'node_group': 'src/group.rt',
+        'window_core': 'src/window.rt', 'work_board': 'src/board.rt', 'thread_pool': 'src/pool.rt', 'window_text': 'src/formatter.rt',
+        'window_workers': 'src/workers.rt', 'window_engine': 'src/engine.rt'},
+    'Scenarios': {'scenario_image': 'src/scenario.rt', 'scenario_asm': 'src/assembler.rt', 'explanations': 'src/texts.rt'},
+    'Texts and figures': {'trace_text': 'src/line.rt', 'flow_waits': 'src/waits.rt', 'figures': 'src/figures.rt', 'figures_text': 'src/table.rt'},
+    'The debugger': {'debugger': 'src/moves.rt', 'debug_session': 'src/typed_reply.rt'},
+    'The program': {'command_line': 'src/words.rt', 'sessions': 'src/session.rt', 'tcpsim': 'src/main.rt'},
+    'Laws of every run': {'run_laws': 'src/laws.rt'},
+    'Tests, by public calls alone': {
+        'tests_ends': 'src/senders.rt', 'tests_parts': 'src/lib.rt', 'tests_texts': 'src/texts.rt', 'tests_nets': 'src/lib.rt',
+        'tests_engine': 'src/engines.rt', 'tests_program': 'src/whole.rt'}}
 
 
 def crates():
@@ -53,7 +74,7 @@ def first_sentence(path):
     sentence = re.split(r'(?<=[^.]\.)\s', ' '.join(said) + ' ', maxsplit=1)[0].strip().rstrip('.')
     if len(sentence.split()) > MOST_WORDS:
         begin = ' '.join(sentence.split()[:MOST_WORDS])
-        sentence = (re.match(r'(.*)[;:]', begin) or re.match(r'(.*),', begin))[1]
+        sentence = (re.findall(r'^(.*)[;:]', begin) or re.findall(r'^(.*),', begin))[0]
     return sentence.replace('|', '\\|')
 
 
@@ -74,12 +95,13 @@ def nearest(name):
 
 
 def of_crates():
-    """A row for each crate: the first sentence of its code, and the crates that it depends on directly."""
-    yield '| Crate | What it is | Depends on |'
-    yield '|---|---|---|'
-    for name in crates():
-        main_file, = glob.glob(f'{TOP}/crates/{name}/src/lib.rt') or glob.glob(f'{TOP}/crates/{name}/src/main.rt')
-        yield f'| [{name}](FILES.md#{name}) | {first_sentence(main_file)} | {", ".join(nearest(name))} |'
+    """For each group a table: a row for each crate, with the first sentence of its code and the crates that it depends on directly."""
+    for group, files_of in GROUPS.items():
+        yield from (f'## {group}', '', '| Crate | What it is | Open first | Depends on |', '|---|---|---|---|')
+        for name, first in files_of.items():
+            main_file, = glob.glob(f'{TOP}/crates/{name}/src/lib.rt') or glob.glob(f'{TOP}/crates/{name}/src/main.rt')
+            yield f'| [{name}]({name}) | {first_sentence(main_file)} | [{first}]({name}/{first}) | {", ".join(nearest(name))} |'
+        yield ''
 
 
 def of_files():
@@ -95,7 +117,7 @@ def of_files():
 
 def lemmas():
     """A row for each crate whose lemmas others use: the modules in its proofs/, and who uses them."""
-    taken = defaultdict(lambda: defaultdict(set))
+    taken: defaultdict[str, defaultdict[str, set[str]]] = defaultdict(lambda: defaultdict(set))
     for name in crates():
         for path in glob.glob(f'{TOP}/crates/{name}/*/**/*.*t', recursive=True):
             if path.split(os.sep)[-1].endswith(('.rt', '.antt')) and f'/{name}/out/' not in path:
@@ -112,8 +134,17 @@ def lemmas():
         yield from (f'| {name} | {", ".join(modules)} | {takers} |' for takers, modules in by_takers.items())
 
 
-PAGES = {'docs/ARCHITECTURE.md': {'the levels': levels, 'the crates': of_crates},
-         'docs/FILES.md': {'the lemmas': lemmas, 'the files': of_files}}
+PAGES = {'docs/ARCHITECTURE.md': {'the levels': levels}, 'crates/README.md': {'the crates': of_crates}}
+
+
+def page_of_files():
+    """The page of all files."""
+    return '\n'.join([
+        '# Crates and their files', '',
+        'What does each file contain? This is the first sentence of each. Code is in a crate\'s `src/`, definitions in its `specs/`, '
+        'proofs in its `proofs/`.', '',
+        'A crate\'s code and definitions name only public calls, types, contracts and definitions of others. Its proofs may use lemmas of '
+        'the crates that it depends on:', '', *lemmas(), '', *of_files()])
 
 
 def page(text, parts):
@@ -125,6 +156,13 @@ def page(text, parts):
 
 
 def main():
+    reader = argparse.ArgumentParser(description=__doc__.splitlines()[0])
+    reader.add_argument('--files', metavar='FILE', help='write the page of all files, and no other')
+    given = reader.parse_args()
+    if given.files:
+        with open(given.files, 'w', encoding='utf-8') as file:
+            file.write(page_of_files())
+        return
     for name, parts in PAGES.items():
         with open(os.path.join(TOP, name), encoding='utf-8') as file:
             now = page(file.read(), parts)

@@ -1,4 +1,4 @@
-"""Tests of what docs/ARCHITECTURE.md and docs/FILES.md have of the crates, beside crates.txt and the crates' files."""
+"""Tests of what crates/README.md, docs/ARCHITECTURE.md and the page of files have of the crates, beside crates.txt and the crates' files."""
 import os
 import re
 
@@ -22,20 +22,23 @@ def test_the_parts_are_read():
     assert sorted(found) == sorted(crates_page.crates())
 
 
-def test_each_crate_says_what_it_is():
-    rows = list(crates_page.of_crates())[2:]
-    assert [re.match(r'\| \[(\w+)\]\(FILES\.md#\1\) \| .+ \| [\w, ]*\|$', row)[1] for row in rows] == list(crates_page.crates())
+def test_each_crate_has_a_row_and_a_file_to_open():
+    rows = [re.match(r'\| \[(\w+)\]\(\1\) \| .+ \| \[(\S+)\]\(\1/\2\) \| [\w, ]*\|$', row) for row in crates_page.of_crates()
+            if row.startswith('| [')]
+    assert sorted(row[1] for row in rows) == sorted(crates_page.crates())
+    for row in rows:
+        assert os.path.isfile(f'{TOP}/crates/{row[1]}/{row[2]}')
 
 
 def test_each_file_has_a_row():
     """But for the modules of crates of tests that begin with their first line of code."""
-    page = '\n'.join(crates_page.of_files())
+    page = crates_page.page_of_files()
     for crate in crates_page.crates():
         for folder, kind in (('src', 'rt'), ('specs', 'antt')):
             for at, _, names in os.walk(os.path.join(TOP, 'crates', crate, folder)):
                 for name in names:
                     path = os.path.relpath(os.path.join(at, name), TOP)
-                    if name.endswith('.' + kind) and not name.lower().startswith(('lib.', 'mod.')) and not crate.endswith('_tests'):
+                    if name.endswith('.' + kind) and not name.lower().startswith(('lib.', 'mod.')) and not crate.startswith('tests_'):
                         assert f'](../{path})' in page
 
 

@@ -16,7 +16,7 @@ use sim_time::MOST_EVENTS;
 use std::mem::{replace, swap};
 
 /// Why no turn was taken.
-#[derive(Clone, Copy, Debug, PartialEq, Eq)]
+#[derive(Clone, Copy)]
 pub enum TurnFault {
     /// A group has an event before the window's end.
     NotDone,
