@@ -2,7 +2,7 @@
 """Compares the built program with the model of python/tcpsim_model on many inputs: status, output, note.
 
 Usage: dev/compare.py [--kind texts,runs,images,debug,prompt,auto,figures,refused] [--seed S] [--count N] [--jobs J]
-                          [--program PATH] [--options] [--systematic | --random] [--steps N] [--shrink SECONDS]
+                          [--program PATH] [--options] [--systematic | --random] [--shrink SECONDS]
 
   texts    mutated and systematic texts, most of them refused     (tcpsim run)
   runs     random scenarios: one flow, dumbbells, chains, trees   (tcpsim run)
@@ -19,8 +19,7 @@ Usage: dev/compare.py [--kind texts,runs,images,debug,prompt,auto,figures,refuse
   refused  mutated and systematic texts, texts of people who have not read the form, and images; and groups that do not
            fit, each with why it is refused                       (tcpsim asm --explain, tcpsim run --explain)
 
---options gives random --groups and --workers besides. --steps N is for a program whose prompt has the first N steps
-of its grammar (python/tcpsim_model/prompt.py); left out, as many as the built one has.
+--options gives random --groups and --workers besides.
 
 What differs is printed, the smallest case first, each made smaller by leaving out what isn't needed.
 The status is 1 where anything differs.
@@ -43,7 +42,7 @@ import threading
 import time
 
 from clone import TOP
-from tcpsim_model import command_line, debugger, figures, grammar, image, nets, prompt, sessions, simulate, spelling, unread
+from tcpsim_model import command_line, debugger, figures, grammar, image, nets, sessions, simulate, spelling, unread
 from tcpsim_model.scenario import Refused
 from tcpsim_model.smaller import smaller
 from tcpsim_model.text import assemble, disassemble, lines_of
@@ -57,7 +56,6 @@ PROGRAM = os.path.join(TOP, 'crates', 'tcpsim', 'out', 'tcpsim')
 CREWS = ('1', '2', '4', '64')
 # A case of a prompt has scenario and lines in one, with this between them; the word stands for the scenario's file.
 TYPED, FILE = b'\n--- typed\n', 'FILE'
-STEPS = '--steps='      # begins a word that only the model is given
 
 
 class Enough(Exception):
@@ -84,11 +82,12 @@ def program_answers(path, words, data, most):
     """Status, output and note; a longer output is cut off at `most` bytes, its status then `long`."""
     scenario, keys = parts_of(words, data)
     with in_memory(scenario) as file, in_memory(keys) as given, in_memory() as told:
-        words = [f'/dev/fd/{file.fileno()}' if word == FILE else word for word in words if not word.startswith(STEPS)]
+        words = [f'/dev/fd/{file.fileno()}' if word == FILE else word for word in words]
         process = subprocess.Popen([path, *words], stdin=given, stdout=subprocess.PIPE, stderr=told,
                                    pass_fds=[file.fileno()], env={'PATH': '/usr/bin:/bin', 'LC_ALL': 'C'})
         silence = threading.Timer(LONGEST, process.kill)
         silence.start()
+        assert process.stdout
         out = process.stdout.read(most)
         if len(out) == most:
             process.kill()
@@ -118,7 +117,7 @@ def model_answers_kept(words, data, most):
         if left <= 0:
             raise Enough
     scenario, keys = parts_of(words, data)
-    told = []
+    told: list[bytes] = []
     try:
         status, note = command_line.main(words, keys, write, told.append, lambda _: scenario)
     except Enough:
@@ -162,9 +161,9 @@ def fewer_things(job, best, stop):
     """Leaves out flows, losses, segments and more of an accepted scenario."""
     path, (words, data) = job
     kept = words if words[0] == 'figures' else words[:1]        # groups are one for each node
-    scenario, found = (image.load if data.startswith(b'TCB') else assemble)(data), True
-    while found and time.monotonic() < stop:
-        found = None
+    scenario, goes_on = (image.load if data.startswith(b'TCB') else assemble)(data), True
+    while goes_on and time.monotonic() < stop:
+        goes_on = False
         for less in smaller(scenario):
             found = differs((path, (kept, disassemble(less))))
             if found:
@@ -375,9 +374,8 @@ def prompts(pick, args):
         scenario = command_line.read(data)
         if pick.random() < 0.03:
             data = spelling.mutated(data, pick)
-        keys = sessions.any_session(pick, scenario, moments(scenario) or [0], args.steps)
-        words = [FILE, *options(pick, args, len(scenario.nodes))]
-        yield ('debug', *words, f'{STEPS}{args.steps}'), data + TYPED + keys
+        keys = sessions.any_session(pick, scenario, moments(scenario) or [0])
+        yield ('debug', FILE, *options(pick, args, len(scenario.nodes))), data + TYPED + keys
 
 
 def tables(pick, args):
@@ -494,7 +492,6 @@ def arguments():
     parser.add_argument('--jobs', type=int, default=2)
     parser.add_argument('--program', default=PROGRAM)
     parser.add_argument('--options', action='store_true')
-    parser.add_argument('--steps', type=int, default=prompt.BUILT)
     parser.add_argument('--shrink', type=float, default=SHRINKING, help='seconds for making a case that differs smaller')
     parser.add_argument('--systematic', action='store_true', help='only the systematic inputs')
     parser.add_argument('--random', action='store_true', help='only the random inputs')
@@ -508,7 +505,8 @@ def arguments():
 
 def main():
     args = arguments()
-    differences, count = [], 0
+    differences: list[tuple] = []
+    count = 0
     with multiprocessing.get_context('fork').Pool(args.jobs) as pool:
         for kind in args.kind.split(','):
             cases = KINDS[kind](random.Random(f'{kind} {args.seed}'), args)
@@ -520,7 +518,7 @@ def main():
                     differences.append((args.program, found[0]))
             print(f'{kind}: {count - before} compared', flush=True)
         differences.sort(key=lambda job: len(job[1][1]))
-        shortest = pool.map(functools.partial(shrunk, seconds=args.shrink), differences[:SHOWN], 1)
+        shortest: list[tuple] = pool.map(functools.partial(shrunk, seconds=args.shrink), differences[:SHOWN], 1)
     for found in sorted(filter(None, shortest), key=lambda found: len(found[0][1])):
         show(found)
     print(f'{count} compared, {len(differences)} different')

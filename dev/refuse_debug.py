@@ -19,7 +19,7 @@ COMMANDS = b'break kind data\nrun\nrun\nback 1\nuntil 2040000\nbak 1\n'
 TYPED = (b'break stall\nrun\nwhy 0\nrun\nbreak drop\ndisplay flow f\nreverse\nreverse\nstalls\nuntil 2s\ndisplay wait a\nlines 3\nstate flow 0\nreverse\n'
          b'display\nbreaks\n')
 PROMPT = b'(tcpsim) '
-OPTIONS = ([], ['--groups', 'each', '--workers', '1'], ['--groups', 'each', '--workers', '2'])
+OPTIONS: tuple[list[str], ...] = ([], ['--groups', 'each', '--workers', '1'], ['--groups', 'each', '--workers', '2'])
 # A command that changes nothing and is answered with one line.
 NO_COMMAND, ITS_ANSWER, REFUSED = b'refuse\n', b'refused B1\n', b'refused M\n'
 # What is noted of a line that is typed and refused memory.
@@ -67,7 +67,7 @@ class Session:
         """The output where these commands are not done, by their places."""
         if refused not in self.known:
             lines = [NO_COMMAND if at in refused else line for at, line in enumerate(self.commands)]
-            written = []
+            written: list[bytes] = []
             status, note = command_line.main(['debug'], self.text + b'---\n' + b''.join(lines), written.append)
             answers = answers_of(b''.join(written))
             if (status, note, len(answers)) != (0, '', len(lines)):
@@ -154,7 +154,8 @@ def tried(name, session, library, pool):
 
 def sessions():
     if len(sys.argv) > 1:
-        yield sys.argv[1], Session(*read(os.path.abspath(sys.argv[1])).split(b'---\n', 1), sys.argv[2:])
+        text, commands = read(os.path.abspath(sys.argv[1])).split(b'---\n', 1)
+        yield sys.argv[1], Session(text, commands, sys.argv[2:])
         return
     texts = [('one_segment', COMMANDS)]
     for hunt in ('two_timeouts_in_a_row', 'codel_enters_drop_state'):
@@ -167,7 +168,7 @@ def sessions():
 
 
 def main():
-    jobs = int(os.environ.get('JOBS') or os.cpu_count())
+    jobs = int(os.environ.get('JOBS') or os.cpu_count() or 1)
     with tempfile.TemporaryDirectory() as work, concurrent.futures.ThreadPoolExecutor(jobs) as pool:
         library = os.path.join(work, 'refuse.so')
         source = os.path.join(top, 'dev/refuse.c')

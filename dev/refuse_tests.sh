@@ -8,21 +8,21 @@
 set -u
 LC_ALL=C
 top=$(cd "$(dirname "$0")/.." && pwd)
-tests='aqm tests::copies_are_in_the_same_state
-part_tests chains::a_refused_copy_leaves_its_source
-part_tests links::copies_are_in_the_same_state
-net_tests nets::two_flows::every_event_is_run_also_where_memory_was_refused
-net_tests nets::by_nodes::nodes_run_their_events_as_the_net_does
-net_tests nets::by_nodes::receivers_hold_segments_and_codel_drops_as_in_the_net
-net_tests nets::copies::a_refused_copy_leaves_the_net
-net_tests nets::late::a_fault_behind_the_millionth_event_is_told
-net_tests windows::refused::a_refused_window_gives_the_net_back
-net_tests windows::refused::a_refused_turn_leaves_the_window
-net_tests windows::refused::a_refused_group_stands_after_whole_events
-net_tests boards::refused::a_refused_board_gives_its_pieces_up
-engine_tests refused::a_refused_window_fails_the_engine
-engine_tests refused::a_refused_text_commits_nothing_of_its_window
-engine_tests refused::a_refused_move_changes_nothing'
+tests='tests_ends queues::copies_are_in_the_same_state
+tests_parts chains::a_refused_copy_leaves_its_source
+tests_parts links::copies_are_in_the_same_state
+tests_nets nets::two_flows::every_event_is_run_also_where_memory_was_refused
+tests_nets nets::by_nodes::nodes_run_their_events_as_the_net_does
+tests_nets nets::by_nodes::receivers_hold_segments_and_codel_drops_as_in_the_net
+tests_nets nets::copies::a_refused_copy_leaves_the_net
+tests_nets nets::late::a_fault_behind_the_millionth_event_is_told
+tests_nets windows::refused::a_refused_window_gives_the_net_back
+tests_nets windows::refused::a_refused_turn_leaves_the_window
+tests_nets windows::refused::a_refused_group_stands_after_whole_events
+tests_nets boards::refused::a_refused_board_gives_its_pieces_up
+tests_engine refused::a_refused_window_fails_the_engine
+tests_engine refused::a_refused_text_commits_nothing_of_its_window
+tests_engine refused::a_refused_move_changes_nothing'
 
 if ! command -v cc > /dev/null; then
   echo 'LEFT OUT, not passed: memory refused to tests (no cc)'

@@ -9,9 +9,8 @@ import sys
 import pytest
 
 import compare
-from compare import debugger, prompt
 from clone import TOP, ran
-from tcpsim_model import conditions, displays, grammar, marked, naming, waits
+from tcpsim_model import conditions, debugger, displays, grammar, marked, naming, prompt, waits
 from tcpsim_model.scenario import Refused
 
 ENOUGH = 400        # sessions of each draw; a fault has to show in one
@@ -31,7 +30,7 @@ right = {name: getattr(place, name) for place, name in (
     (at_prompt, 'of_flow'), (at_prompt, 'move'), (prompt, 'time_in'), (prompt, 'numbered'), (prompt.Marked, 'is_met'), (waits, 'standing'),
     (waits, 'waiting'), (prompt, 'edits'), (naming.Names, 'number_of'), (naming.Names, 'sort_of'),
     (marked.Valued, 'changed_from'), (marked, 'of_port'), (marked, 'is_so'), (prompt, 'words_of'), (at_prompt, 'whose'), (at_prompt, 'on_clear'),
-    (displays.Display, 'told'), (displays.Displays, 'values'), (displays.Displays, 'add'), (prompt, 'stalls_of'), (displays, 'text_of'))}
+    (displays.Display, 'told'), (displays.Displays, 'values'), (displays.Displays, 'add'), (prompt, 'stalls_of'), (displays, 'text_of'), (prompt, 'last_shown'))}
 right['is_met on values'] = marked.Valued.is_met
 
 
@@ -116,7 +115,7 @@ def names_cut_short(self, sort, word):
 
 
 def words_of_the_grammar_are_no_names(self, sort, word):
-    if word in conditions.BEHIND:
+    if word in conditions.OF_VALUES:
         raise Refused('B3')
     return right['number_of'](self, sort, word)
 
@@ -184,7 +183,7 @@ def the_last_display_is_set_again(self, new):
 
 
 def stalls_up_to_here(self, words):
-    return ''.join(f'goto {position}: {self.told.called("flow", flow)} is stalled at {time} ns\n'
+    return ''.join(f'goto {position}: {self.names.called("flow", flow)} is stalled at {time} ns\n'
                    for position, flow, time in right['stalls_of'](self.debugger.scenario) if position <= self.debugger.net.position) or 'no stall\n'
 
 
@@ -196,96 +195,95 @@ def known_to_the_end(self, words):
 right_stalls = at_prompt.on_stalls
 
 
-# What is wrong in each program: since which step it can be, and what is changed.
+# What is wrong in each program, and what is changed.
 FAULTS = {
-    'a long line is read': (1, prompt, 'MOST_LINE', 10**9),
-    'a microsecond is a millisecond': (1, grammar, 'PLACES', {**grammar.PLACES, b'us': 6}),
-    'a time may begin with zeros': (1, prompt, 'time_in', times_may_begin_with_zeros),
-    'the most is one less': (1, grammar, 'MOST', 10**15 - 1),
-    'st is state': (1, at_prompt, 'NAMES', {b'state': 1, **prompt.NAMES}),
-    'b is break': (1, at_prompt, 'NAMES', {b'break': 1, **prompt.NAMES}),
-    'an empty line does nothing': (1, at_prompt, 'answer', empty_lines_do_nothing),
-    'a refused line takes the last move away': (1, at_prompt, 'answer', refused_lines_count_as_moves),
-    'quit may have words behind': (1, at_prompt, 'quits', quit_may_have_words_behind),
-    'one that is set answers the last number': (2, at_prompt, 'on_break', the_last_number_is_answered),
-    'a line is missing in help': (2, prompt, 'last_of_help', lambda steps: ''),
-    'breaks is break': (2, at_prompt, 'NAMES', {b'breaks': 2, **prompt.NAMES}),
-    'eleven lines are shown': (3, prompt, 'MOST_SHOWN', 11),
-    'a thousand lines are too many': (3, prompt, 'MOST_LINES', 999),
-    'lines are shown in another order': (3, prompt, 'numbered', lambda *of: right['numbered'](*of)[::-1]),
-    'the end is not told': (3, at_prompt, 'where', lambda self: right['where'](self).replace(', the end', '')),
-    'the last that matches is told': (3, at_prompt, 'what_matched', the_last_that_matches),
-    'a node has its neighbour\'s line': (4, at_prompt, 'of_node', lambda self, node: right['of_node'](self, max(node - 1, 0))),
-    'packets that wait are left out': (4, at_prompt, 'of_flow', only_ends_and_events),
-    'why names cwnd where rwnd binds': (5, waits, 'standing', names_the_congestion_window),
-    'places are told from 0': (5, waits, 'waiting', lambda *of: [it.replace('place 1 ', 'place 0 ') for it in right['waiting'](*of)]),
-    'r is reverse': (6, at_prompt, 'NAMES', {b'reverse': 5, **prompt.NAMES}),
-    'reverse stops where it is': (6, debugger.Debugger, 'reverse', back_to_where_it_is),
-    'a breakpoint of two conditions matches either': (7, prompt.Marked, 'is_matched', matches_either),
-    'conditions are told in another order': (7, conditions, 'OF_VALUES', dict(reversed(conditions.OF_VALUES.items()))),
-    'a drop is at no link': (7, prompt.Marked, 'is_met', drops_are_at_no_link),
-    'a stall that goes on matches again': (8, prompt.Marked, 'event', stalls_match_as_long_as_they_last),
-    'the first ten lines are shown': (9, prompt, 'last_shown', prompt.first_shown),
-    'the matching line is left out': (9, at_prompt, 'move', the_matching_line_is_left_out),
-    'goto goes one event further': (9, prompt.Marked, 'goto', a_position_is_one_further),
-    'where knows where it is alone': (9, at_prompt, 'on_where', only_the_present_position_is_known),
-    'w is where': (9, at_prompt, 'NAMES', {b'where': 9, **prompt.NAMES}),
-    'a name means the number of another sort': (10, naming.Names, 'number_of', a_name_of_any_sort),
-    'names can be cut short': (10, naming.Names, 'number_of', names_cut_short),
-    'a word of the grammar is no name': (10, naming.Names, 'number_of', words_of_the_grammar_are_no_names),
-    'the other sort is not told': (10, naming.Names, 'sort_of', lambda self, word: next((it for it in [right['sort_of'](self, word)] if it != 'link'), None)),
-    'links are listed first': (10, naming, 'SORTS', ('link', 'node', 'flow')),
-    'an image has names': (10, naming, 'NO_NAMES', 'node 0 n0\n'),
-    'n is names behind help': (10, prompt, 'BEFORE_TOPICS', (*grammar.BEFORE_TOPICS, b'names')),
-    '< is <=': (11, marked, 'COMPARES', {**marked.COMPARES, '<': marked.COMPARES['<=']}),
-    '= is >=': (11, marked, 'COMPARES', {**marked.COMPARES, '=': marked.COMPARES['>=']}),
-    'a change is seen one line late': (11, marked.Valued, 'changed_from', seen_one_line_late),
-    'values are those before the line': (11, marked.Valued, 'is_met', values_before_the_line),
-    'a link matches where nothing changes it': (11, marked, 'of_port', links_match_where_nothing_changes_them),
-    'the last packet\'s wait is told': (11, marked, 'of_port', the_wait_of_the_last),
-    'drop-tail counts 0': (11, marked, 'of_port', droptail_counts_nothing),
-    'where none waits a wait is 0': (11, marked, 'is_so', lambda value, sign, bound: right['is_so'](value or 0, sign, bound)),
-    'a sign stands apart': (11, prompt, 'words_behind_break', lambda words, steps: words),
-    'a time is told without its unit': (11, prompt, 'words_of', lambda *of: right['words_of'](*of).replace('0ns', '0')),
-    'a moment is only forwards': (11, marked.Valued, 'moment', marked.Valued.until),
-    'a word with a unit is no moment': (11, prompt, 'UNIT', ()),
-    'answers have numbers': (13, prompt, 'names_told', lambda scenario, _steps: naming.Numbers(scenario)),
-    'an image has the names of nothing': (13, prompt, 'Names', naming.Numbers),
-    'a link that becomes free is not told': (13, at_prompt, 'whose', lambda self: right['whose'](self) if self.debugger.lines[-1].flow is not None else ''),
-    'back tells of the last line': (13, at_prompt, 'move', told_after_each_move),
-    'a count of 1 is plural': (13, waits, 'is_one', lambda count, _steps: False),
-    'displays are told first': (13, at_prompt, 'move', displays_before_the_place),
-    'where nothing moved none is told': (13, at_prompt, 'move', shown_after_moves_that_moved),
-    'what was is left out': (13, displays.Display, 'told', lambda self, names, values, before: right['told'](self, names, values, values)),
-    'what was is what is shown first': (13, displays.Displays, 'values', lambda self, net, now: [
+    'a long line is read': (prompt, 'MOST_LINE', 10**9),
+    'a microsecond is a millisecond': (grammar, 'PLACES', {**grammar.PLACES, b'us': 6}),
+    'a time may begin with zeros': (prompt, 'time_in', times_may_begin_with_zeros),
+    'the most is one less': (grammar, 'MOST', 10**15 - 1),
+    'st is state': (at_prompt, 'NAMES', (b'state', *prompt.NAMES)),
+    'b is break': (at_prompt, 'NAMES', (b'break', *prompt.NAMES)),
+    'an empty line does nothing': (at_prompt, 'answer', empty_lines_do_nothing),
+    'a refused line takes the last move away': (at_prompt, 'answer', refused_lines_count_as_moves),
+    'quit may have words behind': (at_prompt, 'quits', quit_may_have_words_behind),
+    'one that is set answers the last number': (at_prompt, 'on_break', the_last_number_is_answered),
+    'a line is missing in help': (prompt, 'LAST_OF_HELP', ''),
+    'breaks is break': (at_prompt, 'NAMES', (b'breaks', *prompt.NAMES)),
+    'eleven lines are shown': (prompt, 'MOST_SHOWN', 11),
+    'a thousand lines are too many': (prompt, 'MOST_LINES', 999),
+    'lines are shown in another order': (prompt, 'numbered', lambda *of: right['numbered'](*of)[::-1]),
+    'the end is not told': (at_prompt, 'where', lambda self: right['where'](self).replace(', the end', '')),
+    'the last that matches is told': (at_prompt, 'what_matched', the_last_that_matches),
+    'a node has its neighbour\'s line': (at_prompt, 'of_node', lambda self, node: right['of_node'](self, max(node - 1, 0))),
+    'packets that wait are left out': (at_prompt, 'of_flow', only_ends_and_events),
+    'why names cwnd where rwnd binds': (waits, 'standing', names_the_congestion_window),
+    'places are told from 0': (waits, 'waiting', lambda *of: [it.replace('place 1 ', 'place 0 ') for it in right['waiting'](*of)]),
+    'r is reverse': (at_prompt, 'NAMES', (b'reverse', *prompt.NAMES)),
+    'reverse stops where it is': (debugger.Debugger, 'reverse', back_to_where_it_is),
+    'a breakpoint of two conditions matches either': (prompt.Marked, 'is_matched', matches_either),
+    'conditions are told in another order': (conditions, 'OF_VALUES', dict(reversed(conditions.OF_VALUES.items()))),
+    'a drop is at no link': (prompt.Marked, 'is_met', drops_are_at_no_link),
+    'a stall that goes on matches again': (prompt.Marked, 'event', stalls_match_as_long_as_they_last),
+    'the first ten lines are shown': (prompt, 'last_shown', lambda passed: right['last_shown'](passed[:prompt.MOST_SHOWN])),
+    'the matching line is left out': (at_prompt, 'move', the_matching_line_is_left_out),
+    'goto goes one event further': (prompt.Marked, 'goto', a_position_is_one_further),
+    'where knows where it is alone': (at_prompt, 'on_where', only_the_present_position_is_known),
+    'w is where': (at_prompt, 'NAMES', (b'where', *prompt.NAMES)),
+    'a name means the number of another sort': (naming.Names, 'number_of', a_name_of_any_sort),
+    'names can be cut short': (naming.Names, 'number_of', names_cut_short),
+    'a word of the grammar is no name': (naming.Names, 'number_of', words_of_the_grammar_are_no_names),
+    'the other sort is not told': (naming.Names, 'sort_of', lambda self, word: next((it for it in [right['sort_of'](self, word)] if it != 'link'), None)),
+    'links are listed first': (naming, 'SORTS', ('link', 'node', 'flow')),
+    'an image has names': (naming, 'NO_NAMES', 'node 0 n0\n'),
+    'n is names behind help': (prompt, 'BEFORE_TOPICS', (*grammar.BEFORE_TOPICS, b'names')),
+    '< is <=': (marked, 'COMPARES', {**marked.COMPARES, '<': marked.COMPARES['<=']}),
+    '= is >=': (marked, 'COMPARES', {**marked.COMPARES, '=': marked.COMPARES['>=']}),
+    'a change is seen one line late': (marked.Valued, 'changed_from', seen_one_line_late),
+    'values are those before the line': (marked.Valued, 'is_met', values_before_the_line),
+    'a link matches where nothing changes it': (marked, 'of_port', links_match_where_nothing_changes_them),
+    'the last packet\'s wait is told': (marked, 'of_port', the_wait_of_the_last),
+    'drop-tail counts 0': (marked, 'of_port', droptail_counts_nothing),
+    'where none waits a wait is 0': (marked, 'is_so', lambda value, sign, bound: right['is_so'](value or 0, sign, bound)),
+    'a sign stands apart': (prompt, 'words_behind_break', lambda words: words),
+    'a time is told without its unit': (prompt, 'words_of', lambda *of: right['words_of'](*of).replace('0ns', '0')),
+    'a moment is only forwards': (marked.Valued, 'moment', marked.Valued.until),
+    'a word with a unit is no moment': (prompt, 'UNIT', ()),
+    'answers have numbers': (naming.Names, 'name_of', naming.Numbers.name_of),
+    'an image has the names of nothing': (prompt, 'Names', naming.Numbers),
+    'a link that becomes free is not told': (at_prompt, 'whose', lambda self: right['whose'](self) if self.debugger.lines[-1].flow is not None else ''),
+    'back tells of the last line': (at_prompt, 'move', told_after_each_move),
+    'a count of 1 is plural': (waits, 'counted', lambda count, noun: f'{count} {noun}s'),
+    'displays are told first': (at_prompt, 'move', displays_before_the_place),
+    'where nothing moved none is told': (at_prompt, 'move', shown_after_moves_that_moved),
+    'what was is left out': (displays.Display, 'told', lambda self, names, values, before: right['told'](self, names, values, values)),
+    'what was is what is shown first': (displays.Displays, 'values', lambda self, net, now: [
         {**it, b'cwnd': '4000'} if b'cwnd' in it and net.position else it for it in right['values'](self, net, now)]),
-    'clear takes displays away': (13, at_prompt, 'on_clear', displays_are_cleared),
-    'one that is displayed goes to the end': (13, displays.Displays, 'add', the_last_display_is_set_again),
-    'a 64th display is refused': (13, displays, 'MOST_DISPLAYS', 63),
-    'a wait of 0 is none': (13, displays, 'text_of', lambda name, value: right['text_of'](name, value or None) if name == b'wait' else right['text_of'](name, value)),
-    'd is display': (13, at_prompt, 'NAMES', {b'display': 13, **prompt.NAMES}),
-    'the first stall alone is listed': (13, prompt, 'stalls_of', lambda scenario: right['stalls_of'](scenario)[:1]),
-    'stalls up to the position are listed': (13, at_prompt, 'on_stalls', stalls_up_to_here),
-    'stalls knows the run': (13, at_prompt, 'on_stalls', known_to_the_end),
-    'a value word is no topic': (13, prompt, 'VALUE_WORDS', ()),
-    'a word of four bytes has no nearest name': (1, prompt, 'MOST_WORD', 3),
-    'the last of the nearest is told': (1, prompt, 'edits', lambda word, name: right['edits'](word, name) - list(prompt.NAMES).index(name) / 99),
-    'a 64th breakpoint is refused': (1, debugger, 'MOST_BREAKS', 63),
+    'clear takes displays away': (at_prompt, 'on_clear', displays_are_cleared),
+    'one that is displayed goes to the end': (displays.Displays, 'add', the_last_display_is_set_again),
+    'a 64th display is refused': (displays, 'MOST_DISPLAYS', 63),
+    'a wait of 0 is none': (displays, 'text_of', lambda name, value: right['text_of'](name, value or None) if name == b'wait' else right['text_of'](name, value)),
+    'd is display': (at_prompt, 'NAMES', (b'display', *prompt.NAMES)),
+    'the first stall alone is listed': (prompt, 'stalls_of', lambda scenario: right['stalls_of'](scenario)[:1]),
+    'stalls up to the position are listed': (at_prompt, 'on_stalls', stalls_up_to_here),
+    'stalls knows the run': (at_prompt, 'on_stalls', known_to_the_end),
+    'a value word is no topic': (prompt, 'VALUE_WORDS', ()),
+    'a word of four bytes has no nearest name': (prompt, 'MOST_WORD', 3),
+    'the last of the nearest is told': (prompt, 'edits', lambda word, name: right['edits'](word, name) - prompt.NAMES.index(name) / 99),
+    'a 64th breakpoint is refused': (debugger, 'MOST_BREAKS', 63),
 }
 
 
-def cases(count, steps, draw=''):
-    args = argparse.Namespace(count=count, options=False, steps=steps)
-    return compare.prompts(random.Random(f'self-test{draw} {steps}'), args)
+def cases(count, draw):
+    return compare.prompts(random.Random(f'self-test{draw} {prompt.FORMAT}'), argparse.Namespace(count=count, options=False))
 
 
 def answers(case):
     return compare.model_answers_kept.__wrapped__(*case, compare.MOST_BYTES)
 
 
-@pytest.mark.parametrize('step, place, attribute, wrong', FAULTS.values(), ids=FAULTS)
-def test_each_fault_is_found(step, place, attribute, wrong):
-    for case in (case for draw in DRAWS for case in cases(ENOUGH, max(step, prompt.STEPS), draw)):
+@pytest.mark.parametrize('place, attribute, wrong', FAULTS.values(), ids=FAULTS)
+def test_each_fault_is_found(place, attribute, wrong):
+    for case in (case for draw in DRAWS for case in cases(ENOUGH, draw)):
         expected = answers(case)
         with pytest.MonkeyPatch.context() as patch:
             patch.setattr(place, attribute, wrong)
@@ -315,16 +313,3 @@ def test_a_program_that_is_wrong(compared):
     status, shown = compared("prompt.PROMPT = '(tcpsim)'", 2)
     assert (status, shown[-1]) == (1, '2 compared, 2 different')
     assert 'same output' in shown
-
-
-def test_a_prompt_of_no_step_has_the_other_forms_grammar():
-    for words, data in cases(60, 0):
-        scenario, keys = compare.parts_of(words, data)
-        lines = [line for line in keys.split(b'\n') if len(line) <= prompt.MOST_LINE and line.strip(b' ') != b'quit']
-        status, out, note = answers((words, scenario + compare.TYPED + b'\n'.join(lines)))
-        if status == 0:
-            text = compare.disassemble(compare.command_line.read(scenario))
-            whole = ''.join(debugger.session(text + b'---\n' + b'\n'.join(lines))).splitlines()
-            refused = [line for line in whole if line.startswith('refused ')]
-            assert out.decode().splitlines() == [line for line in whole if not line.startswith('refused ')]
-            assert note.replace(prompt.PROMPT, '').splitlines() == refused

@@ -57,11 +57,16 @@ POWERS = {b'\xc2\xb5s': 3, b'\xce\xbcs': 3, b'': 0, b'ns': 0, b'us': 3, b'ms': 6
 def meant(word, counted, least, greatest):
     """The number in its range that a word means, with a unit, a fraction or zeros in front; None where it means none."""
     found = MEANT.fullmatch(word)
-    unit, exponent = (pattern.fullmatch(found[3]) if found else None for pattern in (UNITS[counted], EXPONENT))
-    if not unit and not exponent:
+    if not found:
+        return None
+    if unit := UNITS[counted].fullmatch(found[3]):
+        power = POWERS[unit[1].lower()]
+    elif exponent := EXPONENT.fullmatch(found[3]):
+        power = int(exponent[1])
+    else:
         return None
     decimals = found[2] or b''
-    left = (POWERS[unit[1].lower()] if unit else int(exponent[1])) - len(decimals.rstrip(b'0'))
+    left = power - len(decimals.rstrip(b'0'))
     digits = (found[1] + decimals).lstrip(b'0')
     if left < 0 or len(digits) > len(str(MOST)) or int(digits or b'0') > MOST:
         return None
@@ -85,7 +90,7 @@ def of_byte(data, line):
     """The sentence on the first byte of a line that is not printable."""
     if data.startswith(CAPTURES):
         return 'this is a capture of packets (pcap), and tcpsim reads scenarios'
-    at = re.search(rb'[^ -~]', line).start()
+    at = next(re.finditer(rb'[^ -~]', line)).start()
     if line[at:at + 1] in BYTES:
         return BYTES[line[at:at + 1]]
     words = list(re.finditer(rb'[^ ]+', line.split(b'#')[0]))

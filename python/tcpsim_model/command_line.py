@@ -3,7 +3,7 @@
 Usage: tcpsim-model run|debug [--workers N] [--groups G] [--explain] [FILE]
        tcpsim-model figures [--from T] [--every D [--series]] [--names] [--explain] [FILE]
        tcpsim-model asm|dis [--explain] [FILE]
-       tcpsim-model debug [--workers N] [--groups G] [--steps N] [--explain] FILE
+       tcpsim-model debug [--workers N] [--groups G] [--explain] FILE
 
 The scenario is the file's, or where none is named standard input's. Where `debug` has a file, standard input has lines
 typed at a prompt.
@@ -15,7 +15,6 @@ typed at a prompt.
   --series     these rows without the table
   --names      the names of a text's flows and links in a last column
   --explain    shows on standard error why an input is refused, as on a terminal
-  --steps N    at a prompt: the grammar after the first N steps in which it was made; 0 is that of the other form
   --help       show this
 """
 import io
@@ -35,7 +34,7 @@ from tcpsim_model.text import NUMBER, assemble, disassemble
 
 MOST_INPUT = 16_777_216
 GROUP = re.compile(r'0|[1-9][0-9]?')
-OPTIONS = {'run': ('--workers', '--groups'), 'debug': ('--workers', '--groups', '--steps'), 'figures': ('--from', '--every')}
+OPTIONS = {'run': ('--workers', '--groups'), 'debug': ('--workers', '--groups'), 'figures': ('--from', '--every')}
 FLAGS = {'figures': ('--series', '--names')}
 EXPLAIN = '--explain'       # a flag of every command
 # What the system calls a failure to read a file.
@@ -60,12 +59,12 @@ class CannotRead(WrongWords):
     """A file that cannot be read."""
 
 
-Asked = namedtuple('Asked', 'command groups steps file begin every flags')
+Asked = namedtuple('Asked', 'command groups file begin every flags')
 
 
 def options_of(words):
-    """What the words ask for: the subcommand, the groups, the steps of the prompt's grammar, the file, the moment from which on
-    is counted, the length of a step, and the flags."""
+    """What the words ask for: the subcommand, the groups, the file, the moment from which on is counted,
+    the length of a step, and the flags."""
     if not words or words[0] not in ('run', 'asm', 'dis', 'figures', 'debug'):
         raise WrongWords
     command, rest, given, file = words[0], list(words[1:]), {}, None
@@ -76,20 +75,36 @@ def options_of(words):
             continue
         name, _, value = word.partition('=')
         flag = word in (*FLAGS.get(command, ()), EXPLAIN)
-        if not flag and name not in OPTIONS.get(command, ()) or name in given:
+        if not flag and name not in OPTIONS.get(command, ()):
+            raise unexpected(command, word)
+        if name in given:
             raise WrongWords
         if not value and not flag:
+            if rest and is_unexpected(command, rest[0]):
+                raise unexpected(command, rest[0])
             if not rest or rest[0].startswith('-') and rest[0] != '-':
                 raise WrongWords
             value = rest.pop(0)
         given[name] = value
-    workers, steps = given.get('--workers', '1'), given.get('--steps', str(prompt.BUILT))
+    workers = given.get('--workers', '1')
     if not NUMBER.fullmatch(workers.encode()) or not 1 <= int(workers) <= 64:
         raise WrongWords
-    if not NUMBER.fullmatch(steps.encode()) or int(steps) > prompt.STEPS:
-        raise WrongWords
-    return Asked(command, given.get('--groups', 'one'), int(steps), None if file == '-' else file, given.get('--from', '0'),
+    return Asked(command, given.get('--groups', 'one'), None if file == '-' else file, given.get('--from', '0'),
                  given.get('--every'), given.keys() & {*FLAGS.get(command, ()), EXPLAIN})
+
+
+def is_unexpected(command, word):
+    """Whether a word is an option that the subcommand has not."""
+    return word.startswith('-') and word != '-' and word.partition('=')[0] not in (*OPTIONS.get(command, ()), *FLAGS.get(command, ()), EXPLAIN)
+
+
+def unexpected(command, word):
+    """What a subcommand is refused for that has an option of which it does not know."""
+    if not word.startswith('-') or word in ('-h', '--help', '-V', '--version', '--'):
+        return WrongWords()
+    option = word.partition('=')[0] if word.startswith('--') else word[:2]
+    return WrongWords(f"error: unexpected argument '{option}' found\n\n  tip: to pass '{option}' as a value, use '-- {option}'\n\n"
+                      f"Usage: tcpsim {command} [OPTIONS] [FILE]\n\nFor more information, try '--help'.")
 
 
 def check_groups(groups, nodes):
@@ -180,7 +195,7 @@ def main(words, keys, write, tell=lambda note: None, contents=contents, explains
             for piece in output(asked, data):
                 write(piece)
         else:
-            for piece, note in prompt.typed(scenario_of(asked, data), lines_typed(keys), asked.steps):
+            for piece, note in prompt.typed(scenario_of(asked, data), lines_typed(keys)):
                 write(piece.encode())
                 tell(note.encode())
     except WrongWords as wrong:

@@ -1,5 +1,5 @@
-"""The conditions of a breakpoint, as they are typed and as they are told. Since step 11 of the prompt's grammar they can be on
-values: `cwnd<3000`, `queue L>50`, `time>=5s`, `change cwnd F`."""
+"""The conditions of a breakpoint, as they are typed and as they are told, some on values: `cwnd<3000`, `queue L>50`, `time>=5s`,
+`change cwnd F`."""
 import re
 from itertools import zip_longest
 
@@ -15,70 +15,66 @@ SIGNS = (b'<=', b'>=', b'<', b'>', b'=')
 PARTS = re.compile(rb'<=|>=|[<>=]|[^<>=]+')
 PHASES = (b'ss', b'ca', b'fr')
 # Of each sort, in the order in which its words are told, what stands behind it.
-BEHIND = {b'node': (NODE,), b'flow': (FLOW,), b'kind': (KIND,), b'drop': (), b'link': (LINK,), b'byte': (BYTE,)}
-OF_SENDER = {b'cwnd': (SIGN, NUMBER), b'flight': (SIGN, NUMBER), b'ssthresh': (SIGN, NUMBER), b'una': (SIGN, NUMBER), b'nxt': (SIGN, NUMBER),
-             b'rto': (SIGN, TIME), b'dups': (SIGN, NUMBER), b'phase': (PHASE,)}
-OF_RECEIVER = {b'next': (SIGN, NUMBER)}
+BEHIND: dict[bytes, tuple[str, ...]] = {b'node': (NODE,), b'flow': (FLOW,), b'kind': (KIND,), b'drop': (), b'link': (LINK,), b'byte': (BYTE,)}
+OF_SENDER: dict[bytes, tuple[str, ...]] = {
+    b'cwnd': (SIGN, NUMBER), b'flight': (SIGN, NUMBER), b'ssthresh': (SIGN, NUMBER), b'una': (SIGN, NUMBER), b'nxt': (SIGN, NUMBER),
+    b'rto': (SIGN, TIME), b'dups': (SIGN, NUMBER), b'phase': (PHASE,)}
+OF_RECEIVER: dict[bytes, tuple[str, ...]] = {b'next': (SIGN, NUMBER)}
 # What `change` can be of: what is a number.
 OF_CHANGE = {*OF_SENDER, *OF_RECEIVER} - {b'phase'}
-OF_LINK = {b'queue': (LINK, SIGN, NUMBER), b'wait': (LINK, SIGN, TIME), b'count': (LINK, SIGN, NUMBER)}
-OF_VALUES = {**BEHIND, **OF_SENDER, **OF_RECEIVER, **OF_LINK, b'time': (SIGN, TIME), b'change': (VALUE, FLOW)}
-# The words of values, behind `help` since step 13.
+OF_LINK: dict[bytes, tuple[str, ...]] = {b'queue': (LINK, SIGN, NUMBER), b'wait': (LINK, SIGN, TIME), b'count': (LINK, SIGN, NUMBER)}
+OF_VALUES: dict[bytes, tuple[str, ...]] = {**BEHIND, **OF_SENDER, **OF_RECEIVER, **OF_LINK, b'time': (SIGN, TIME), b'change': (VALUE, FLOW)}
+# The words of values, behind `help`.
 VALUE_WORDS = (*OF_SENDER, *OF_RECEIVER, *OF_LINK, b'time', b'change')
-# What can be displayed since step 13, with the sort that stands behind it; of a flow and a link all their values.
+# What can be displayed, with the sort that stands behind it; of a flow and a link all their values.
 DISPLAYED = {b'flow': FLOW, b'link': LINK, **dict.fromkeys((*OF_SENDER, *OF_RECEIVER), FLOW), **dict.fromkeys(OF_LINK, LINK)}
 # What stands behind the sorts that have a node, a link or a flow alone behind them, in whatever command.
 NAMED = {b'node': NODE, b'link': LINK, b'flow': FLOW, b'stall': FLOW}
 
 
-def behind(steps):
-    """What stands behind each sort of condition, of a grammar of so many steps."""
-    return BEHIND if steps < 11 else OF_VALUES
+def words_behind_break(words):
+    """The words behind `break`, parted at signs."""
+    return [part for word in words for part in PARTS.findall(word)]
 
 
-def words_behind_break(words, steps):
-    """The words behind `break`, which since step 11 are parted at signs."""
-    return words if steps < 11 else [part for word in words for part in PARTS.findall(word)]
-
-
-def parted(words, steps):
+def parted(words):
     """The words of each condition behind `break`."""
     while words:
-        wanted = 1 + len(behind(steps).get(words[0], (VALUE,)))
+        wanted = 1 + len(OF_VALUES.get(words[0], (VALUE,)))
         yield words[:wanted]
         words = words[wanted:]
 
 
-def conditions_in(words, names, steps):
+def conditions_in(words, names):
     """The conditions that the words behind `break` are, in the order in which they are told; of each its sort and its value."""
-    sorts, found = behind(steps), {}
-    for part in parted(words, steps):
-        if part[0] not in sorts:
+    found = {}
+    for part in parted(words):
+        if part[0] not in OF_VALUES:
             raise Refused('B1')
         if part[0] in found:
             raise Refused('B2')
         if part[0] == b'change' and part[1:] and part[1] not in OF_CHANGE:
             raise Refused('B1')
-        if len(part) < 1 + len(sorts[part[0]]):
+        if len(part) < 1 + len(OF_VALUES[part[0]]):
             raise Refused('B2')
         found[part[0]] = part[1:]
     if not found:
         raise Refused('B2')
-    values = {sort: tuple(read(place, word, names) for place, word in zip(sorts[sort], those)) for sort, those in found.items()}
-    return tuple((sort, alone(values[sort])) for sort in sorts if sort in values)
+    values = {sort: tuple(read(place, word, names) for place, word in zip(OF_VALUES[sort], those)) for sort, those in found.items()}
+    return tuple((sort, alone(values[sort])) for sort in OF_VALUES if sort in values)
 
 
-def expected_in(words, names, steps):
+def expected_in(words, names):
     """What is expected at the first word behind `break` that does not fit, or behind the last where one is missing; None where
-    words are too many. Since step 14 a refusal tells it."""
-    words, sorts, found = words_behind_break(words, steps), behind(steps), set()
+    words are too many."""
+    words, found = words_behind_break(words), set()
     if words[:1] == [b'stall']:
         return FLOW if len(words) == 2 else None
-    for sort, *those in parted(words, steps):
-        if sort not in sorts or sort in found:
+    for sort, *those in parted(words):
+        if sort not in OF_VALUES or sort in found:
             return OTHER_SORT if sort in found else SORT
         found.add(sort)
-        for place, word in zip_longest(sorts[sort], those):
+        for place, word in zip_longest(OF_VALUES[sort], those):
             if word is None or not fits(place, word, names):
                 return place
     return None if words else SORT
@@ -127,7 +123,7 @@ def words_of(breakpoint, names):
     return told
 
 
-def named_in(name, words, steps):
+def named_in(name, words):
     """The words of a line that stand where a node, a link or a flow can, each with what it should be; `words` are those
     behind the command's name."""
     if name == b'why':
@@ -136,6 +132,5 @@ def named_in(name, words, steps):
         return [(NAMED[words[0]], word) for word in words[1:2] if words[0] in NAMED]
     if name == b'display':
         return [(DISPLAYED[words[0]], words[1])]
-    sorts = behind(steps)
-    return [(place, word) for part in parted(words_behind_break(words, steps), steps) for place, word in zip(sorts.get(part[0], ()), part[1:])
+    return [(place, word) for part in parted(words_behind_break(words)) for place, word in zip(OF_VALUES.get(part[0], ()), part[1:])
             if place in (NODE, LINK, FLOW)]

@@ -4,9 +4,10 @@ those of a whole run, of all from a moment on, or of each step of its time.
 A run is counted state by state; all numbers of which a percentile is asked for are kept."""
 from array import array
 from collections import Counter
+from collections.abc import Sequence
 
 from tcpsim_model.scenario import SENDER
-from tcpsim_model.simulate import BITS_NS, Network
+from tcpsim_model.simulate import BITS_NS, Network, Port
 
 HEADING = 'what,number,figure,unit,value'
 # Those that each link has; a queue of another's making can have more.
@@ -70,7 +71,7 @@ class LinkCount:
     def begin(self, moment, offered, length):
         """Counts from a moment on, before which so many packets were offered, and of which so many wait."""
         self.first = offered
-        self.dropped = Counter()        # of each reason
+        self.dropped: Counter[str] = Counter()      # of each reason
         self.sent = self.bytes = 0
         self.busy = max(0, self.until - moment)
         self.length, self.since = length, moment        # of the queue, and from when on
@@ -97,7 +98,8 @@ class Counted(Network):
         self.of_flows = [FlowCount() for _ in scenario.flows]
         self.of_links = [LinkCount() for _ in scenario.links]
         self.events, self.last = 0, None        # how many, and the last one's moment
-        self.plan = self.used = ()  # what the event's sender sends, and the port to which its packets went
+        self.plan: Sequence[int] = []       # what the event's sender sends
+        self.used: list[Port] = []          # the port to which its packets went
 
     def begin(self, moment):
         """Counts from a moment on, which no event so far has reached. When a flow was completed is known still."""
@@ -123,7 +125,7 @@ class Counted(Network):
         return super().at_sender(node, now, numbers)
 
     def offer(self, port, packet, now, acts):
-        self.used = (port,)
+        self.used = [port]
         self.of_links[port.number].entered[id(packet)] = now
         super().offer(port, packet, now, acts)
 
@@ -134,7 +136,7 @@ class Counted(Network):
         super().drop(reason, port, packet, acts)
 
     def take(self, port, now, acts):
-        self.used = (port,)
+        self.used = [port]
         super().take(port, now, acts)
 
     def send(self, port, packet, now, acts):
@@ -150,10 +152,11 @@ class Counted(Network):
         event = self.due()
         if event is None:
             return None
-        self.plan = self.used = ()
+        self.plan, self.used = [], []
         sender = self.ends[event[1]] if self.kinds[event[1]] == SENDER else None
         before = sender and (sender.high, sender.timing)
         line = super().step()
+        assert line is not None     # an event was due
         self.events, self.last = self.events + 1, line.time
         for port in self.used:
             self.of_links[port.number].state(line.time, len(port.queue.entries))

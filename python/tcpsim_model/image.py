@@ -62,10 +62,10 @@ def places(data):
     at = HEADER.size
     yield from ((4, 8), (12, 2), (14, 2), (16, 2), (18, 4))
     nodes, links, flows, routes = HEADER.unpack_from(data)[2:]
-    records = [(1,)] * nodes
+    records: list[tuple[int, ...]] = [(1,)] * nodes
     for _ in range(links):
         records.append((2, 2, 8, 8, 1, 2, 8, 8, 2, 1))
-        place = at + sum(map(sum, records))
+        place = at + sum(size for sizes in records for size in sizes)
         records.append((4,) * data[place - 1])
     flow_sizes = (2, 2, 2, 4, 8, 4, 4) + (1,) * (version_of(data) == 2)
     for sizes in records + [flow_sizes] * flows + [(2, 2, 2)] * routes:
@@ -104,6 +104,12 @@ def numbers_are_right(header, kinds, links, flows, routes):
             and strictly_rises([route[:2] for route in routes]))
 
 
+def link_of(record, lose):
+    """The link of a record, with the numbers of the packets that it loses."""
+    source, to, rate, delay, queue, capacity, target, interval, maxpacket = record
+    return Link(source, to, rate, delay, queue == 1, capacity, target, interval, maxpacket, lose)
+
+
 def flow_of(record):
     """The flow of a record whose numbers are right; one without a variant is `reno iw3`."""
     return Flow(*record[:7], *of_byte(record[7] if len(record) > 7 else 0))
@@ -111,7 +117,7 @@ def flow_of(record):
 
 def parts_of(header, kinds, links, flows, routes):
     """The parts that these numbers make, whether they make a scenario or not."""
-    return Scenario(header[1], kinds, [Link(*link[:4], link[4] == 1, *link[5:], lose) for link, lose in links],
+    return Scenario(header[1], kinds, [link_of(link, lose) for link, lose in links],
                     [flow_of(flow) for flow in flows], routes)
 
 

@@ -1,5 +1,4 @@
-"""The debugger of the prompt: it knows of each event where packets were sent or dropped, which flows were stalled by it, and since
-step 11 of the grammar what its node and that node's links were before it and after it."""
+"""The debugger of the prompt: it knows of each event where packets were sent or dropped, which flows were stalled by it, and what its node and that node's links were before it and after it."""
 from operator import eq, ge, gt, le, lt
 
 from tcpsim_model.conditions import OF_LINK, OF_RECEIVER, OF_SENDER
@@ -43,7 +42,7 @@ class Marked(Debugger):
         if not isinstance(breakpoint[0], tuple):
             return super().is_matched(breakpoint, position)
         drops = any(sort == b'drop' for sort, _ in breakpoint)
-        return all(self.is_met(*condition, position, drops) for condition in breakpoint)
+        return all(self.is_met(sort, value, position, drops) for sort, value in breakpoint)
 
     def is_met(self, sort, value, position, drops):
         line, (links, stalled) = self.lines[position - 1], self.marks[position - 1]

@@ -1,5 +1,4 @@
-"""What nodes, links and flows are called at a prompt: by their numbers, and since step 10 of its grammar by the names that a
-text gives them. Since step 13 answers have these names too."""
+"""What nodes, links and flows are called at a prompt: by their numbers, and by the names that a text gives them."""
 from tcpsim_model.debugger import number_to
 from tcpsim_model.text import FLOW, LINK, NODE
 
@@ -56,11 +55,6 @@ class Names(Numbers):
         return ''.join(f'{sort} {number} {self.name_of(sort, number)}\n' for sort in SORTS for number in range(self.counts[sort]))
 
 
-def names_in(scenario, steps):
-    """What a scenario's nodes, links and flows are called in the lines that a grammar of so many steps reads."""
-    return Names(scenario) if steps >= 10 and scenario.names else Numbers(scenario)
-
-
-def names_told(scenario, steps):
-    """What they are called in its answers."""
-    return Names(scenario) if steps >= 13 and scenario.names else Numbers(scenario)
+def names_in(scenario):
+    """What a scenario's nodes, links and flows are called in the lines that a prompt reads, and in its answers."""
+    return Names(scenario) if scenario.names else Numbers(scenario)

@@ -26,7 +26,8 @@ class Net:
         return len(self.nodes) - 1
 
     def link(self, source, to, rate, delay, queue, lose=()):
-        self.links.append(Link(source, to, rate, delay, *queue, list(lose)))
+        codel, capacity, target, interval, maxpacket = queue
+        self.links.append(Link(source, to, rate, delay, codel, capacity, target, interval, maxpacket, list(lose)))
         self.around[source].append(len(self.links) - 1)
         return len(self.links) - 1
 
@@ -45,10 +46,11 @@ class Net:
 
     def next_links(self, goal):
         """For each node the first link of a way of fewest hops to `goal` through routers."""
-        into = [[] for _ in self.nodes]
+        into: list[list[int]] = [[] for _ in self.nodes]
         for number, link in enumerate(self.links):
             into[link.to].append(number)
-        found, queue = {goal: None}, deque([goal])
+        found: dict[int, int | None] = {goal: None}
+        queue = deque([goal])
         while queue:
             here = queue.popleft()
             for number in into[here]:
@@ -135,7 +137,8 @@ def one_flow(pick, kinds=('droptail',), most_segments=300):
     sender, receiver = (a, b) if ends[0] == SENDER else (b, a)
     flow = Flow(sender, receiver, *random_flow(pick, equal, most_segments))
     for source, to in pick.sample(((a, b), (b, a)), 2):
-        net.link(source, to, *random_cable(pick, kinds, equal), random_lose(pick, flow.segments))
+        rate, delay, queue = random_cable(pick, kinds, equal)
+        net.link(source, to, rate, delay, queue, random_lose(pick, flow.segments))
     net.flows.append(flow)
     return net.scenario(random_end(pick, flow.start, True))
 
@@ -151,15 +154,15 @@ def slow_queue(pick):
     """Flows that meet before one slow link with CoDel, all numbers such that packets wait whole steps
     of time: drop states begin, end and begin again, now and then just at the moments asked."""
     net = Net()
-    routers = [net.node(ROUTER), net.node(ROUTER)]
+    left, right = net.node(ROUTER), net.node(ROUTER)
     target, interval = pick.choice((1, 2, 3, 4)) * SERIAL, pick.choice((1, 2, 4, 8, 20)) * SERIAL
     slow = codel(pick.choice((10, 50, 1000)), target, interval, pick.choice((1, 1040, 2080)))
-    net.link(*routers, pick.choice((8, 4, 2)) * 10**6, SERIAL, slow)
-    net.link(*reversed(routers), 8 * 10**6, SERIAL, droptail(1000))
+    net.link(left, right, pick.choice((8, 4, 2)) * 10**6, SERIAL, slow)
+    net.link(right, left, 8 * 10**6, SERIAL, droptail(1000))
     for _ in range(pick.choice((1, 2, 4, 8))):
         cable = 8 * 10**pick.choice((6, 7)), pick.choice((1, 2, 5)) * SERIAL, droptail(1000)
         start = pick.randint(0, 40) * SERIAL * pick.choice((1, 1, 20))
-        net.flow(*routers, cable, cable, 1000, pick.choice((3, 10, 30, 100)), start, pick.choice((8, 20, 200)) * 1000,
+        net.flow(left, right, cable, cable, 1000, pick.choice((3, 10, 30, 100)), start, pick.choice((8, 20, 200)) * 1000,
                  pick.choice((0, 0, SERIAL)), *drawn(pick))
     return net.scenario(10**15)
 
@@ -170,13 +173,13 @@ def islands(pick):
     net, routers = Net(), []
     segments = pick.choice((150, 200, 300))
     for _ in range(pick.choice((3, 4, 4, 6, 9))):
-        pair = [net.node(ROUTER), net.node(ROUTER)]
-        net.cable(*pair, 8 * 10**pick.choice((7, 8)), pick.choice((1, 5, 20)) * 10**5, any_queue(pick, ('droptail', 'codel')))
+        left, right = net.node(ROUTER), net.node(ROUTER)
+        net.cable(left, right, 8 * 10**pick.choice((7, 8)), pick.choice((1, 5, 20)) * 10**5, any_queue(pick, ('droptail', 'codel')))
         for _ in range(pick.choice((1, 1, 2, 3))):
             cable = 8 * 10**8, any_size(pick, 10**4, 10**6), droptail(pick.choice((20, 100, 1000)))
-            net.flow(*pick.sample(pair, 2), cable, cable, 1000, segments, pick.choice((0, 0, 10**6)), 64000,
+            net.flow(*pick.sample((left, right), 2), cable, cable, 1000, segments, pick.choice((0, 0, 10**6)), 64000,
                      pick.choice((0, 0, 40 * 10**6)))
-        routers.append(pair[0])
+        routers.append(left)
     if pick.random() < 0.5:
         for one, other in zip(routers, routers[1:]):
             net.cable(one, other, 8 * 10**6, pick.choice((10**9, 10**10)), droptail(100))

@@ -1,43 +1,22 @@
 """The debugger at a prompt: lines that are typed over a scenario, in the prompt's own grammar, each answered before
-the next is read. Answers go to standard output, prompts and refusals to standard error, and with the refusal of a word
-that begins no name the name that is nearest.
-
-The grammar was made in steps. A session of fewer than all `STEPS` stands for a program that has only these; that of
-none reads lines as a session whose commands are all there (`debugger.obey`).
-
-1. Names cut short, counts left out, times with units, the last move again by an empty line.
-2. Breakpoints by their numbers, and help.
-3. A move answers the lines that it passed in the place of the dump; lines that were run before.
-4. Parts of a state: of a node, of a link, of a flow.
-5. What a flow waits for.
-6. Back to where a breakpoint matches.
-7. Breakpoints of several conditions, each sort once, which a line has to meet all.
-8. Breakpoints where a flow is stalled and was not before.
-9. Of a move the last lines, with the one that matched; to a position, either way; where the session is; what there is in
-   the place of what is refused.
-10. Nodes, links and flows by the names of a text.
-11. Breakpoints on values; to a moment, either way.
-12. Of a flow that waits what is missing, and the drops of it.
-13. Names in answers; behind the last line of a move whose it is; displays; all stalls of a run.
-14. What is expected at the first word that does not fit, in the place of what is refused.
+the next is read. Answers go to standard output, prompts and refusals to standard error, and with a refusal what there is
+to type in its place.
 """
 from tcpsim_model.conditions import NAMED, VALUE_WORDS, conditions_in, expected_in, named_in, words_behind_break, words_of
-from tcpsim_model.debugger import MOST, breakpoint_of, number_to, obey, set_breakpoint, words_in, words_wanted
+from tcpsim_model.debugger import MOST, number_to, set_breakpoint, words_in
 from tcpsim_model.displays import Displays, display_of
-from tcpsim_model.grammar import (BEFORE_TOPICS, MEANINGS, MOST_LINE, MOST_WORD, NAMES, NUMBERED, UNIT, UNITS_TOLD, at_most, count_in, edits,
-                                  printable, time_in, usage)
+from tcpsim_model.grammar import (BEFORE_TOPICS, MEANINGS, MOST_LINE, MOST_WORD, NAMES, NUMBERED, UNIT, at_most, count_in, edits, printable,
+                                  time_in)
 from tcpsim_model.marked import Marked, Valued, stalls_of
 from tcpsim_model.missing import missing
-from tcpsim_model.naming import Names, names_in, names_told
+from tcpsim_model.naming import Names, names_in
 from tcpsim_model.scenario import Refused
 from tcpsim_model.simulate import line_text
 from tcpsim_model.text import FLOW, LINK, NODE, NUMBER
-from tcpsim_model.texts import EXPECTED_TOLD, THERE_TOLD, USES_TOLD, elsewhere, help_in, last_of_help, topics_in, words_there
+from tcpsim_model.texts import ELSEWHERE, EXPECTED_TOLD, HELP, LAST_OF_HELP, THERE_TOLD, TOPICS, USES_TOLD
 from tcpsim_model.waits import why
 
-STEPS = 14
-# How many of them the program has.
-BUILT = 14
+FORMAT = 14             # the number of this grammar and its answers
 PROMPT = '(tcpsim) '
 MOST_SHOWN = 10         # lines that a move passed
 MOST_LINES = 1_000      # of `lines`
@@ -48,11 +27,6 @@ def numbered(lines, after, to):
     return [line_text(n, lines[n - 1]) for n in range(after + 1, to + 1)]
 
 
-def first_shown(passed):
-    more = len(passed) - MOST_SHOWN
-    return ''.join(passed[:MOST_SHOWN]) + (f'.. {more} more\n' if more > 0 else '')
-
-
 def last_shown(passed):
     more = len(passed) - MOST_SHOWN
     return (f'.. {more} more\n' if more > 0 else '') + ''.join(passed[-MOST_SHOWN:])
@@ -61,34 +35,29 @@ def last_shown(passed):
 class Prompt:
     NAMES = NAMES
 
-    def __init__(self, scenario, steps=BUILT):
-        self.debugger = (Valued if steps >= 11 else Marked)(scenario)
-        self.steps, self.names, self.told = steps, names_in(scenario, steps), names_told(scenario, steps)
-        self.displays = Displays(self.told)
+    def __init__(self, scenario):
+        self.debugger, self.names = Valued(scenario), names_in(scenario)
+        self.displays = Displays(self.names)
         self.last = None        # the last move: its name and its numbers
         self.known, self.ends = 0, False        # the greatest position where the session was; whether the run ends there
 
     def name_of(self, word):
         """The first name that the word begins."""
-        for name, step in self.NAMES.items():
-            if step <= self.steps and name.startswith(word):
-                return name
-        raise Refused('B1')
+        found = next((name for name in self.NAMES if name.startswith(word)), None)
+        if found is None:
+            raise Refused('B1')
+        return found
 
     def topic_of(self, word):
         """The first name that the word begins, else the first topic, else a name that goes behind the topics."""
-        first = any(name.startswith(word) for name in BEFORE_TOPICS if self.NAMES[name] <= self.steps)
-        if self.steps >= 13 and word in VALUE_WORDS:
+        if word in VALUE_WORDS:
             return b'values'
-        return next((topic for topic in topics_in(self.steps) if topic.startswith(word) and not first), None) or self.name_of(word)
+        first = any(name.startswith(word) for name in BEFORE_TOPICS)
+        return next((topic for topic in TOPICS if topic.startswith(word) and not first), None) or self.name_of(word)
 
     def quits(self, line):
         words = words_in(line)
-        if len(line) > MOST_LINE or len(words) != 1:
-            return False
-        if self.steps == 0:
-            return words == [b'quit']
-        return b'quit'.startswith(words[0])
+        return len(line) <= MOST_LINE and len(words) == 1 and b'quit'.startswith(words[0])
 
     def answer(self, line):
         """What a line that doesn't quit answers; raises `Refused`, and has changed nothing then."""
@@ -97,73 +66,53 @@ class Prompt:
         words = words_in(line)
         if not words:
             return self.move(*self.last) if self.last else ''
-        if self.steps == 0:
-            return obey(self.debugger, words)
         return getattr(self, 'on_' + self.name_of(words[0]).decode())(words[1:])
 
     def noted(self, line, refusal):
         """What is noted of a line that is refused so."""
-        note = refusal.note() + '\n'
-        if self.steps == 0:
-            return note
-        note += MEANINGS[refusal.code] + '\n'
-        if self.steps >= 14:
-            return note + ('' if len(line) > MOST_LINE else self.there(words_in(line), refusal.code))
-        if refusal.code == 'B3' and self.steps >= 9 and self.has_time(line):
-            note += f'tcpsim: {UNITS_TOLD}\n'
-        if refusal.code == 'B3':
-            note += self.other_sort(words_in(line))
-        return note + {'B1': self.nearest, 'B3': self.numbers}.get(refusal.code, lambda word: '')((words_in(line) or [b''])[0])
+        note = f'{refusal.note()}\n{MEANINGS[refusal.code]}\n'
+        return note + ('' if len(line) > MOST_LINE else self.there(words_in(line), refusal.code))
 
     def there(self, words, code):
-        """The lines that tell what there is in the place of what the words of a refused line are, since step 14."""
-        name = next((name for name, step in self.NAMES.items() if step <= self.steps and name.startswith(words[0])), None)
+        """The lines that tell what there is in the place of what the words of a refused line are."""
+        name = next((name for name in self.NAMES if name.startswith(words[0])), None)
         if name is None:
             return self.nearest(words[0])
         if name == b'break' and code in ('B1', 'B2', 'B3'):
             return (self.other_sort(words) if code == 'B3' else '') + self.expected(words[1:])
         if code == 'B3' and name in NUMBERED:
-            return self.other_sort(words) + self.numbers(words[0])
+            return self.other_sort(words) + self.numbers()
         told = THERE_TOLD.get((code, name)) or code == 'B2' and USES_TOLD.get(name)
         return f'tcpsim: {told}\n' if told else ''
 
     def expected(self, words):
         """The line that tells what is expected at the first word behind `break` that does not fit."""
-        place = expected_in(words, self.names, self.steps)
+        place = expected_in(words, self.names)
         if place in (NODE, LINK, FLOW):
-            return self.numbers(b'break')
+            return self.numbers()
         return f'tcpsim: {EXPECTED_TOLD[place]}\n' if place else ''
 
-    def has_time(self, line):
-        """Whether a line can have a time."""
-        return self.name_of(words_in(line)[0]) in (b'until', b'goto')[:1 if self.steps < 11 else 2]
-
     def nearest(self, word):
-        """The line that tells what there is in the place of a word that is none: the nearest name to one that begins none."""
-        names = [name for name, step in self.NAMES.items() if step <= self.steps]
-        if self.steps >= 9 and word:
-            there = {**words_there(self.steps), **elsewhere(self.steps)}
-            begun = next((name for name in (*names, *there) if name.startswith(word)), None)
-            if begun in there:
-                return f'tcpsim: {there[begun]}\n'
-        if len(word) > MOST_WORD or any(name.startswith(word) for name in names):
+        """The line that tells what there is in the place of a word that begins no name: what it begins elsewhere, else the nearest name."""
+        begun = next((told for name, told in ELSEWHERE.items() if name.startswith(word)), None)
+        if begun:
+            return f'tcpsim: {begun}\n'
+        if len(word) > MOST_WORD:
             return ''
-        nearest = min(names, key=lambda name: edits(word, name))
+        nearest = min(self.NAMES, key=lambda name: edits(word, name))
         return f'tcpsim: no command {printable(word)}; the nearest is {nearest.decode()}\n'
 
     def other_sort(self, words):
         """The line that tells of the first name of another sort than its place is for, if there is one."""
         name = self.name_of(words[0])
-        for sort, word in named_in(name, words[1:], self.steps) if name in NUMBERED else ():
+        for sort, word in named_in(name, words[1:]) if name in NUMBERED else ():
             found = self.names.sort_of(word)
             if found not in (None, sort):
                 return f'tcpsim: {word.decode()} is a {found}: see help numbers\n'
         return ''
 
-    def numbers(self, word):
-        """The line that tells which nodes, links and flows there are, behind a command that can name one."""
-        if self.name_of(word) not in NUMBERED:
-            return ''
+    def numbers(self):
+        """The line that tells which nodes, links and flows there are."""
         found = self.debugger.scenario
         told = (f'{sort} 0 to {len(those) - 1}' for sort, those in (('nodes', found.nodes), ('links', found.links), ('flows', found.flows)))
         return f'tcpsim: there are {", ".join(told)}: see help numbers\n'
@@ -172,14 +121,10 @@ class Prompt:
         self.last = name, *numbers
         before, position, values = self.debugger.lines, self.debugger.net.position, self.values()
         getattr(self.debugger, name)(*numbers)
-        if self.steps < 3:
-            return self.debugger.net.dump()
         now = self.debugger.net.position
         passed = numbered(self.debugger.lines, position, now) if now > position else numbered(before, now, position)[::-1]
         stops = now > position or name == 'reverse' and now > 0
         matched = self.where() + (self.what_matched() if stops else '')
-        if self.steps < 9:
-            return first_shown(passed) + matched
         self.known, self.ends = max(self.known, now), self.ends or not self.debugger.net.due()
         if name == 'reverse' and now > 0:
             passed.append(line_text(now, self.debugger.lines[-1]))
@@ -195,9 +140,9 @@ class Prompt:
 
     def whose(self):
         """The line that names the node of the last line, and its flow, or the link that becomes free; none where there are no names."""
-        line, called = self.debugger.lines[-1], self.told.called
+        line, called = self.debugger.lines[-1], self.names.called
         whose = called(LINK, int(line.names)) if line.flow is None else called(FLOW, line.flow)
-        return f'of {called(NODE, line.node)}, {whose}\n' if isinstance(self.told, Names) else ''
+        return f'of {called(NODE, line.node)}, {whose}\n' if isinstance(self.names, Names) else ''
 
     def where(self):
         """The line that says where in the run the session is."""
@@ -236,7 +181,7 @@ class Prompt:
     def on_goto(self, words):
         if len(words) != 1:
             raise Refused('B2')
-        if self.steps >= 11 and words[0].endswith(UNIT):
+        if words[0].endswith(UNIT):
             return self.move('moment', time_in(words[0]))
         return self.move('goto', number_to(MOST, words[0]))
 
@@ -248,8 +193,7 @@ class Prompt:
         return f'{self.where()}next: {due}known to {"end at" if self.ends else "go to"} {self.known}\n'
 
     def on_state(self, words):
-        if not words or self.steps < 4:
-            at_most(words, 0)
+        if not words:
             return self.debugger.net.dump()
         parts = {b'node': self.of_node, b'link': self.of_link, b'flow': self.of_flow}
         if words[0] not in parts:
@@ -289,12 +233,11 @@ class Prompt:
         if len(words) != 1:
             raise Refused('B2')
         flow = self.names.number_of(FLOW, words[0])
-        told = missing(self.debugger.net, flow, self.debugger.drops, self.told) if self.steps >= 12 else ''
-        return why(self.debugger.net, flow, self.told, self.steps) + told
+        return why(self.debugger.net, flow, self.names) + missing(self.debugger.net, flow, self.debugger.drops, self.names)
 
     def on_stalls(self, words):
         at_most(words, 0)
-        return ''.join(f'goto {position}: {self.told.called(FLOW, flow)} is stalled at {time} ns\n'
+        return ''.join(f'goto {position}: {self.names.called(FLOW, flow)} is stalled at {time} ns\n'
                        for position, flow, time in stalls_of(self.debugger.scenario)) or 'no stall\n'
 
     def on_names(self, words):
@@ -302,33 +245,26 @@ class Prompt:
         return self.names.listed()
 
     def breakpoint(self, words):
-        """The breakpoint of `break`'s words, which stood as in a session whose commands are all there."""
-        words = words_behind_break(words, self.steps)
-        if self.steps >= 8 and words[:1] == [b'stall']:
+        """The breakpoint of `break`'s words."""
+        words = words_behind_break(words)
+        if words[:1] == [b'stall']:
             at_most(words, 2)
             return ((b'stall', self.names.number_of(FLOW, words[1]) if words[1:] else None),)
-        if self.steps >= 7:
-            return conditions_in(words, self.names, self.steps)
-        words = [b'break', *words]
-        if len(words) != words_wanted(words):
-            raise Refused('B2')
-        return breakpoint_of(words, self.debugger.scenario)
+        return conditions_in(words, self.names)
 
     def on_break(self, words):
         new = self.breakpoint(words)
         set_breakpoint(self.debugger, new)
-        if self.steps < 2:
-            return f'break {len(self.debugger.breaks)}\n'
         return self.named(self.debugger.breaks.index(new))
 
     def named(self, place, position=None):
         """The line of a breakpoint, by its place from 0; where it matches at a position, with what a value changed from there."""
         conditions, told = self.debugger.breaks[place], ''
-        if position and self.steps >= 11 and conditions[-1][0] == b'change':
+        if position and conditions[-1][0] == b'change':
             name = conditions[-1][1][0]
             old = self.debugger.changed_from(conditions[-1][1], position)
             told = f' ({name} from {old}{"ns" * (name == "rto")})'
-        return f'break {place + 1}: {words_of(conditions, self.told)}{told}\n'
+        return f'break {place + 1}: {words_of(conditions, self.names)}{told}\n'
 
     def on_breaks(self, words):
         at_most(words, 0)
@@ -336,7 +272,7 @@ class Prompt:
 
     def on_delete(self, words):
         taken = self.debugger.breaks.pop(place_in(words, self.debugger.breaks))
-        return f'deleted {words[0].decode()}: {words_of(taken, self.told)}\n'
+        return f'deleted {words[0].decode()}: {words_of(taken, self.names)}\n'
 
     def on_display(self, words):
         place = self.displays.add(display_of(words, self.names)) if words else 0
@@ -345,18 +281,22 @@ class Prompt:
 
     def on_undisplay(self, words):
         taken = self.displays.set.pop(place_in(words, self.displays.set))
-        return f'undisplayed {words[0].decode()}: {taken.words(self.told)}\n'
+        return f'undisplayed {words[0].decode()}: {taken.words(self.names)}\n'
 
     def on_help(self, words):
-        rows, topics = help_in(self.steps), topics_in(self.steps)
         if not words:
-            return ''.join(usage(name, rows) for name in rows) + last_of_help(self.steps)
+            return ''.join(map(usage, HELP)) + LAST_OF_HELP
         topic = self.topic_of(words[0])
         at_most(words, 1)
-        if topic in topics:
-            return topics[topic]
-        _, _, more, example = rows[topic]
-        return f'{usage(topic, rows)}{more}{example}\n'
+        if topic in TOPICS:
+            return TOPICS[topic]
+        _, _, more, example = HELP[topic]
+        return f'{usage(topic)}{more}{example}\n'
+
+
+def usage(name):
+    used, what, _, _ = HELP[name]
+    return f'{used:12} {what}\n'
 
 
 def place_in(words, of):
@@ -370,9 +310,9 @@ def place_in(words, of):
     return int(words[0]) - 1
 
 
-def typed(scenario, lines, steps=BUILT):
+def typed(scenario, lines):
     """A session of the lines over a scenario."""
-    return typed_into(Prompt(scenario, steps), lines)
+    return typed_into(Prompt(scenario), lines)
 
 
 def typed_into(session, lines):

@@ -19,7 +19,7 @@ class DropTail:
 
     def __init__(self, capacity):
         self.capacity = capacity
-        self.entries = deque()
+        self.entries: deque[tuple[Packet, int]] = deque()
 
     def offer(self, packet, now):
         """Whether the packet entered; it is refused by a full queue."""

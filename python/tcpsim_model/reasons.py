@@ -47,7 +47,7 @@ def place(line, fault):
     if fault.word is not None:
         start, count = fault.word.start, len(fault.word)
     elif fault.code == 'E1':
-        start, count = re.search(rb'[^ -~]', line).start(), 1
+        start, count = next(re.finditer(rb'[^ -~]', line)).start(), 1
     first = max(start - MOST_BEFORE, 0)
     shown = re.sub(rb'[^ -~]', b'?', line[first:first + MOST_SHOWN]).decode()
     before = start - first

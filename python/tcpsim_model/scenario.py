@@ -88,7 +88,7 @@ class Scenario:
 
     def outgoing(self):
         """For each node its outgoing links in rising number: its ports."""
-        ports = [[] for _ in self.nodes]
+        ports: list[list[int]] = [[] for _ in self.nodes]
         for number, link in enumerate(self.links):
             ports[link.source].append(number)
         return ports

@@ -3,7 +3,8 @@ lines, long ones, and spaces of all kinds."""
 from tcpsim_model.debugger import KINDS, MOST, MOST_BREAKS
 from tcpsim_model.conditions import BEHIND, DISPLAYED, NAMED, OF_LINK, OF_RECEIVER, OF_SENDER, OF_VALUES, PHASES, SIGNS, TIME, VALUE_WORDS
 from tcpsim_model.displays import MOST_DISPLAYS
-from tcpsim_model.grammar import MOST_LINE, NAMES, PLACES, TOPICS
+from tcpsim_model.grammar import MOST_LINE, NAMES, PLACES
+from tcpsim_model.texts import TOPICS
 
 # Numbers and times of a wrong form or out of range, and some at a bound.
 WRONG_NUMBERS = (b'01', b'00', b'-1', b'+1', b'1.0', b'1_0', b'x', b'1x', b'0x1', b'\xd9\xa3', b'%d' % (MOST + 1), b'9' * 25,
@@ -33,10 +34,10 @@ def number(pick, *values):
     return pick.choice(WRONG_NUMBERS) if pick.random() < 0.12 else b'%d' % pick.choice(values)
 
 
-def place(pick, scenario, steps, sort, *values):
+def place(pick, scenario, sort, *values):
     """The number of one of a sort, or where there are names, often its name, seldom another's."""
     value = pick.choice(values)
-    if not scenario.names or steps < 10 or pick.random() < 0.4:
+    if not scenario.names or pick.random() < 0.4:
         return number(pick, value)
     if pick.random() < 0.2:
         name = pick.choice((*scenario.names, *scenario.names, *GRAMMAR, b'zz'))
@@ -66,55 +67,54 @@ def spelled(pick, moment):
     return b'%d' % whole + (b'.' + digits if digits else b'') + unit
 
 
-def breakpoint_of(pick, scenario, moments, steps):
+def breakpoint_of(pick, scenario, moments):
     """The words of a breakpoint, most of them right."""
-    if steps >= 11 and pick.random() < 0.5:
-        words = on_value(pick, scenario, moments, steps)
+    if pick.random() < 0.5:
+        words = on_value(pick, scenario, moments)
         while pick.random() < 0.3:
-            words += (on_value(pick, scenario, moments, steps) if pick.random() < 0.5 else condition(pick, scenario, steps))
+            words += (on_value(pick, scenario, moments) if pick.random() < 0.5 else condition(pick, scenario))
         return words
-    if steps >= 8 and pick.random() < 0.3:
-        return [b'stall'] + [place(pick, scenario, steps, b'flow', pick.randrange(len(scenario.flows)))] * pick.choice((0, 1, 1))
-    if steps >= 7 and pick.random() < 0.1:
-        return [b'link', value_of(pick, b'link', scenario, steps), b'drop']
-    words = condition(pick, scenario, steps)
-    while steps >= 7 and pick.random() < 0.4:
-        words += condition(pick, scenario, steps)
+    if pick.random() < 0.3:
+        return [b'stall'] + [place(pick, scenario, b'flow', pick.randrange(len(scenario.flows)))] * pick.choice((0, 1, 1))
+    if pick.random() < 0.1:
+        return [b'link', value_of(pick, b'link', scenario), b'drop']
+    words = condition(pick, scenario)
+    while pick.random() < 0.4:
+        words += condition(pick, scenario)
     return words
 
 
-def condition(pick, scenario, steps):
+def condition(pick, scenario):
     """The words of one condition of a breakpoint, most of them right."""
-    sorts = (b'node', b'node', b'flow', b'flow', b'kind', b'kind', b'drop')
-    sort = pick.choice(sorts if steps < 7 else (*sorts, b'link', b'link', b'byte'))
+    sort = pick.choice((b'node', b'node', b'flow', b'flow', b'kind', b'kind', b'drop', b'link', b'link', b'byte'))
     if pick.random() < 0.1:
         sort = pick.choice((b'nod', b'n', b'f', b'link', b'kinds', b'queue', b'Drop', b'tx', b'break', b'', b'stall', b'byt'))
     words = [sort]
     if sort != b'drop' or pick.random() < 0.05:
-        words.append(pick.choice(KINDS + (b'tx', b'Rto', b'rt')) if sort == b'kind' else value_of(pick, sort, scenario, steps))
+        words.append(pick.choice(KINDS + (b'tx', b'Rto', b'rt')) if sort == b'kind' else value_of(pick, sort, scenario))
     return words
 
 
-def value_of(pick, sort, scenario, steps):
+def value_of(pick, sort, scenario):
     """The number or the name behind the sort of a condition."""
     if sort == b'byte':
         return number(pick, pick.choice(scenario.flows).mss * pick.choice((0, 1, 2, 3, 8)), pick.choice((1, 9 * 10**12, 9 * 10**12 + 1)))
     count = counts(scenario).get(sort)
     if count is None:
         return number(pick, 0, 1)
-    return place(pick, scenario, steps, sort, pick.randrange(count), pick.randrange(count + 1))
+    return place(pick, scenario, sort, pick.randrange(count), pick.randrange(count + 1))
 
 
-def on_value(pick, scenario, moments, steps):
+def on_value(pick, scenario, moments):
     """The words of a condition on a value, most of them right, with or without spaces around a sign."""
     sort = pick.choice((*OF_SENDER, *OF_LINK, *OF_LINK, *OF_LINK, *OF_RECEIVER, b'time', b'change', b'change'))
     if sort == b'change':
         value = pick.choice((*OF_SENDER, *OF_RECEIVER)) if pick.random() < 0.95 else pick.choice((b'queue', b'time', b'cwn', b'0'))
-        return [sort, value, value_of(pick, b'flow', scenario, steps)]
+        return [sort, value, value_of(pick, b'flow', scenario)]
     if sort == b'phase':
         return [sort, pick.choice((*PHASES, b'xx') if pick.random() < 0.9 else (b'=', b'<ss', b'SS'))]
     slowest = min(range(len(scenario.links)), key=lambda number: scenario.links[number].rate)
-    link = [place(pick, scenario, steps, b'link', slowest, pick.randrange(len(scenario.links)))] if sort in OF_LINK else []
+    link = [place(pick, scenario, b'link', slowest, pick.randrange(len(scenario.links)))] if sort in OF_LINK else []
     sign = pick.choice(SIGNS) if pick.random() < 0.95 else pick.choice((b'==', b'=<', b'<>', b'<<', b'!', b'=>', b''))
     words = [sort, *link, sign, bound_of(pick, sort, scenario, moments)]
     at = len(words) - 2
@@ -140,49 +140,49 @@ def counts(scenario):
     return {b'node': len(scenario.nodes), b'link': len(scenario.links), b'flow': len(scenario.flows)}
 
 
-def part(pick, scenario, steps):
+def part(pick, scenario):
     """The words of a part of a state, most of them right."""
     if pick.random() < 0.08:
         return [pick.choice((b'nod', b'l', b'flows', b'kind', b'drop')), number(pick, 0, 1)]
     sort = pick.choice((b'node', b'link', b'flow', b'flow'))
     count = counts(scenario)[sort]
-    return [sort, place(pick, scenario, steps, sort, *(pick.randrange(count) for _ in range(4)), count)]
+    return [sort, place(pick, scenario, sort, *(pick.randrange(count) for _ in range(4)), count)]
 
 
-def displayed(pick, scenario, steps):
+def displayed(pick, scenario):
     """The words behind `display`, most of them right."""
     if pick.random() < 0.15:
         return []
     item = pick.choice((b'flow', b'link', *DISPLAYED))
     count = counts(scenario)[DISPLAYED[item].encode()]
-    whose = place(pick, scenario, steps, DISPLAYED[item].encode(), *(pick.randrange(count) for _ in range(6)), count)
+    whose = place(pick, scenario, DISPLAYED[item].encode(), *(pick.randrange(count) for _ in range(6)), count)
     if pick.random() < 0.07:
         item = pick.choice((b'flo', b'node', b'time', b'drop', b'Cwnd', b'change', b'stall', b'cwnd=', b'f', b'display'))
     return [item, whose]
 
 
-def words_behind(pick, name, scenario, moments, steps):
+def words_behind(pick, name, scenario, moments):
     """Words that go with a name."""
     if name in (b'step', b'back'):
         return [number(pick, 0, 1, 1, 2, 5, 12, 40, 300, MOST)] if pick.random() < 0.6 else []
     if name == b'until':
         return [time(pick, moments, scenario.end)]
     if name == b'goto':
-        return [number(pick, 0, 1, 5, 11, 12, 40, 300, MOST, MOST + 1) if steps < 11 or pick.random() < 0.5 else time(pick, moments, scenario.end)]
+        return [number(pick, 0, 1, 5, 11, 12, 40, 300, MOST, MOST + 1) if pick.random() < 0.5 else time(pick, moments, scenario.end)]
     if name == b'break':
-        return breakpoint_of(pick, scenario, moments, steps)
+        return breakpoint_of(pick, scenario, moments)
     if name == b'why':
-        return [place(pick, scenario, steps, b'flow', *(pick.randrange(len(scenario.flows)) for _ in range(5)), len(scenario.flows))]
+        return [place(pick, scenario, b'flow', *(pick.randrange(len(scenario.flows)) for _ in range(5)), len(scenario.flows))]
     if name == b'state' and pick.random() < 0.65:
-        return part(pick, scenario, steps)
+        return part(pick, scenario)
     if name == b'lines':
         return [number(pick, 0, 1, 3, 9, 10, 11, 40, 999, 1000, 1001)] if pick.random() < 0.6 else []
     if name == b'display':
-        return displayed(pick, scenario, steps)
+        return displayed(pick, scenario)
     if name in (b'delete', b'undisplay'):
         return [number(pick, 0, 1, 1, 1, 2, 2, 3, 5, 64, 65, 100)]
     if name == b'help':
-        return pick.choice(([], [cut_short(pick, pick.choice(list(NAMES)))], [cut_short(pick, pick.choice(list(NAMES)))],
+        return pick.choice(([], [cut_short(pick, pick.choice(NAMES))], [cut_short(pick, pick.choice(NAMES))],
                             [cut_short(pick, pick.choice((*TOPICS, *VALUE_WORDS)))], [pick.choice((b'n', b'k', b's', b'w', b'g', b'd', b'u'))],
                             [pick.choice(NO_COMMANDS)]))
     return []
@@ -223,17 +223,16 @@ def lengthened(pick, line):
     return line.ljust(size) if pick.random() < 0.5 else line.rjust(size)
 
 
-def any_line(pick, scenario, moments, steps):
+def any_line(pick, scenario, moments):
     chance = pick.random()
     if chance < 0.12:
         return pick.choice((b'', b'', b'', b' ', b'   '))
     if chance < 0.17:
         return pick.choice(NO_COMMANDS)
-    weights = {b'quit': 0.08, b'clear': 0.5, b'run': 2, b'reverse': 2, b'step': 2, b'break': 2 if steps < 11 else 3, b'until': 2, b'goto': 2,
+    weights = {b'quit': 0.08, b'clear': 0.5, b'run': 2, b'reverse': 2, b'step': 2, b'break': 3, b'until': 2, b'goto': 2,
                b'display': 3}
-    names = [name for name, step in NAMES.items() if step <= max(steps, 1) or pick.random() < 0.05]
-    name = pick.choices(names, [weights.get(name, 1) for name in names])[0]
-    words = [cut_short(pick, name) if steps else name, *words_behind(pick, name, scenario, moments, steps)]
+    name = pick.choices(NAMES, [weights.get(name, 1) for name in NAMES])[0]
+    words = [cut_short(pick, name), *words_behind(pick, name, scenario, moments)]
     if name == b'quit' and pick.random() < 0.5:
         words.append(b'now')
     if pick.random() < 0.06:
@@ -256,19 +255,18 @@ def many_displays(pick, scenario):
     return pick.sample(many, min(len(many), MOST_DISPLAYS + 5))
 
 
-def any_session(pick, scenario, moments, steps):
+def any_session(pick, scenario, moments):
     """The bytes that are typed."""
     count = 300 if pick.random() < 0.01 else pick.choice((0, 1, 2, 5, 10, 20, 40, 40))
-    lines = [any_line(pick, scenario, moments, steps) for _ in range(count)]
+    lines = [any_line(pick, scenario, moments) for _ in range(count)]
     many = many_breaks(pick, scenario)
     if pick.random() < (0.5 if len(many) > MOST_BREAKS else 0.05):
         lines[:0] = many
-        lines[len(many) // 2:len(many) // 2] = [any_line(pick, scenario, moments, steps) for _ in range(5)]
-        if steps >= 2:
-            lines += [b'breaks'] + [b'delete %d' % pick.randint(1, len(many)) for _ in range(5)] + [b'breaks', pick.choice(many)]
-    if steps >= 13 and pick.random() < 0.15:
+        lines[len(many) // 2:len(many) // 2] = [any_line(pick, scenario, moments) for _ in range(5)]
+        lines += [b'breaks'] + [b'delete %d' % pick.randint(1, len(many)) for _ in range(5)] + [b'breaks', pick.choice(many)]
+    if pick.random() < 0.15:
         lines += [b'stalls', b'break stall', pick.choice((b'run', b'run', b'goto 99999', b'reverse')), *(b'why %d' % n for n in range(len(scenario.flows)))]
-    if steps >= 13 and pick.random() < 0.04:
+    if pick.random() < 0.04:
         many = many_displays(pick, scenario)
         lines = [*many, *lines, pick.choice(many), b'display', *(b'undisplay %d' % pick.randint(1, len(many)) for _ in range(5)), many[-1], b'step']
     return b'\n'.join(lines) + pick.choice((b'', b'\n'))

@@ -1,6 +1,7 @@
 """The simulation: one set of pending events, and the event of the least key run next."""
 from collections import namedtuple
 from heapq import heappop, heappush
+from typing import Optional
 
 from tcpsim_model.queues import Own, Packet, queue_of
 from tcpsim_model.receiver import Receiver
@@ -45,16 +46,13 @@ class Network:
         self.scenario, self.end, self.position = scenario, scenario.end, 0
         self.kinds, self.flows = scenario.nodes, scenario.flows
         count = len(scenario.nodes)
-        self.alarms = [{} for _ in range(count)]    # of each node: alarm number to its time
+        self.alarms: list[dict[int, int]] = [{} for _ in range(count)]      # of each node: alarm number to its time
         self.pending = []                           # (time, node, source, number, packet or None)
-        self.ends = [None] * count                  # sender or receiver at each node
-        self.flow_at = [None] * count
-        self.ports = [None] * len(scenario.links)
-        self.own_ports = [[] for _ in range(count)]
-        for node, numbers in enumerate(scenario.outgoing()):
-            for place, number in enumerate(numbers):
-                self.ports[number] = Port(number, scenario.links[number], place, scenario.queues.get(number))
-                self.own_ports[node].append(self.ports[number])
+        self.ends: list = [None] * count            # sender or receiver at each node
+        self.flow_at: list[int | None] = [None] * count
+        places = {number: place for numbers in scenario.outgoing() for place, number in enumerate(numbers)}
+        self.ports = [Port(number, link, places[number], scenario.queues.get(number)) for number, link in enumerate(scenario.links)]
+        self.own_ports = [[self.ports[number] for number in numbers] for numbers in scenario.outgoing()]
         self.routes = {(router, to): self.ports[link] for router, to, link in scenario.routes}
         self.inside = [0] * len(scenario.flows)     # of each flow: its packets that wait or are under way
         self.touched = set()                        # the links over which the last event sent, or where it dropped
@@ -138,7 +136,8 @@ class Network:
 
     def at_sender(self, node, now, numbers):
         """The packets that the sender's row sends are offered in order; the timer follows."""
-        acts, flow, port = [], self.flow_at[node], self.own_ports[node][0]
+        acts: list[str] = []
+        flow, port = self.flow_at[node], self.own_ports[node][0]
         size = self.flows[flow].mss + HEADER_BYTES
         for seq in numbers:
             self.offer(port, Packet(flow, False, seq, size), now, acts)
@@ -147,7 +146,8 @@ class Network:
 
     def at_receiver(self, node, now, number):
         """An acknowledgement is offered at once, or (None) the answer waits."""
-        acts, receiver = [], self.ends[node]
+        acts: list[str] = []
+        receiver = self.ends[node]
         if number is not None:
             self.offer(self.own_ports[node][0], Packet(self.flow_at[node], True, number, HEADER_BYTES), now, acts)
         self.set_alarm(node, DELACK, receiver.alarm)
@@ -155,7 +155,7 @@ class Network:
 
     def at_router(self, node, now, packet):
         flow = self.flows[packet[0]]
-        acts = []
+        acts: list[str] = []
         self.offer(self.routes[node, flow.sender if packet[1] else flow.receiver], packet, now, acts)
         return acts
 
@@ -174,11 +174,11 @@ class Network:
             return self.at_sender(node, now, self.ends[node].on_rto(now))
         if number == DELACK:
             return self.at_receiver(node, now, self.ends[node].on_delack())
-        acts = []
+        acts: list[str] = []
         self.take(self.own_ports[node][number - FIRST_FREE], now, acts)
         return acts
 
-    def step(self):
+    def step(self) -> Optional[Line]:
         """Runs the event that is due; answers its line, or None where none is."""
         event = self.due()
         if event is None:
@@ -193,8 +193,8 @@ class Network:
             self.inside[packet[0]] -= 1
             acts = self.arrive(node, now, packet)
         self.position += 1
-        end = self.ends[node]
-        return Line(now, node, source, number, *self.naming(event), '' if end is None else end.after(), acts)
+        end, (kind, names, flow) = self.ends[node], self.naming(event)
+        return Line(now, node, source, number, kind, names, flow, '' if end is None else end.after(), acts)
 
     def naming(self, event):
         """The kind of an event, the numbers that are written after it, and its flow."""

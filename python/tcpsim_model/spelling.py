@@ -71,7 +71,7 @@ STRANGE = (b'0', b'00', b'01', b'1', b'+1', b'-1', b'1.', b'1e3', b'0x1', b'1_0'
 def spelt(scenario, pick, names_too=()):
     """A text of the scenario with other names, now and then one of these, with spaces, comments and another order of its lines."""
     lines = [words_of(line) for line in lines_of(disassemble(scenario))]
-    names = {}
+    names: dict[bytes, bytes] = {}
     for words in lines:
         if words[0] in (b'node', b'link', b'flow'):
             names[words[1]] = any_name(pick, names, names_too)
@@ -99,11 +99,11 @@ def any_name(pick, taken, names_too=()):
 
 def merged(pick, *lists):
     """The lists put together, each in its own order."""
-    lists, out = [list(reversed(one)) for one in lists if one], []
-    while lists:
-        one = pick.choice(lists)
+    left, out = [list(reversed(one)) for one in lists if one], []
+    while left:
+        one = pick.choice(left)
         out.append(one.pop())
-        lists = [one for one in lists if one]
+        left = [one for one in left if one]
     return out
 
 
@@ -161,9 +161,9 @@ def around_words(text):
         for more in range(1, 4):
             yield replaced(lines, n, words + [b'1'] * more)
         if words[0] == b'flow':
-            for more in itertools.chain(itertools.product(VARIANT_WORDS), itertools.product(VARIANT_WORDS, repeat=2),
-                                        (VARIANT_WORDS[:3], VARIANT_WORDS[:4])):
-                yield replaced(lines, n, words[:9] + list(more))
+            for variant in itertools.chain(itertools.product(VARIANT_WORDS), itertools.product(VARIANT_WORDS, repeat=2),
+                                           (VARIANT_WORDS[:3], VARIANT_WORDS[:4])):
+                yield replaced(lines, n, words[:9] + list(variant))
 
 
 def around_lines(text):

@@ -41,6 +41,14 @@ class Tagged(Packet):
     """A packet at a link with its tags: the event `by` which it was offered, what the link had spent on each flow `before`, its
     round trip; once it is sent the number of that event, how long it `waited` for each flow, when it `began` and when it `left`."""
 
+    by: Event
+    before: Counter
+    trip: str
+    sent: int
+    waited: list
+    began: int
+    left: int
+
 
 class TaggedSender(Sender):
     """A sender that knows which event set its timer, and how often rto was doubled since it was measured."""
@@ -100,10 +108,10 @@ class TaggedNetwork(Network):
 
     def __init__(self, scenario):
         super().__init__(scenario)
-        self.event, self.high = None, 0
+        self.event, self.high = Event(0, 0), 0
         self.last = [(0, 0, 0)] * len(self.ports)           # of each link the packet that it sent last: flow, from, to
-        self.spent = [Counter() for _ in self.ports]        # and how long it sent all those before, by flow
-        self.acknowledged = [[] for _ in self.flows]
+        self.spent: list[Counter] = [Counter() for _ in self.ports]         # and how long it sent all those before, by flow
+        self.acknowledged: list[list[tuple[int, Event]]] = [[] for _ in self.flows]
         for flow in self.flows:
             self.ends[flow.sender] = TaggedSender(self, flow.mss, flow.segments, flow.rwnd, **of_flow(flow))
             self.ends[flow.receiver] = TaggedReceiver(self, flow.mss, flow.delack)
@@ -160,6 +168,7 @@ class TaggedNetwork(Network):
         if isinstance(end, Sender):
             una, self.high = end.una, end.high
         line = super().step()
+        assert line is not None     # an event was due
         if line.kind == 'ack' and isinstance(end, Sender) and end.una > una:
             self.acknowledged[line.flow].append((end.una, self.event))
         return line

@@ -94,9 +94,8 @@ class Book:
         words = words_of(line)
         if not words:
             return
-        statement = self.STATEMENTS.get(words[0])
-        refuse_if(statement is None, 'E2', words[0])
-        counts, read = statement
+        refuse_if(words[0] not in self.STATEMENTS, 'E2', words[0])
+        counts, read = self.STATEMENTS[words[0]]
         refuse_if(len(words) not in counts, 'E3')
         read(self, words)
 

@@ -1,47 +1,42 @@
-"""What a flow waits for: first how it stands, then where its packets are, then its alarms. Counts of 1 are told in the singular
-since step 13 of the prompt's grammar."""
+"""What a flow waits for: first how it stands, then where its packets are, then its alarms."""
 from tcpsim_model.simulate import DELACK, RTO, START
 from tcpsim_model.text import FLOW, LINK, NODE
 
 
-def why(net, flow, names, steps):
+def why(net, flow, names):
     """What `why` answers of a flow of the net; `names` has what nodes, links and flows are called."""
-    lines = [f'{names.called(FLOW, flow)} {standing(net, flow, steps)}']
+    lines = [f'{names.called(FLOW, flow)} {standing(net, flow)}']
     lines += [f'{head}: {", ".join(found)}' for head, found in (
         ('waits', waiting(net, flow, names)), ('under way', under_way(net, flow, names)), ('alarms', alarms(net, flow))) if found]
     return ''.join(line + '\n' for line in lines)
 
 
-def standing(net, flow, steps):
+def standing(net, flow):
     """How a flow stands: the first of these that holds."""
     sender = net.flows[flow].sender
     end = net.ends[sender]
     if START in net.alarms[sender]:
         return f'is not started: it starts at {net.alarms[sender][START]} ns'
     if end.una == end.total:
-        return f'is complete: all {counted(end.total, "byte", steps)} {be(end.total, steps)} acknowledged'
+        return f'is complete: all {counted(end.total, "byte")} {be(end.total)} acknowledged'
     if net.is_stalled(flow):
-        return f'is stalled: {counted(end.dups, "duplicate acknowledgement", steps)}, and {awaited(net, flow)}'
+        return f'is stalled: {counted(end.dups, "duplicate acknowledgement")}, and {awaited(net, flow)}'
     if end.nxt == end.total:
-        return f'has sent all {counted(end.total, "byte", steps)}: {end.una} {be(end.una, steps)} acknowledged'
+        return f'has sent all {counted(end.total, "byte")}: {end.una} {be(end.una)} acknowledged'
     flight = end.nxt - end.una
-    told = f'{counted(flight, "byte", steps)} in flight, a segment of {end.mss}'
+    told = f'{counted(flight, "byte")} in flight, a segment of {end.mss}'
     if flight + end.mss > min(end.cwnd, end.rwnd):
         window, size = ('cwnd', end.cwnd) if end.cwnd <= end.rwnd else ('rwnd', end.rwnd)
         return f'sends no more: {told}, {window} {size}'
     return f'may send at its next acknowledgement: {told}, cwnd {end.cwnd}'
 
 
-def is_one(count, steps):
-    return count == 1 and steps >= 13
+def counted(count, noun):
+    return f'{count} {noun}{"" if count == 1 else "s"}'
 
 
-def counted(count, noun, steps):
-    return f'{count} {noun}{"" if is_one(count, steps) else "s"}'
-
-
-def be(count, steps):
-    return 'is' if is_one(count, steps) else 'are'
+def be(count):
+    return 'is' if count == 1 else 'are'
 
 
 def awaited(net, flow):

@@ -10,7 +10,7 @@ from fractions import Fraction
 import pytest
 
 from clone import EXAMPLES, TOP, of_model, read, read_text
-from tcpsim_model import advice, command_line, grammar, image, prompt, reasons, simulate, texts as pages
+from tcpsim_model import advice, command_line, image, prompt, reasons, simulate, texts as pages
 from tcpsim_model.queues import COUNT_STOPS, Codel, gap
 from tcpsim_model.receiver import Receiver
 from tcpsim_model.scenario import Refused
@@ -50,7 +50,7 @@ VARIANTS = 'reno iw3', 'newreno iw3', 'reno iw10', 'newreno iw10'
 
 
 def test_what_a_code_means_is_what_the_page_says():
-    rows = [line for line in read_text('docs', 'FORMATS.md').splitlines() if line.startswith('|')]
+    rows = [line for page in ('FORMATS.md', 'COMMANDS.md') for line in read_text('docs', page).splitlines() if line.startswith('|')]
     for code, told in reasons.MEANINGS.items():
         assert any(re.match(rf'\| `?(refused )?{code}`? \| {re.escape(told)}', row) for row in rows), code
 
@@ -74,10 +74,6 @@ def test_what_is_meant_by_a_word():
 
 
 MISTAKEN_MEANT = [b'', b's', b'.5s', b'1e-6', b'1e20', b'1e6s', b'1,000', b'-1', b'+1s', b'10 s', b'1h', b'1..0', b'1.0.0', b'1m', b'1S', b'0x10', b'9' * 5000]
-
-
-def positions(output):
-    return [int(line[3:]) for line in output.decode().splitlines() if line.startswith('at ')]
 
 
 def test_gap():
@@ -459,10 +455,10 @@ NO_NAME = 'B1: no command has this name, or no sort of breakpoint'
 
 
 class TestPrompts:
-    def typed(self, text, *lines, steps=9):
+    def typed(self, text, *lines):
         """What is written and what is noted, without the prompts."""
         out, notes, keys = [], [], io.BytesIO(''.join(line + '\n' for line in lines).encode())
-        status, note = command_line.main(('debug', 'FILE', '--steps', str(steps)), keys, out.append, notes.append,
+        status, note = command_line.main(('debug', 'FILE'), keys, out.append, notes.append,
                                          lambda _: text.encode())
         assert (status, note) == (0, '')
         return b''.join(out).decode(), b''.join(notes).decode().replace(prompt.PROMPT, '').split()
@@ -473,14 +469,14 @@ class TestPrompts:
             assert (out, notes[:2]) == ('', ['refused', code]), line
 
     def where(self, *lines):
-        """The positions that the dumps are of."""
-        return positions(self.typed(ONE_SEGMENT, *lines, steps=1)[0].encode())
+        """The positions that the moves come to, and those of the dumps."""
+        return [int(line.split()[1]) for line in self.typed(ONE_SEGMENT, *lines)[0].splitlines() if line.startswith('at ')]
 
     def test_names_cut_short(self):
         assert self.where('s', 'st', 'ste', 'b', 'ba', 'sta', 'r', 'u 0', 'state', 'back 9') == \
             [1, 2, 3, 2, 1, 1, 5, 5, 5, 0]
-        assert self.typed(ONE_SEGMENT, 'br drop', 'brea drop', 'c', 'break node 1', steps=1)[0] == \
-            'break 1\nbreak 1\nclear\nbreak 1\n'
+        assert self.typed(ONE_SEGMENT, 'br drop', 'brea drop', 'c', 'break node 1')[0] == \
+            'break 1: drop\nbreak 1: drop\nclear\nbreak 1: node r\n'
         self.refuses('B1', 'x', 'steps', 'stepp 1', 'S', 'y', 'break no 1', 'br k rto', 'ste\tp', '#')
 
     def test_the_nearest_name(self):
@@ -488,17 +484,7 @@ class TestPrompts:
                                  ('x', 'x', 'run'), ('bt', 'bt', 'step'), ('ste\tp', 'ste?p', 'step'), ('x' * 32, 'x' * 32, 'step')):
             told = f'refused B1 {NO_NAME} tcpsim: no command {word}; the nearest is {name}'.split()
             assert self.typed(ONE_SEGMENT, line) == ('', told), line
-        for line in ('x' * 33, 'help stpe', 'state x'):
-            assert self.typed(ONE_SEGMENT, line) == ('', f'refused B1 {NO_NAME}'.split()), line
-        assert self.typed(ONE_SEGMENT, 'wy 0', steps=4)[1][-1] == 'run'
-        assert self.typed(ONE_SEGMENT, 'stpe', steps=0) == ('', ['refused', 'B1'])
-
-    def test_the_numbers_that_there_are(self):
-        told = 'tcpsim: there are nodes 0 to 1, links 0 to 1, flows 0 to 0: see help numbers'.split()
-        for line in ('why f', 'w 1', 'break flow 1', 'br kind acks', 'state link 2', 'sta node n'):
-            assert self.typed(ONE_SEGMENT, line)[1][-len(told):] == told, line
-        for line in ('step x', 'lines 1001', 'delete 01', 'why'):
-            assert 'tcpsim:' not in self.typed(ONE_SEGMENT, line)[1], line
+        assert self.typed(ONE_SEGMENT, 'x' * 33) == ('', f'refused B1 {NO_NAME}'.split())
 
     def test_words(self):
         self.refuses('B2', 'step 1 2', 'back 1 1', 'run 1', 'until', 'until 1 s', 'clear 1', 'break', 'br drop link',
@@ -526,9 +512,9 @@ class TestPrompts:
 
     def test_breakpoints_by_number(self):
         assert self.typed(ONE_SEGMENT, 'breaks', 'br node 1', 'break flow 0', 'break kind ack', 'break drop', 'br flow 0',
-                                    'd 2', 'breaks', 'd 3', 'del 1', 'breaks', 'br node 1', 'clear', 'breaks')[0] == ('no breakpoint\nbreak 1: node 1\nbreak 2: flow 0\nbreak 3: kind ack\nbreak 4: drop\nbreak 2: flow 0\n'
-                         'deleted 2: flow 0\nbreak 1: node 1\nbreak 2: kind ack\nbreak 3: drop\ndeleted 3: drop\n'
-                         'deleted 1: node 1\nbreak 1: kind ack\nbreak 2: node 1\nclear\nno breakpoint\n')
+                                    'd 2', 'breaks', 'd 3', 'del 1', 'breaks', 'br node 1', 'clear', 'breaks')[0] == ('no breakpoint\nbreak 1: node r\nbreak 2: flow f\nbreak 3: kind ack\nbreak 4: drop\nbreak 2: flow f\n'
+                         'deleted 2: flow f\nbreak 1: node r\nbreak 2: kind ack\nbreak 3: drop\ndeleted 3: drop\n'
+                         'deleted 1: node r\nbreak 1: kind ack\nbreak 2: node r\nclear\nno breakpoint\n')
         self.refuses('B2', 'breaks 1', 'd', 'd 1 1', 'help s t')
         self.refuses('B3', 'd 01', 'd -1', 'd node')
         self.refuses('B5', 'd 0', 'd 1', 'd 18446744073709551616', 'd ' + '9' * 5000)
@@ -538,63 +524,58 @@ class TestPrompts:
         lines = ONE_SEGMENT_TRACE.splitlines(keepends=True)
         given = ()
         for line, answer in (
-                ('s', lines[0] + 'at 1 of the run, time 0 ns\n'),
-                ('s 2', ''.join(lines[1:3]) + 'at 3 of the run, time 2040000 ns\n'),
+                ('s', lines[0] + 'of node s, flow f\nat 1 of the run, time 0 ns\n'),
+                ('s 2', ''.join(lines[1:3]) + 'of node r, flow f\nat 3 of the run, time 2040000 ns\n'),
                 ('s 0', 'at 3 of the run, time 2040000 ns\n'),
                 ('b 2', lines[2] + lines[1] + 'at 1 of the run, time 0 ns\n'),
                 ('b', lines[0] + 'at 0 of the run, time 0 ns, the beginning\n'), ('', 'at 0 of the run, time 0 ns, the beginning\n'), ('l', ''),
-                ('u 2.04ms', ''.join(lines[:2]) + 'at 2 of the run, time 1040000 ns\n'),
-                ('br node 1', 'break 1: node 1\n'), ('br kind free', 'break 2: kind free\n'),
-                ('r', lines[2] + 'at 3 of the run, time 2040000 ns\nbreak 1: node 1\n'),
-                ('s', lines[3] + 'at 4 of the run, time 2080000 ns\nbreak 1: node 1\n'),
-                ('s 0', 'at 4 of the run, time 2080000 ns\n'), ('d 1', 'deleted 1: node 1\n'),
+                ('u 2.04ms', ''.join(lines[:2]) + 'of node s, link a\nat 2 of the run, time 1040000 ns\n'),
+                ('br node 1', 'break 1: node r\n'), ('br kind free', 'break 2: kind free\n'),
+                ('r', lines[2] + 'of node r, flow f\nat 3 of the run, time 2040000 ns\nbreak 1: node r\n'),
+                ('s', lines[3] + 'of node r, link b\nat 4 of the run, time 2080000 ns\nbreak 1: node r\n'),
+                ('s 0', 'at 4 of the run, time 2080000 ns\n'), ('d 1', 'deleted 1: node r\n'),
                 ('b', lines[3] + 'at 3 of the run, time 2040000 ns\n'),
-                ('u 1s', ''.join(lines[3:5]) + 'at 5 of the run, time 3080000 ns, the end\n'),
+                ('u 1s', ''.join(lines[3:5]) + 'of node s, flow f\nat 5 of the run, time 3080000 ns, the end\n'),
                 ('r', 'at 5 of the run, time 3080000 ns, the end\n'), ('l 2', ''.join(lines[3:5])), ('l', ''.join(lines[:5])),
                 ('l 0', ''), ('b 2', lines[4] + lines[3] + 'at 3 of the run, time 2040000 ns\n'),
-                ('s', lines[3] + 'at 4 of the run, time 2080000 ns\nbreak 1: kind free\n')):
+                ('s', lines[3] + 'of node r, link b\nat 4 of the run, time 2080000 ns\nbreak 1: kind free\n')):
             before, given = self.typed(ONE_SEGMENT, *given)[0], (*given, line)
             assert self.typed(ONE_SEGMENT, *given)[0] == before + answer, line
         self.refuses('B2', 'lines 1 1')
         self.refuses('B3', 'l 1001', 'lines -1')
 
-    def test_at_most_ten_lines_are_shown(self):
+    def test_lines(self):
         text = read_text('examples', 'two_timeouts_in_a_row.txt')
         lines = list(simulate.trace(assemble(text.encode())))
-        for count, more in ((10, ''), (11, '.. 1 more\n'), (25, '.. 15 more\n')):
-            forwards, back = self.typed(text, f's {count}')[0], self.typed(text, f's {count}', f'b {count}')[0]
-            assert forwards.startswith(more + ''.join(lines[count - 10:count]) + f'at {count} of the run')
-            assert back == \
-                forwards + more + ''.join(lines[:10][::-1]) + 'at 0 of the run, time 0 ns, the beginning\n'
         assert self.typed(text, 's 20', 'l 4')[0].splitlines(True)[-4:] == lines[16:20]
         assert self.typed(text, 's 20', 'l')[0].splitlines(True)[-10:] == lines[10:20]
 
     def test_parts_of_a_state(self):
-        dump = self.typed(CODEL, 's', 'state')[0].splitlines(True)[2:]
+        dump = self.typed(CODEL, 's', 'state')[0].splitlines(True)[3:]
         assert ''.join(dump) == CODEL_DUMP
         for line, part in (('state node 0', dump[1:2]), ('sta node 1', dump[2:3]), ('state link 0', dump[3:4]), ('state link 1', dump[4:5]),
                            ('state flow 0', [line for line in dump[1:] if 'free' not in line and 'link 1' not in line])):
-            assert self.typed(CODEL, 's', line)[0].splitlines(True)[2:] == part
+            assert self.typed(CODEL, 's', line)[0].splitlines(True)[3:] == part
         for flow in ('0', '1'):
-            dump, part = (self.typed(EQUAL_TIMES, 's 3', line)[0].splitlines()[4:] for line in ('state', f'state flow {flow}'))
+            dump, part = (self.typed(EQUAL_TIMES, 's 3', line)[0].splitlines()[5:] for line in ('state', f'state flow {flow}'))
             assert [line for line in part if line.startswith('event')] == \
                 [line for line in dump if line.startswith('event') and ' free ' not in line and line.split()[6] == flow]
             assert [line for line in part if line.startswith('node')] == \
                 [line for line in dump if line.startswith('node') and line.split()[3:4] == [flow]]
         self.refuses('B1', 'state 1', 'state kind rto', 'state no 0', 'state x y z')
         self.refuses('B2', 'state node', 'state link 0 0')
-        self.refuses('B3', 'state node 2', 'state link 2', 'state flow 1', 'state flow 00', 'state node s')
+        self.refuses('B3', 'state node 2', 'state link 2', 'state flow 1', 'state flow 00', 'state node f')
 
     def test_reverse(self):
         lines = ONE_SEGMENT_TRACE.splitlines(keepends=True)
         start, given = 'at 0 of the run, time 0 ns, the beginning\n', ()
         for line, answer in (
-                ('re', start), ('u 1s', ''.join(lines[:5]) + 'at 5 of the run, time 3080000 ns, the end\n'),
-                ('reverse', ''.join(lines[4::-1]) + start), ('br kind free', 'break 1: kind free\n'), ('br node 1', 'break 2: node 1\n'),
-                ('u 1s', ''.join(lines[:5]) + 'at 5 of the run, time 3080000 ns, the end\n'),
-                ('rev', lines[4] + lines[3] + 'at 4 of the run, time 2080000 ns\nbreak 1: kind free\n'),
-                ('', lines[3] + lines[2] + 'at 3 of the run, time 2040000 ns\nbreak 2: node 1\n'),
-                ('', lines[2] + lines[1] + 'at 2 of the run, time 1040000 ns\nbreak 1: kind free\n'),
+                ('re', start), ('u 1s', ''.join(lines[:5]) + 'of node s, flow f\nat 5 of the run, time 3080000 ns, the end\n'),
+                ('reverse', ''.join(lines[4::-1]) + start), ('br kind free', 'break 1: kind free\n'), ('br node 1', 'break 2: node r\n'),
+                ('u 1s', ''.join(lines[:5]) + 'of node s, flow f\nat 5 of the run, time 3080000 ns, the end\n'),
+                ('rev', lines[4] + lines[3] + 'of node r, link b\nat 4 of the run, time 2080000 ns\nbreak 1: kind free\n'),
+                ('', lines[3] + lines[2] + 'of node r, flow f\nat 3 of the run, time 2040000 ns\nbreak 2: node r\n'),
+                ('', lines[2] + lines[1] + 'of node s, link a\nat 2 of the run, time 1040000 ns\nbreak 1: kind free\n'),
                 ('', lines[1] + lines[0] + start), ('', start), ('c', 'clear\n')):
             before, given = self.typed(ONE_SEGMENT, *given)[0], (*given, line)
             assert self.typed(ONE_SEGMENT, *given)[0] == before + answer, line
@@ -605,16 +586,16 @@ class TestPrompts:
 
     def test_breakpoints_of_several_conditions(self):
         answers = self.typed(ONE_SEGMENT, 'br kind free node 1', 'break node 1 kind free', 'br drop link 1 byte 7 flow 0', 'r')[0]
-        assert answers.splitlines()[:3] == ['break 1: node 1 kind free', 'break 1: node 1 kind free',
-                                                    'break 2: flow 0 drop link 1 byte 7']
+        assert answers.splitlines()[:3] == ['break 1: node r kind free', 'break 1: node r kind free',
+                                                    'break 2: flow f drop link b byte 7']
         # One condition alone is met before: node 0 by events 1 and 2, a free link by event 2.
-        assert answers.splitlines()[-2:] == ['at 4 of the run, time 2080000 ns', 'break 1: node 1 kind free']
+        assert answers.splitlines()[-2:] == ['at 4 of the run, time 2080000 ns', 'break 1: node r kind free']
         # A link is met where a packet is sent over it or is dropped there; a byte is the first of a segment or of what is awaited.
         for words, positions in (('link 0', (1, 5)), ('link 1', (3, 5)), ('byte 0', (3, 5)), ('byte 1000', (5, 5)), ('byte 1', (5, 5))):
             found = self.typed(ONE_SEGMENT, f'break {words}', 'r', 'r')[0].splitlines()
             assert [int(line.split()[1]) for line in found if line.startswith('at ')] == [*positions], words
         found = self.example('two_timeouts_in_a_row.txt', 'break link 0 drop kind rto', 'r')
-        assert found[-2:] == ['at 26 of the run, time 1006200000 ns', 'break 1: kind rto drop link 0']
+        assert found[-2:] == ['at 26 of the run, time 1006200000 ns', 'break 1: kind rto drop link a']
         # A byte that is dropped: at the sender's own link, where no packet of it arrives, and by CoDel as the link becomes free.
         for name, words, positions in (('two_timeouts_in_a_row.txt', 'byte 4000 drop', (6, 26, 51)),
                                        ('two_timeouts_in_a_row.txt', 'drop byte 2000', (51,)),
@@ -627,73 +608,67 @@ class TestPrompts:
 
     def test_stalls(self):
         # All segments from 4000 on were lost but those that brought two duplicates, and the next is lost again: it is one stall.
-        for words in ('stall', 'stall 0'):
+        for words, told in (('stall', 'break 1: stall'), ('stall 0', 'break 1: stall f')):
             found = self.example('two_timeouts_in_a_row.txt', f'break {words}', 'r', 'r', 're')
             places = [line for line in found if line.startswith(('at ', 'break '))]
-            assert places == [f'break 1: {words}', 'at 25 of the run, time 9280000 ns', f'break 1: {words}',
-                                      'at 51 of the run, time 3017520000 ns, the end', 'at 25 of the run, time 9280000 ns',
-                                      f'break 1: {words}']
+            assert places == [told, 'at 25 of the run, time 9280000 ns', told, 'at 51 of the run, time 3017520000 ns, the end',
+                              'at 25 of the run, time 9280000 ns', told]
         self.refuses('B2', 'break stall 0 0')
         self.refuses('B3', 'break stall 1', 'break stall drop')
 
     def test_why(self):
         for count, lines in (
-                (0, ['flow 0 is not started: it starts at 0 ns', 'alarms: start at 0 ns']),
-                (1, ['flow 0 has sent all 1000 bytes: 0 are acknowledged', 'under way: data 0 to node 1 at 2040000 ns',
-                     'alarms: rto at 1000000000 ns']),
-                (3, ['flow 0 has sent all 1000 bytes: 0 are acknowledged', 'under way: ack 1000 to node 0 at 3080000 ns',
-                     'alarms: rto at 1000000000 ns']),
-                (5, ['flow 0 is complete: all 1000 bytes are acknowledged'])):
+                (0, ['flow f is not started: it starts at 0 ns', 'alarms: start at 0 ns']),
+                (1, ['flow f has sent all 1000 bytes: 0 are acknowledged', 'under way: data 0 to node r at 2040000 ns',
+                     'alarms: rto at 1000000000 ns', 'missing at the receiver: byte 0']),
+                (3, ['flow f has sent all 1000 bytes: 0 are acknowledged', 'under way: ack 1000 to node s at 3080000 ns',
+                     'alarms: rto at 1000000000 ns', 'missing at the sender: an acknowledgement above 0']),
+                (5, ['flow f is complete: all 1000 bytes are acknowledged'])):
             assert self.typed(ONE_SEGMENT, f's {count}', 'why 0')[0].splitlines()[-len(lines):] == lines, count
         for count, lines in (
-                (25, ['flow 0 is stalled: 2 duplicate acknowledgements, and its retransmission timer is due at 1006200000 ns',
-                      'alarms: rto at 1006200000 ns']),
-                (31, ['flow 0 sends no more: 2000 bytes in flight, a segment of 1000, cwnd 2000',
-                      'waits: data 6000 at place 1 of link 0', 'under way: data 5000 to node 1 at 3011320000 ns',
-                      'alarms: rto at 7009280000 ns'])):
+                (25, ['flow f is stalled: 2 duplicate acknowledgements, and its retransmission timer is due at 1006200000 ns',
+                      'alarms: rto at 1006200000 ns', 'missing at the receiver: byte 4000, data 4000 lost by name at link a in line 6']),
+                (31, ['flow f sends no more: 2000 bytes in flight, a segment of 1000, cwnd 2000',
+                      'waits: data 6000 at place 1 of link a', 'under way: data 5000 to node r at 3011320000 ns',
+                      'alarms: rto at 7009280000 ns', 'missing at the receiver: byte 5000, data 5000 lost by name at link a in line 6'])):
             assert self.example('two_timeouts_in_a_row.txt', f's {count}', 'w 0')[-len(lines):] == lines, count
         self.refuses('B2', 'why', 'why 0 0')
-        self.refuses('B3', 'why 1', 'why f')
+        self.refuses('B3', 'why 1', 'why a')
 
     def test_help(self):
-        out, notes = self.typed(ONE_SEGMENT, 'help', steps=2)
-        assert (out.splitlines(), notes) == ([
-            'step [K]     run the next K events (1)',
-            'back [K]     take the last K events back (1)',
-            'run          run until a breakpoint matches, or to the end',
-            'until T      run all events before the moment T, as 1.5s, 20ms or 10000ns',
-            'state [PART] show all of the state, or of it: node N, link L or flow F',
-            'break COND.. stop where all match: node N, flow F, kind K, drop, link L, byte B; or stall [F]',
-            'breaks       list the breakpoints',
-            'delete I     take breakpoint I away',
-            'clear        take all breakpoints away',
-            'help [NAME]  show this, or more of NAME: a command, numbers, trace, kinds or stall',
-            'quit         end the session',
-            '(nodes N, links L and flows F are numbers from 0, in the order of the text: help numbers)',
-            '(an empty line does the last move again)'], [])
+        out, notes = self.typed(ONE_SEGMENT, 'help')
+        *rows, names, again = out.splitlines()
+        assert (rows[0], names, again, notes) == (
+            'step [K]     run the next K events (1)', '(nodes N, links L and flows F go by their names, or by numbers from 0: help numbers)',
+            '(an empty line does the last move again)', [])
+        assert [row.split()[0] for row in rows] == ['step', 'back', 'run', 'reverse', 'until', 'goto', 'where', 'state', 'break', 'breaks', 'delete', 'clear',
+                                                    'lines', 'display', 'undisplay', 'why', 'stalls', 'names', 'help', 'quit']
+        assert {row[12] for row in rows} == {' '} and all(row[13] != ' ' for row in rows)
         for word in ('u', 'unt', 'until'):
             assert self.typed(ONE_SEGMENT, f'help {word}')[0].splitlines() == ['until T      run all events before the moment T, as 1.5s, 20ms or 10000ns',
                               'T is a number of nanoseconds, or has a unit: ns, us, ms or s. It only goes forwards, and else says so.', 'until 20ms']
         assert self.typed(ONE_SEGMENT, 'h breaks')[0].startswith('breaks ')
-        # Each example is a line that is not refused, but for what is not there.
-        for name, (_, _, _, example) in pages.help_in(9).items():
-            assert example.encode().startswith(name)
+        # Each example is a line that is not refused, but for what is not there; a wide terminal holds each page.
+        for name, (_, _, _, example) in pages.HELP.items():
+            *lines, last = self.typed(ONE_SEGMENT, f'help {name.decode()}')[0].splitlines()
+            assert last == example and example.encode().startswith(name) and max(map(len, lines)) <= 125
             assert self.typed(ONE_SEGMENT, example)[1][:2] in ([], ['refused', 'B5'])
 
     def test_help_on_topics(self):
-        for words, topic in (('n num numbers', b'numbers'), ('t tra trace', b'trace'), ('k ki kinds', b'kinds'), ('stal stall', b'stall')):
+        for words, topic in (('n num numbers', b'numbers'), ('t tra trace', b'trace'), ('k ki kinds', b'kinds'), ('stal stall', b'stall'),
+                             ('v val values', b'values')):
             for word in words.split():
-                assert self.typed(ONE_SEGMENT, f'help {word}') == (grammar.TOPICS[topic], [])
+                assert self.typed(ONE_SEGMENT, f'help {word}') == (pages.TOPICS[topic], [])
         # A command comes first.
         for word, name in (('s', 'step'), ('st', 'step'), ('sta', 'state'), ('l', 'lines')):
             assert self.typed(ONE_SEGMENT, f'help {word}')[0].startswith(f'{name} ')
-        self.refuses('B1', 'help stalls', 'help numbers1', 'help traces 1')
+        self.refuses('B1', 'help stallss', 'help numbers1', 'help traces 1')
         self.refuses('B2', 'help kinds rto', 'h k k')
-        # The last line of each can be typed; a terminal holds it.
-        for text in grammar.TOPICS.values():
+        # The last line of each can be typed; a wide terminal holds it.
+        for text in pages.TOPICS.values():
             lines = text.splitlines()
             assert self.typed(ONE_SEGMENT, lines[-1])[1] == []
-            assert max(map(len, lines)) <= 110
+            assert max(map(len, lines)) <= 125
         # The kinds are those that a breakpoint takes.
-        for line in grammar.TOPICS[b'kinds'].splitlines()[1:-1]:
+        for line in pages.TOPICS[b'kinds'].splitlines()[1:-1]:
             assert self.typed(ONE_SEGMENT, f'break kind {line.split()[0]}')[1] == []
