@@ -14,14 +14,14 @@ import clone
 
 def pytest_addoption(parser):
     parser.addoption('--program', metavar='FILE', help='the program to try (left out: the built one, or else the model)')
-    parser.addoption('--steps', type=int, metavar='N', help='how many steps of its grammar the prompt has (left out: all)')
+    parser.addoption('--runs', type=int, default=40, metavar='N', help='how many runs test_sweep_engines compares with single ones (left out: 40)')
+    parser.addoption('--questions', type=int, default=20, metavar='N', help='how many questions test_find draws (left out: 20)')
     parser.addoption('--every-picture', action='store_true', help='draw all that test_plot_layout has (left out: some, at random)')
 
 
 def pytest_configure(config):
     config.addinivalue_line('markers', 'built: wants the built program, not the model in its place')
     config.addinivalue_line('markers', "wants(command='package', ..): wants these commands, of these packages of Debian's")
-    clone.STEPS = config.option.steps
     if config.option.program:
         clone.PROGRAM = os.path.abspath(config.option.program)
 

@@ -10,6 +10,7 @@ import shutil
 import subprocess
 import threading
 import time
+from collections.abc import Callable
 
 CHROMIUM = next((it for it in map(shutil.which, ('chromium', 'chromium-browser', 'google-chrome')) if it), None)
 FIREFOX = next((it for it in map(shutil.which, ('firefox-esr', 'firefox')) if it), None)
@@ -33,7 +34,8 @@ class Wire:
     @staticmethod
     async def _connect(address):
         import websockets
-        return await websockets.connect(address, max_size=None, open_timeout=START, ping_interval=None)
+        return await websockets.connect(  # type: ignore[attr-defined]     # which it imports when it is asked for
+            address, max_size=None, open_timeout=START, ping_interval=None)
 
     def _wait(self, task, seconds):
         return asyncio.run_coroutine_threadsafe(task, self._loop).result(seconds)
@@ -64,13 +66,16 @@ class Wire:
 
 
 class Browser:
-    """What both have in common: a process with a profile of its own, and the address that it says."""
+    """What both have in common: a process with a profile of its own, and the address that it says. Each has its `value`."""
+
+    value: Callable[..., str]
 
     def __init__(self, words, folder, said, environment=None):
         self.log = open(os.path.join(folder, 'browser.log'), 'w+', encoding='utf-8', errors='replace')
         self.process = subprocess.Popen(words, stdin=subprocess.DEVNULL, stdout=self.log, stderr=self.log,
                                         env={**os.environ, 'HOME': folder, **(environment or {})})
-        self.wire, until = None, time.monotonic() + START
+        self.wire: Wire | None = None
+        until = time.monotonic() + START
         while time.monotonic() < until:
             with open(self.log.name, encoding='utf-8', errors='replace') as file:
                 found = re.search(said + r' (ws://\S+)', file.read())
@@ -135,7 +140,8 @@ class Chromium(Browser):
         super().__init__([CHROMIUM, '--headless=new', '--no-sandbox', '--disable-gpu', '--remote-debugging-port=0', '--hide-scrollbars',
                           '--no-first-run', '--disable-dev-shm-usage', f'--user-data-dir={folder}/profile', *flags, 'about:blank'],
                          folder, 'DevTools listening on', environment)
-        self.wire, self.session = Wire(self.address), None
+        self.wire: Wire = Wire(self.address)
+        self.session = None
         target = self.call('Target.createTarget', url='about:blank')['targetId']
         self.session = self.call('Target.attachToTarget', targetId=target, flatten=True)['sessionId']
         self.call('Page.enable')
@@ -201,6 +207,26 @@ class Chromium(Browser):
         with open(path, 'wb') as file:
             file.write(base64.b64decode(self.call('Page.captureScreenshot', format='png')['data']))
 
+    def longest_task(self, script):
+        """What a script answers, and of the page's own thread the longest task meanwhile: its seconds, and those that it took of a processor."""
+        session, self.session = self.session, None
+        self.call('Tracing.start', traceConfig={'includedCategories': ['toplevel'], 'excludedCategories': ['*']}, transferMode='ReportEvents')
+        self.session = session
+        answer = self.json(script)
+        self.session = None
+        self.wire.events.clear()
+        self.call('Tracing.end')
+        seen: list[dict] = []
+        while not any(it['method'] == 'Tracing.tracingComplete' for it in seen):
+            self.call('Browser.getVersion')     # events come with the answer to a command
+            seen += self.wire.events
+            self.wire.events.clear()
+        self.session = session
+        events = [it for one in seen if one['method'] == 'Tracing.dataCollected' for it in one['params']['value']]
+        own = {(it['pid'], it['tid']) for it in events if it['name'] == 'thread_name' and it['args']['name'] == 'CrRendererMain'}
+        tasks = [it for it in events if it['ph'] == 'X' and it['name'].endswith('RunTask') and (it['pid'], it['tid']) in own]
+        return answer, max(it['dur'] for it in tasks) / 1e6, max(it.get('tdur', 0) for it in tasks) / 1e6
+
 
 class Firefox(Browser):
     """Headless Firefox, by WebDriver BiDi."""
@@ -215,7 +241,7 @@ class Firefox(Browser):
                 file.write(f'user_pref({json.dumps(name)}, {json.dumps(value)});\n')
         super().__init__([FIREFOX, '--headless', '--no-remote', '--profile', profile, '--remote-debugging-port=0', 'about:blank'],
                          folder, 'WebDriver BiDi listening on', {'MOZ_DISABLE_CONTENT_SANDBOX': '1'})
-        self.wire = Wire(self.address + '/session')
+        self.wire: Wire = Wire(self.address + '/session')
         self.call('session.new', capabilities={'alwaysMatch': {'unhandledPromptBehavior': {'beforeUnload': 'accept'}}})
         self.context = self.call('browsingContext.getTree')['contexts'][0]['context']
         if before:

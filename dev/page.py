@@ -29,7 +29,7 @@ from tcpsim.scenario import units
 
 WEB = os.path.join(TOP, 'page', 'web')
 SCRIPTS = ('engine.js', 'scenario.js', 'units.js', 'shapes.js', 'hints.js', 'editor.js', 'drag.js', 'fairness.js', 'figures.js', 'stall_list.js', 'trace_list.js', 'completion.js', 'prompt.js', 'lessons.js',
-           'net_text.js', 'template_form.js', 'parting.js', 'compare.js', 'share.js', 'picture.js', 'save.js', 'lecture.js',
+           'net_text.js', 'template_form.js', 'parting.js', 'compare.js', 'spread.js', 'shelf_text.js', 'strips.js', 'strip_chart.js', 'shelf.js', 'share.js', 'picture.js', 'save.js', 'lecture.js',
            'panes.js', 'simulator.js')
 EXAMPLES = os.path.join(TOP, 'examples')
 GRAMMAR = os.path.join(TOP, 'editors', 'vscode', 'syntaxes', 'tcpsim.tmLanguage.json')
@@ -83,7 +83,7 @@ def data_of(program, record, lessons):
     yield held('grammar', replay.for_script(json.loads(read(GRAMMAR))), 'application/json')
     yield held('examples', replay.for_script({name: text for name, (text, _) in ones.items()}), 'application/json')
     # In a form an option is a field.
-    helps = {name.lstrip('-').replace('-', '_'): re.sub(r'--(\w)', r'\1', facts['help']) for name, facts in net.OPTIONS.items()}
+    helps = {name.lstrip('-').replace('-', '_'): re.sub(r'--(\w)', r'\1', str(facts['help'])) for name, facts in net.OPTIONS.items()}
     yield held('templates', replay.for_script({'ranges': units.RANGES, 'help': helps}), 'application/json')
     yield held('lessons', replay.for_script([it.facts() for it in lessons]), 'application/json')
     yield held('licenses', replay.for_script([read(it) for it in LICENSES]), 'application/json')
@@ -115,7 +115,7 @@ def page(program, record):
 
 
 # The pictures of docs/PAGE.md: the reader's scheme, width and height, the lesson, its event, and what is done then.
-PICTURES = {'page': ('light', 1400, 900, 17, 1657, ''), 'page_dark': ('dark', 1400, 900, 10, 5000, ''),
+PICTURES = {'page': ('light', 1400, 900, 17, 1657, ''), 'page_dark': ('dark', 1400, 900, 10, 5000, ''), 'page_shelf': ('light', 1400, 900, 9, 1400, ''),
             'page_lecture': ('light', 1024, 768, 17, 1657, 'simulator.lecture.begin()')}
 
 
@@ -131,7 +131,7 @@ def draw(path, folder):
                 browser.open(f'file://{os.path.abspath(path)}')
                 browser.wait('document.documentElement.dataset.ready')
                 browser.value(f'simulator.openLesson({lesson})')
-                browser.value('simulator.start()')
+                browser.wait('window.page && document.getElementById("stop").disabled && (!simulator.shelf.shown || document.getElementById("shelf").dataset.counting === "0")')
                 browser.value(f'simulator.goTo({event}); {does}')
                 browser.wait('[...document.images].every(it => it.complete)')
                 browser.value('new Promise(done => setTimeout(done, 500))')

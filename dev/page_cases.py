@@ -1,5 +1,5 @@
 """What the program is asked natively and in the page, for dev/test_page.py: words, standard input and a file each. Inputs
-come from the examples, docs/FORMATS.md, the rows of dev/whole and the draws of dev/compare.py.
+come from the examples, docs/FORMATS.md and docs/COMMANDS.md, the rows of dev/whole and the draws of dev/compare.py.
 """
 import argparse
 import hashlib
@@ -73,7 +73,7 @@ def of_formats():
     """Each refusal of the table of docs/FORMATS.md with the notes that stand there: (case, note)."""
     page = read('docs', 'FORMATS.md').decode()
     part = page.partition('### Refusals')[2].partition('### Canonical text')[0]
-    right = re.search(r'^```\n(.*?)^```', part, re.M | re.S).group(1).splitlines()
+    right = re.findall(r'^```\n(.*?)^```', part, re.M | re.S)[0].splitlines()
     changed = {'E1': [{1: 'sim 5\r'}], 'E9': [dict(enumerate((f'lose a {k}' for k in range(1, 66)), 12))],
                'L3': [{1: 'sim 1', 9: right[8].replace(' 1 0 64000', ' 1 1 64000')}],
                'L8': [{4: f'{right[3]}\nnode q router', 8: right[7] + '\nlink e p q 8000000 1000000 droptail 10\nlink g q p 8000000 1000000 droptail 10',
@@ -99,15 +99,13 @@ def of_refusals():
                 yield Case(words, case.input)
     for place, digits, _ in CHANGED:
         for base in (FIRST_IMAGE, IN_VERSION_1):
-            data = bytearray(base)
             new = bytes.fromhex(digits)
-            data[place:place + len(new)] = new
-            yield Case(('dis', '--explain'), bytes(data))
+            yield Case(('dis', '--explain'), base[:place] + new + base[place + len(new):])
     for size in range(len(FIRST_IMAGE) + 1):
         yield Case(('run', '--explain'), FIRST_IMAGE[:size])
     for data in (FIRST_IMAGE, IN_VERSION_1):
         yield from (Case((word,), data) for word in ('run', 'figures', 'asm', 'dis'))
-    page = read('docs', 'FORMATS.md').decode()
+    page = read('docs', 'COMMANDS.md').decode()
     for code, example in re.findall(r'^\| `refused (B\d)` \|.*\| ([^|]*) \|$', page, re.M):
         lines = re.findall(r'`([^`]*)`', example)
         if code == 'B4':
@@ -119,11 +117,10 @@ def of_refusals():
 
 def drawn(count, seed=1):
     """So many drawn cases: runs most of all, and texts, images, figures, sessions and prompts."""
-    args = argparse.Namespace(count=count, options=True, systematic=False, random=True, steps=compare.prompt.BUILT)
+    args = argparse.Namespace(count=count, options=True, systematic=False, random=True)
     shares = {'runs': 10, 'figures': 4, 'images': 2, 'texts': 2, 'debug': 1, 'prompt': 1}
     for kind, share in shares.items():
         pick = random.Random(f'page {kind} {seed}')
         for words, data in itertools.islice(compare.KINDS[kind](pick, args), count * share // sum(shares.values())):
-            words = tuple(word for word in words if not word.startswith(compare.STEPS))
             scenario, keys = compare.parts_of(words, data)
             yield Case(words, keys, scenario if FILE in words else None)

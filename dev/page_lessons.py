@@ -14,7 +14,9 @@ TUTORIAL = os.path.join(TOP, 'docs', 'TUTORIAL.md')
 IN_THE_PAGE = re.compile(r'^In \[the page\]\(PAGE\.md\): .*\n', re.M)
 # Which panels carry a lesson, the first before all, each with the flows or links that it is about: `<!-- panels: delays a, sequence g -->`.
 PANELS = re.compile(r'^<!-- panels: (.*) -->\n', re.M)
-LINES = re.compile(r'\b([Ll]ines?) (\d+(?:(?:, and |, | and | to )\d+)*)(?![\d.])')
+# Which numbers are on a lesson's shelf, over which ranges, and the figure of their strips: `<!-- shelf: a.capacity=1..100; used a; both -->`.
+SHELF = re.compile(r'^<!-- shelf: (.*) -->\n', re.M)
+LINES = re.compile(r'\b([Ll]ines?) (\d+(?:(?:, and |, | and | to )\d+)*)(?!\d|\.\d)')
 
 
 class Lesson:
@@ -28,7 +30,9 @@ class Lesson:
         self.pictures = []
         panels = PANELS.search(text)
         self.panels = [one.split() for one in panels[1].split(',')] if panels else []
-        self.text = self._html(PANELS.sub('', text))
+        shelf = SHELF.search(text)
+        self.shelf = shelf[1] if shelf else ''
+        self.text = self._html(SHELF.sub('', PANELS.sub('', text)))
 
     def _html(self, text):
         try:
@@ -52,11 +56,12 @@ class Lesson:
     def _lines(found):
         if found.group(1):
             return found.group(1)
-        return f'{found.group(2)} ' + re.sub(r'\d+', lambda one: f'<span data-line="{one.group()}">{one.group()}</span>', found.group(3))
+        word = found.group(2)       # beside an editor whose lines have numbers too
+        return f'{"Trace" if word[0] == "L" else "trace"} {word.lower()} ' + re.sub(r'\d+', r'<span data-line="\g<0>">\g<0></span>', found.group(3))
 
     def facts(self):
         """What the page's script has to know of it."""
-        return {'number': self.number, 'title': self.title, 'examples': self.examples, 'panels': self.panels}
+        return {'number': self.number, 'title': self.title, 'examples': self.examples, 'panels': self.panels, 'shelf': self.shelf}
 
     def template(self):
         """Its text, for the page to copy."""

@@ -6,7 +6,7 @@ from tcpsim.command_line import Wrong
 
 TIMES = '1ms', '20ms', '40ms', '80ms', '0.5s', '100us', '33.333ms', '7ns', '1s', '10s', '123456789ns'
 RATES = '10M', '1.5M', '800k', '1G', '1000', '123456', '100M', '1.000001M', '1000G', '10Mbit', '2.5Mbit/s', '64000bit'
-QUEUES = 'droptail:50', 'droptail:1', 'droptail:BDP', 'codel:5ms:100ms', 'codel:5ms:100ms:77', 'codel:1ms:20ms:200:1540', 'droptail:65535'
+QUEUES = 'droptail:50', 'droptail:1', 'droptail:BDP', 'droptail:0.5BDP', 'droptail:2BDP/sqrt(n)', 'droptail:BDP/sqrt(n)', 'codel:5ms:100ms', 'codel:5ms:100ms:77', 'codel:1ms:20ms:200:1540', 'droptail:65535'
 SEGMENTS = '1', '20', '700', '1000000000'
 WRONG = {'rate': ('10', 'fast', '10MB', '1.23456k', '2000G', '10Mbps', '10bit'), 'rtt': ('40', '11s', '1.5ns', '0', '4ns'), 'delay': ('0', '20', '11s'),
          'queue': ('red:5', 'droptail:', 'droptail:0', 'codel:5ms', 'codel:5ms:0', 'droptail:65536', 'codel:5ms:100ms:10:70000'),

@@ -1,6 +1,7 @@
 """How the tests of the page with the simulator use it, as a person would: elements by their CSS, choosing, running, writing, and
 pictures of what is seen.
 """
+import contextlib
 import json
 import os
 
@@ -50,15 +51,27 @@ def pick(browser, css, value):
 
 
 def choose(browser, value):
-    """Opens a lesson or an example."""
+    """Opens a lesson or an example, which runs at once; waits until it has run, and lets it move no more."""
+    before = browser.value('document.documentElement.dataset.run || 0')
     pick(browser, '#choose', value)
-    browser.wait('document.documentElement.dataset.judged === "0"')
+    browser.wait(f'document.documentElement.dataset.judged === "0" && (document.documentElement.dataset.run || 0) != {before}')
+    browser.value('window.page && page.play(false)')
 
 
 def write(browser, css, text):
     """Types a text into a field."""
     browser.click(element(css))
     browser.type(text)
+
+
+@contextlib.contextmanager
+def dialog(browser, button, close):
+    """A dialog, from when it is seen, which for `share` is once its address is made, until it is left."""
+    browser.click(element(f'#{button}'))
+    browser.wait('!!document.querySelector("dialog[open]")')
+    yield
+    browser.click(element(close))
+    browser.wait('!document.querySelector("dialog[open]")')
 
 
 def at_prompt(browser, command):

@@ -29,7 +29,7 @@ from tcpsim import VERSIONS
 from tcpsim.command_line import Refused
 from tcpsim.replay.page import about
 from tcpsim.scenario.text import Scenario
-from tcpsim.stalls import stalls_of
+from tcpsim.stalls import stalls_of, walk_of
 
 pytest_plugins = 'page_fixtures'
 DRAWN = 2000            # cases
@@ -313,6 +313,7 @@ def figures_of(browser, text):
     browser.value(f'simulator.openText({json.dumps(text)}, "own")')
     browser.value('simulator.start()')
     browser.wait('document.getElementById("said").textContent.startsWith("done in")')
+    browser.value('simulator.showTab("figures")')
     tables = browser.json('[...document.querySelectorAll("#figures-table table")].map(table => [...table.rows].map(row => [...row.cells].map(cell => cell.textContent)))')
     return browser.json('[...document.querySelectorAll(".says li")].map(it => it.textContent)'), tables
 
@@ -354,7 +355,7 @@ def test_jain_compares_the_flows_that_can_fill_their_share(browser):
     index = re.fullmatch(r"Jain's index of goodput: (0\.\d{4}|1\.0000), of 2 of 4 flows \(without 1 mice, 1 that ended\)\.", said[1])
     assert index and float(index.group(1)) > .9, said
     said, _ = figures_of(browser, page_cases.read('examples', 'bufferbloat.txt').decode())
-    assert said[1] == "Jain's index of goodput: -, of none of 2 flows (without 2 that ended)."
+    assert said[1] == "Jain's index of goodput: -, as none of 2 flows is compared (2 that ended)."
 
 
 def test_a_run_that_is_too_short_says_so(browser):
@@ -365,7 +366,7 @@ def test_a_run_that_is_too_short_says_so(browser):
 
 
 def test_stalls_have_the_causes_of_tcpsim_stalls(browser):
-    """Of every example: each stall that the net has, the longest first, with its cause; a click goes there."""
+    """Of every example: each of its stalls, the longest first, with its cause; a click goes there."""
     compared = 0
     for name in browser.json('Object.keys(simulator.examples)'):
         text, trace = (page_cases.read('examples', f'{name}.{ending}').decode() for ending in ('txt', 'trace'))
@@ -377,6 +378,7 @@ def test_stalls_have_the_causes_of_tcpsim_stalls(browser):
         told = browser.json("""[...document.querySelectorAll('#stall-list tbody tr')].map(({cells}, k) => [page.facts.flows[simulator.stalls.stalls[k].flow].name,
           simulator.stalls.stalls[k].from, simulator.stalls.stalls[k].to, cells[3].textContent, cells[4].textContent])""")
         assert told == sorted(told, key=lambda row: row[1] - row[2])
+        assert {(flow, begin, end) for flow, begin, end, *_ in told} == set(causes), name
         for flow, begin, end, cause, found in told:
             # Whether a timer had doubled the page does not ask.
             assert {'the timer had doubled': 'an acknowledgement was lost'}.get(causes[flow, begin, end], causes[flow, begin, end]) == cause, (name, flow, begin)
@@ -391,6 +393,34 @@ def test_stalls_have_the_causes_of_tcpsim_stalls(browser):
     browser.click(element('#stall-list tbody button'))
     assert browser.json('[page.record.at === simulator.stalls.stalls[0].event, document.getElementById("run-side").dataset.view]') == [True, 'net']
     assert 'fa: no new acknowledgement for 1.35' in text_of(browser, '#notice')
+
+
+# A NewReno sender whose timer ends while partial acknowledgements come, and one whose first round trip is longer than its timer.
+OTHERS = ['sim 4000000000', 'node s sender', 'node r receiver', 'link a s r 8000000 90000000 droptail 20', 'link b r s 8000000 90000000 droptail 20',
+          'flow f s r 1000 12 0 64000 0 newreno iw10', *(f'lose a {number}' for number in range(1, 9)), '']
+FIRST = [*(line.replace('90000000', '550000000') for line in OTHERS[:5]), 'flow f s r 1000 1 0 64000 0', '']
+
+
+@pytest.mark.parametrize('lines, said', [
+    (OTHERS, 'f at 1.543240000 s'), ([line.replace('newreno', 'reno') for line in OTHERS], None), (FIRST, None)])
+def test_each_timeout_is_in_a_stall_or_named(browser, lines, said):
+    """As tcpsim-stalls has it. A press on its moment goes there."""
+    text = '\n'.join(lines)
+    trace = subprocess.run([page_cases.PROGRAM, 'run'], input=text, text=True, capture_output=True, check=True).stdout
+    walk = walk_of(Scenario(text), iter(trace.splitlines()))
+    assert ([f'{flow} at {time / 1e9:.9f} s' for flow, time in walk.others] or [None]) == [said]
+    browser.value(f'simulator.openText({json.dumps(text)}, "timeouts")')
+    browser.wait('document.documentElement.dataset.judged === "0"')
+    run(browser)
+    browser.click(element('[data-tab=stalls]'))
+    browser.wait('!!document.querySelector("#stall-list table")')
+    assert browser.value('document.querySelectorAll("#stall-list tbody tr").length') == len(walk.rows)
+    told = browser.json('[...document.querySelectorAll("#stall-list p")].map(it => it.textContent)')[1:]
+    assert [it.split(': ')[1].split('. A ')[0] for it in told] == ([said] if said else []), told
+    if said:
+        browser.click('document.querySelector("#stall-list p button")')
+        assert browser.json('[page.record.timeOf(page.record.at), page.record.line(page.record.at).split(" ")[5]]') == [1543240000, 'rto']
+        assert text_of(browser, '#notice') == 'f: the retransmission timer ends'
 
 
 def test_where_the_time_went_has_a_tab(browser):
@@ -533,16 +563,15 @@ def long_net():
 
 
 def test_a_lesson_that_is_chosen_ends_the_run_before(browser):
-    """What was run is not shown over the other scenario, and the run can be begun at once."""
+    """What was run is not shown over the other scenario, which runs at once."""
     browser.value(f'simulator.openText({json.dumps(long_net())}, "long")')
     browser.wait('document.documentElement.dataset.judged === "0"')
     browser.value('(window.done = simulator.start()) && 1')
     browser.wait('simulator.run.record && simulator.run.record.count > 500')
     choose(browser, 'lesson 1')
-    assert browser.json('[document.getElementById("stop").disabled, document.getElementById("run").disabled, !!page]') == [True, False, False]
-    assert text_of(browser, '#said') == ''
     browser.value('window.done')
-    assert not browser.value('!!page') and text_of(browser, '#said') == ''
+    assert browser.json('[document.getElementById("stop").disabled, document.getElementById("run").disabled, page.record.count, simulator.run.title]') == [True, False, 5, 'one_segment']
+    assert text_of(browser, '#said').startswith('done in')
     assert run(browser).startswith('done in') and browser.value('page.record.count') == 5
 
 
@@ -555,7 +584,7 @@ def test_long_runs_are_asked_about(browser):
         assert 'more than 1,000 events' in text_of(browser, '#ask-text')
         look(browser, 'asked')
         browser.click(element('#ask-figures'))
-        browser.wait('document.getElementById("said").textContent.startsWith("figures alone, in")')
+        browser.wait('document.getElementById("said").textContent.startsWith("the table only, in")')
         assert browser.value('!page && document.querySelectorAll("#figures-table table").length >= 5')
         browser.click(element('#run'))
         browser.wait('document.getElementById("ask").open')
@@ -611,6 +640,7 @@ ENDED_AT = """async k => {
   engine.start = start;
   const {record} = page, {facts, last} = record;
   page.goEvent(last);
+  simulator.showTab('figures');
   save.give = name => { saved = name; };
   document.getElementById('save-trace').click();
   save.give = give;
@@ -631,7 +661,7 @@ def test_a_part_of_a_run_is_never_shown_as_the_whole(browser):
     for k in range(pieces):
         told = browser.json(f'({ENDED_AT})({k})')
         assert told['line'] == lines[told['last'] - 1], k
-        assert told['words'].startswith('tcpsim debug: step') and told['figures'] in (figures, [True, 0])
+        assert told['words'].startswith('In the debugger step') and told['figures'] in (figures, [True, 0])
         if k == pieces - 1:         # all was read by then
             assert told['whole'] and told['last'] == len(lines) - 1 and told['saved'] == 'two_flows_share_fairly.trace'
             continue
@@ -690,19 +720,25 @@ def test_a_browser_without_64_bit_memory(made, tmp_path):
         said = text_of(browser, '#said')
         assert 'version 133' in said and 'version 134' in said
         browser.value('(() => { const e = document.querySelector("#choose"); e.value = "lesson 10"; e.dispatchEvent(new Event("change")); })()')
-        browser.wait('window.page.record.count === 8583')
+        browser.wait('window.page && window.page.record.count === 8583')
         assert browser.value('document.getElementById("run").disabled')
     finally:
         browser.close()
 
 
 def test_on_a_phone(chromium):
-    """390 pixels wide: nothing leaves the page to the side, and a lesson can be run."""
+    """390 pixels wide: nothing leaves the page to the side. A lesson that is begun is seen with the net, the clock and the first panel's
+    axis of time; the clock stays while the run scrolls."""
     chromium.size(390, 844, mobile=True)
     try:
-        choose(chromium, 'lesson 3')
-        assert run(chromium).startswith('done in')
-        assert chromium.value('document.getElementById("runs").getBoundingClientRect().top') < 100
+        for number in (3, 10, 13):
+            choose(chromium, f'lesson {number}')
+            assert run(chromium).startswith('done in')
+            seen = chromium.json('["#lesson h2", "#replay header", "#where", "#net", "#charts .axis"].map(css => document.querySelector(css).getBoundingClientRect()).map(box => [box.top, box.bottom])')
+            seen.append(chromium.json('[...document.querySelector("#charts > div:not([hidden])").querySelectorAll(".axis")].map(e => e.getBoundingClientRect()).map(box => [box.top, box.bottom])')[0])
+            assert all(-1 <= top < bottom <= 845 for top, bottom in seen), (number, seen)
+            chromium.value('document.getElementById("below").scrollIntoView()')
+            assert chromium.value('document.querySelector("#replay header").getBoundingClientRect().top') == 0
         for tab in ('net', 'figures', 'trace', 'debug'):
             chromium.click(element(f'[data-tab={tab}]'))
             wide = chromium.json('[document.documentElement.scrollWidth, innerWidth]')

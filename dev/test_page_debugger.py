@@ -10,7 +10,11 @@ import pytest
 
 sys.path.insert(0, os.path.dirname(os.path.abspath(__file__)))
 import page_templates
+from clone import TOP
 from page_use import at_prompt, choose, element, look, run, text_of, write
+from tcpsim.breakdown import Breakdown
+from tcpsim.critical_path import critical_paths
+from tcpsim.whole_trace import opened_run
 
 pytest_plugins = 'page_fixtures'
 LINES = ['step 5', 'why 0', 'break drop', 'run', 'where', 'goto 30', 'state', 'back 2', 'lines 4', 'stpe', 'reverse', 'until 1s', '', 'breaks', 'help why', 'step', 'state flow 0',
@@ -123,7 +127,7 @@ def test_history_and_completion(at_debugger):
     browser.wait('document.querySelector("#debugger pre").textContent.includes("display 1: flight f = ")')
     # Each name of the help is offered, and the key leads on where there is nothing to take.
     names = browser.json('simulator.prompt.completion.names')
-    assert {'step', 'back', 'run', 'reverse', 'until', 'goto', 'where', 'state', 'break', 'breaks', 'delete', 'clear', 'lines', 'display', 'undisplay', 'why', 'stalls',
+    assert {'step', 'back', 'run', 'reverse', 'until', 'goto', 'where', 'state', 'break', 'breaks', 'delete', 'clear', 'lines', 'display', 'undisplay', 'why', 'time', 'stalls',
             'names', 'help', 'quit'} == {*names}
     assert browser.json('simulator.prompt.completion.topics') == ['numbers', 'trace', 'kinds', 'stall', 'values']
     assert browser.json('simulator.prompt.completion.kinds') == ['start', 'rto', 'delack', 'free', 'data', 'ack']
@@ -173,3 +177,26 @@ def test_a_long_session_is_kept_by_a_worker(browser):
     at_prompt(browser, 'quit')
     assert not browser.value('!!simulator.prompt.kept')
     assert 'at 1 of the run' in at_prompt(browser, 'step')
+
+
+def rows_of(answer):
+    """The rows of an answer behind its line, with one blank between words."""
+    return [' '.join(line.split()) for line in answer.strip('\n').split('\n')[1:]]
+
+
+@pytest.mark.parametrize('name', ['bufferbloat', 'two_timeouts_in_a_row', 'delayed_acks_and_their_alarm'])
+def test_time_is_answered_as_by_the_tool(browser, name):
+    """`time F` has the parts of tcpsim-time, `time` a row for each flow, and the list of help names it."""
+    choose(browser, f'example {name}')
+    assert run(browser).startswith('done in')
+    browser.click(element('[data-tab=debug]'))
+    with opened_run(*(f'{TOP}/examples/{name}{ending}' for ending in ('.txt', '.trace'))) as (scenario, lines):
+        walk = critical_paths(scenario, lines, range(len(scenario.flows)))
+    rows = rows_of(at_prompt(browser, 'time'))
+    for number, flow in enumerate(scenario.flows):
+        found = Breakdown(walk, number)
+        table = [' '.join(row) for row in found.table()]
+        assert rows_of(at_prompt(browser, f'time {flow.name}')) == rows_of(at_prompt(browser, f'time {number}')) == table
+        assert rows[1 + number] == ' '.join((flow.name, found.table()[-1][0], *found.table()[1][1:]))
+    assert 'there is no flow nobody' in at_prompt(browser, 'time nobody')
+    assert '\ntime [F]' in at_prompt(browser, 'help') and 'where the time of flow F went' in at_prompt(browser, 'help time')

@@ -6,6 +6,7 @@ import json
 import os
 import subprocess
 import sys
+import time
 
 import pytest
 
@@ -29,6 +30,7 @@ PLACE = '''(([begin, k]) => {
 })'''
 STATE = '''[simulator.run.text, simulator.run.csv, page ? page.record.count : 0, +(document.documentElement.dataset.explored || 0),
   document.querySelectorAll('#charts path[stroke-dasharray="5 4"]').length]'''
+LEFT = 60               # seconds in which the workers of a page are gone that was left
 EXPLORED = 'document.documentElement.dataset.explored || 0'
 
 
@@ -108,7 +110,9 @@ def test_a_slide_through_a_range(browser):
         assert browser.value('simulator.editor.text') == with_word(text, begin, 7, value)
         assert is_shown(browser, with_word(text, begin, 7, value)), step
         assert f'queue {value} packet' in text_of(browser, '#said')
-    assert browser.json(STATE)[4] > 0          # the curves before
+    assert browser.json(STATE)[4] > 0          # the curves before, whole
+    below = browser.json('Object.values(page.panels.charts).flatMap(({curves, lanes}) => [...curves.node().querySelectorAll("path[stroke-dasharray=\\"5 4\\"]")].map(e => e.getBBox().y - lanes[0].from))')
+    assert len(below) >= 2 and min(below) > .5, below
     look(browser, 'dragged')
     browser.mouse('moved', x - 4 * (first + 50), y)
     browser.wait('simulator.editor.text.includes(" droptail 1\\n") && !simulator.exploring')
@@ -121,6 +125,32 @@ def test_a_slide_through_a_range(browser):
     assert browser.value('simulator.editor.text') == text
     browser.wait(f'({EXPLORED}) !== {json.dumps(before)} && !simulator.exploring')
     assert is_shown(browser, text)
+    assert f'queue {first} packet' in text_of(browser, '#said')
+
+
+def test_the_handle_hides_nothing(browser):
+    """Its grip lies between two lines; a press alone puts the cursor into the text below, and moves no number."""
+    browser.size(1400, 900)
+    choose(browser, 'example bufferbloat')
+    assert run(browser).startswith('done in')
+    text = browser.value('simulator.editor.text')
+    x, y, line, ch = place_of(browser, 'link a ', 5)
+    browser.mouse('moved', x - 1, y)
+    browser.mouse('moved', x, y)
+    browser.wait('!document.getElementById("handle").hidden')
+    grip, ground, high = browser.json('(e => [getComputedStyle(e, "::before").height, getComputedStyle(e).backgroundColor, e.getBoundingClientRect().height])(document.getElementById("handle"))')
+    assert float(grip[:-2]) <= 6 and ground == 'rgba(0, 0, 0, 0)' and high >= 24
+    x, y = browser.middle(element('#handle'))
+    browser.mouse('moved', x, y + 6)
+    browser.mouse('pressed', x, y + 6)
+    browser.mouse('released', x, y + 6)
+    assert browser.value('simulator.editor.text') == text
+    cursor = browser.json('simulator.editor.box.getCursor()')
+    assert cursor['line'] in (line, line + 1) and browser.value('simulator.editor.box.hasFocus()')
+    # A second press pins it.
+    assert not browser.value('document.getElementById("handle").hidden')
+    browser.value('document.getElementById("handle").dispatchEvent(new MouseEvent("dblclick"))')
+    assert text_of(browser, '#shelf .pin output') == 'a delay 18 ms'
 
 
 def test_by_the_keyboard_alone(browser):
@@ -170,7 +200,7 @@ def test_of_a_long_run_the_figures_come_first(browser):
         moved(browser, x + 4 * step + 1, y)
         shown, csv, *_ = browser.json(STATE)
         assert (shown, csv) == (with_word(text, 'link pq ', 7, 50 + step), figures(shown))
-        assert text_of(browser, '#said').endswith(f'queue {50 + step} packets: figures alone, until the hand rests')
+        assert text_of(browser, '#said').endswith(f'queue {50 + step} packets: figures only, until the hand rests')
     before = browser.value('document.documentElement.dataset.run')
     browser.mouse('released', x + 21, y)
     browser.wait(f'document.documentElement.dataset.run !== {json.dumps(before)}')
@@ -219,29 +249,37 @@ def test_what_is_refused_is_said_and_the_page_goes_on(browser):
     assert is_shown(browser, browser.value('simulator.editor.text'))
 
 
-def test_a_page_that_is_left_leaves_no_worker(made, tmp_path):
-    """In the midst of a long run, while a hand moves."""
+@pytest.mark.parametrize('how', ['left', 'closed'])
+def test_a_page_that_is_left_leaves_no_worker(made, tmp_path, how):
+    """In the midst of a long run, while a hand moves and strips are counted."""
     wanted(browsers.CHROMIUM, 'no Chromium: apt-get install chromium')
     browser = browsers.Chromium(str(tmp_path))
 
-    def workers():
+    def in_browser(method, **given):
         session, browser.session = browser.session, None
         try:
-            return [it for it in browser.call('Target.getTargets')['targetInfos'] if it['type'] == 'worker']
+            return browser.call(method, **given)
         finally:
             browser.session = session
+
+    def workers():
+        return [it for it in in_browser('Target.getTargets')['targetInfos'] if it['type'] == 'worker']
     try:
         browser.open(f'file://{made[0]}')
         browser.wait('document.documentElement.dataset.ready')
         opened(browser, dumbbell('--flows', '10', '--rate', '1G', '--rtt', '10ms', '--queue', 'droptail:100', '--end', '1000s'))
         _, _, line, ch = place_of(browser, 'link pq ', 7)
-        browser.value(f'simulator.editor.box.setCursor({line}, {ch}); simulator.drag.key(1)')
-        assert len(workers()) >= 2
-        browser.call('Page.navigate', url='about:blank')
-        for _ in range(50):
-            if not workers():
-                break
-            browser.value('new Promise(done => setTimeout(done, 200))')
+        browser.value('simulator.shelf.open("pq.capacity=10..400; spread=1..4")')
+        browser.wait('simulator.shelf.running.size > 0')
+        browser.value(f'simulator.editor.box.setCursor({{line: {line}, ch: {ch}}}); simulator.drag.key(1)')
+        assert len(workers()) >= 3
+        if how == 'left':
+            browser.call('Page.navigate', url='about:blank')
+        else:
+            in_browser('Target.closeTarget', targetId=browser.call('Target.getTargetInfo')['targetInfo']['targetId'])
+        until = time.monotonic() + LEFT
+        while workers() and time.monotonic() < until:
+            time.sleep(.2)
         assert workers() == []
     finally:
         browser.close()

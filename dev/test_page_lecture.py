@@ -77,7 +77,7 @@ def test_a_lecture_by_keys(calm):
     assert browser.value('simulator.lessons.now.number') == 4
     assert browser.value('document.documentElement.classList.contains("lecture") && page.record.count') > 10
     press(browser, 'PageUp')
-    browser.wait('simulator.lessons.now.number === 3')
+    browser.wait('simulator.lessons.now.number === 3 && window.page')
     press(browser, 'd')
     browser.wait('page.record.at === page.record.drops[0].event')
     press(browser, 'Escape')
@@ -299,6 +299,36 @@ def test_words_stand_out_and_no_colour_stands_alone(chromium):
     chromium.call('Emulation.setEmulatedVisionDeficiency', type='achromatopsia')
     look(chromium, 'grey')
     chromium.call('Emulation.setEmulatedVisionDeficiency', type='none')
+
+
+# What lies over each other of the parts of a lecture that are seen, and parts of the time that are cut.
+MEET = '''(() => {
+  const ones = ['notice', 'net-room', 'panel-bar', 'charts', 'went', 'where'].map(id => [id, document.getElementById(id)]).filter(([, e]) => e.checkVisibility()).map(([id, e]) => [id, e.getBoundingClientRect()]);
+  const cut = [...document.querySelectorAll('.went .parts button')].filter(e => e.checkVisibility({visibilityProperty: true}) && e.getBoundingClientRect().bottom > innerHeight + 1).map(e => e.textContent);
+  return [ones.flatMap(([one, a], k) => ones.slice(k + 1).filter(([, b]) => a.left + 1 < b.right && b.left + 1 < a.right && a.top + 1 < b.bottom && b.top + 1 < a.bottom).map(([two]) => [one, two])), cut,
+    document.querySelectorAll('.went .parts button').length];
+})()'''
+
+
+@pytest.mark.parametrize('size', [(1024, 768), (1280, 720), (1400, 900)])
+def test_a_lecture_hides_nothing_behind_what_it_says(calm, size):
+    """Its note lies over nothing and names nothing that a lecture lacks; of a flow's time no part is cut."""
+    browser = calm
+    browser.size(*size)
+    choose(browser, 'lesson 10')
+    run(browser)
+    browser.value('simulator.lecture.begin()')
+    browser.wait(f'document.getElementById("net-room").clientWidth > {size[0] - 50}')
+    browser.value('document.activeElement.blur()')
+    press(browser, 's')
+    said = text_of(browser, '#notice')
+    assert said.startswith('g: no new acknowledgement') and 'tab' not in said and '(w says why)' in said
+    assert browser.json(MEET)[0] == []
+    press(browser, 'w', 't')
+    look(browser, f'lecture_time_{size[0]}')
+    meets, cut, parts = browser.json(MEET)
+    assert meets == [] and cut == [] and parts > 5
+    assert browser.value('[...document.querySelectorAll(".went .parts button")].filter(e => e.checkVisibility({visibilityProperty: true})).length') >= 3
 
 
 # Every letter that is seen of a document's net, its size as it is drawn, and those that lie over each other, over a node, or outside.
@@ -536,17 +566,30 @@ def test_a_lecture_says_why_there_is_no_run(calm):
     browser.value('simulator.lecture.leave()')
     browser.value('simulator.editor.text = "sim 0\\n"')
     browser.press('l')
+    browser.wait('document.documentElement.classList.contains("lecture")')
     browser.wait('document.getElementById("said").textContent.startsWith("refused E5 line 1")')
     seen = '["said", "compare-said"].map(id => document.getElementById(id)).map(e => e.checkVisibility() && parseFloat(getComputedStyle(e).fontSize))'
-    assert browser.json(seen)[0] >= LEAST
+    browser.wait(f'({seen})[0] >= {LEAST}')
     look(browser, 'lecture_refused')
     browser.press('c')
     browser.wait('document.getElementById("compare-said").textContent.includes("refused E5 line 1")')
-    found = browser.json(seen)
-    assert found[0] is False and found[1] >= LEAST
+    browser.wait(f'(([one, two]) => one === false && two >= {LEAST})({seen})')
     look(browser, 'lecture_refused_both')
     begin_lecture(browser, 'example one_segment')
     assert browser.json(seen) == [False, False]
+
+
+def test_a_lecture_that_is_begun_anew_at_once_stays(calm):
+    """What the browser says late of the window that was whole before does not end it."""
+    browser = calm
+    begin_lecture(browser, 'example one_segment')
+    for _ in range(6):
+        browser.press('l')
+        browser.press('l')
+        browser.value('new Promise(done => setTimeout(done, 300))')
+        assert browser.value('simulator.lecture.on')
+    browser.press('l')
+    browser.wait('!simulator.lecture.on && !document.fullscreenElement')
 
 
 # ---- five lessons

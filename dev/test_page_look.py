@@ -5,19 +5,24 @@ python3 -m pytest dev/test_page_look.py. In light and dark, at 1400, 1024 and 39
 import json
 import os
 import re
+import subprocess
 import sys
 
 import pytest
 
 sys.path.insert(0, os.path.dirname(os.path.abspath(__file__)))
 import browsers
+import page_cases
 import page_lessons
-from page_use import at_prompt, choose, element, look, run, text_of, wanted, write
+from clone import TOP
+from page_use import at_prompt, choose, dialog, element, look, pick, run, text_of, wanted, write
 from tcpsim import looks
 
 pytest_plugins = 'page_fixtures'
 SIZES = {1400: 900, 1024: 768, 390: 844}
 TABS = 'net', 'figures', 'stalls', 'trace', 'debug', 'compare'
+# What opens each dialog, and what leaves it.
+DIALOGS = ('template-open', '#template-dialog .leave'), ('save-open', '#save-close'), ('share-open', '#share-close'), ('about-open', '#about-close')
 # Of each text that is seen: its words, its size as it is drawn, and the contrast of its letters with what lies behind them.
 TEXTS = '''(() => {
   const parse = text => { const found = text.match(/[\\d.]+/g).map(Number); return text.startsWith('color(') ? found.map(part => part * 255) : found; };
@@ -70,10 +75,10 @@ def sized(browser):
 
 
 def scheme(browser, name):
-    """A reader's scheme: `light` or `dark`. Firefox is shown in light."""
+    """A reader's scheme: `light` or `dark`. Firefox has that of its profile."""
     if isinstance(browser, browsers.Chromium):
         browser.call('Emulation.setEmulatedMedia', features=[{'name': 'prefers-color-scheme', 'value': name}])
-        assert browser.value('getComputedStyle(document.body).backgroundColor') == rgb(looks.PAGE['ground'][name == 'dark'])
+    assert browser.value('getComputedStyle(document.body).backgroundColor') == rgb(looks.PAGE['ground'][name == 'dark'])
 
 
 def rgb(color):
@@ -109,19 +114,16 @@ def test_letters_contrast_targets_and_edges(opened, width, colours):
     browser.size(width, SIZES[width], mobile=width < 500)
     try:
         scheme(browser, colours)
-        # On a phone a net of three routers has smaller letters.
-        choose(browser, 'lesson 17' if width > 500 else 'lesson 10')
+        choose(browser, 'lesson 17')
         assert run(browser).startswith('done in')
         browser.value('simulator.goTo(1657)')
         for tab in TABS:
             show(browser, tab)
             check_look(browser, (width, colours, tab))
             look(browser, f'look_{width}_{colours}_{tab}')
-        for button, close in (('template-open', '#template-dialog .leave'), ('save-open', '#save-close'), ('share-open', '#share-close'), ('about-open', '#about-close')):
-            browser.click(element(f'#{button}'))
-            browser.wait('!!document.querySelector("dialog[open]")')
-            check_look(browser, (width, colours, button))
-            browser.click(element(close))
+        for button, close in DIALOGS:
+            with dialog(browser, button, close):
+                check_look(browser, (width, colours, button))
         browser.value('simulator.showTab("net")')
         browser.value('simulator.editor.text = simulator.editor.text.replace("droptail", "droptial")')
         browser.wait('document.documentElement.dataset.judged === "1"')
@@ -158,17 +160,60 @@ def test_a_look_that_is_wrong_is_found(chromium):
         assert not [it for it in found if it[2] < 11.99 or it[3] < 4.5] if finds == TEXTS else not found, css
 
 
-def test_in_firefox_too(opened):
-    """Firefox draws letters of 12 pixels and more, targets of 24, and nothing beyond its window."""
-    browser = opened('Firefox')
-    for width in (1400, 1024):
-        browser.size(width, SIZES[width])
-        choose(browser, 'lesson 10')
+DARK = {'layout.css.prefers-color-scheme.content-override': 0, 'ui.systemUsesDarkTheme': 1}
+
+
+@pytest.mark.parametrize('colours', ['light', 'dark'])
+def test_in_firefox_too(made, tmp_path, colours):
+    """Firefox draws letters of 12 pixels and more with a contrast of 4.5 and more, targets of 24, and nothing beyond its window."""
+    wanted(browsers.FIREFOX, 'no Firefox: apt-get install firefox-esr')
+    browser = browsers.Firefox(str(tmp_path), preferences=DARK if colours == 'dark' else {})
+    try:
+        browser.open(f'file://{made[0]}')
+        browser.wait('document.documentElement.dataset.ready')
+        scheme(browser, colours)
+        for width, height in SIZES.items():
+            browser.size(width, height)
+            choose(browser, 'lesson 10')
+            run(browser)
+            browser.value('simulator.goTo(5000)')
+            for tab in TABS:
+                show(browser, tab)
+                check_look(browser, (width, colours, tab))
+                look(browser, f'look_{width}_{colours}_{tab}')
+    finally:
+        browser.close()
+
+
+# The node of the present event, and whether it is seen in the net's room; how many pixels a letter of 12 has.
+NODE_SEEN = '''(() => {
+  const seen = page.net.room.getBoundingClientRect(), node = page.net.nodes[+page.record.line(page.record.at).split(' ')[2]].getBoundingClientRect();
+  return node.left >= seen.left - 1 && node.right <= seen.right + 1 && (node.top <= seen.bottom && node.bottom >= seen.top);
+})()'''
+
+
+@pytest.mark.parametrize('width', SIZES)
+def test_a_net_without_room_scrolls(sized, width):
+    """Islands, three routers and a way that two flows share: letters of 12 pixels, and the node of the present event is seen."""
+    browser = sized
+    browser.size(width, SIZES[width], mobile=width < 500)
+    islands = subprocess.run([sys.executable, f'{TOP}/bin/tcpsim-net', 'islands', '--end', '300ms'], capture_output=True, text=True, check=True).stdout
+    texts = [islands, *(page_cases.read('examples', f'{name}.txt').decode() for name in ('parking_lot_of_three_routers', 'acks_share_the_bottleneck'))]
+    larger = []
+    for number, text in enumerate(texts):
+        browser.value(f'simulator.openText({json.dumps(text)}, "net")')
+        browser.wait('document.documentElement.dataset.judged === "0"')
         run(browser)
-        for tab in ('net', 'figures'):
-            show(browser, tab)
-            check_look(browser, (width, 'light', tab))
-    browser.size(1280, 800)
+        larger.append(browser.value('page.net.larger'))
+        for event in (1, 100, 207, browser.value('page.record.last')):
+            browser.value(f'simulator.goTo({event})')
+            assert browser.value(NODE_SEEN), (width, event)
+        settle(browser)
+        check_look(browser, (width, 'light', 'net'))
+        look(browser, f'net_{width}_{number}')
+    assert larger[0] and (width > 500 or all(larger)), larger
+    # The wheel scrolls it, and else zooms.
+    assert browser.json('page.net.svg.on("wheel.zoom") ? 1 : 0') == (0 if larger[-1] else 1)
 
 
 def test_focus_is_seen_everywhere(chromium):
@@ -252,6 +297,49 @@ def test_the_first_view_runs_at_once_and_moves(made, tmp_path, calm):
         browser.close()
 
 
+@pytest.mark.parametrize('how', ['list', 'scenario', 'fragment', 'keys'])
+def test_what_is_chosen_runs_at_once(sized, how):
+    """From the list, by a lesson's own button, by an address and in a lecture, without a press; it moves, but for a lecturer's."""
+    browser = sized
+    browser.value('page && page.play(false)')
+    before = browser.value('document.documentElement.dataset.run || 0')
+    if how == 'list':
+        pick(browser, '#choose', 'lesson 10')
+    elif how == 'scenario':
+        choose(browser, 'lesson 11')
+        before = browser.value('document.documentElement.dataset.run')
+        browser.value('document.querySelector("#lesson button.example:nth-of-type(2)").click()')
+    elif how == 'fragment':
+        browser.value('location.hash = "#lesson=9"')
+    else:
+        browser.value('simulator.openLesson(9)')
+        browser.wait(f'document.documentElement.dataset.run != {before}')
+        before = browser.value('document.documentElement.dataset.run')
+        browser.value('simulator.lecture.begin()')
+        browser.press('PageDown')
+    browser.wait(f'document.documentElement.dataset.run != {before}')
+    assert browser.value('simulator.run.text === simulator.editor.text && simulator.run.title === simulator.title')
+    if how == 'keys':
+        assert browser.json('[page.playing, page.record.at]') == [False, 0] and browser.value('simulator.lessons.now.number') == 10
+    else:
+        browser.wait('page.playing && page.record.at > 0')
+    browser.value('page.play(false)')
+
+
+def test_the_row_of_tabs_does_not_move(sized):
+    """On a phone it stays where it is, whatever it shows."""
+    browser = sized
+    browser.size(390, 844, mobile=True)
+    choose(browser, 'lesson 10')
+    run(browser)
+    tops = []
+    for tab in (*TABS, 'net'):
+        show(browser, tab)
+        tops.append(browser.value('Math.round(document.getElementById("tabs").getBoundingClientRect().top + scrollY)'))
+    assert {*tops} == {tops[0]}, tops
+    assert browser.value('document.getElementById("tabs").getBoundingClientRect().bottom <= document.querySelector("#replay header").getBoundingClientRect().top + 1')
+
+
 # ---- units
 
 def test_numbers_have_hints_and_take_units(sized):
@@ -276,6 +364,201 @@ def test_numbers_have_hints_and_take_units(sized):
     assert browser.value('simulator.editor.box.historySize().undo') > 5
     assert browser.json('unitsTyped("node 5ms sender # 3s")') == []
     assert browser.json('unitsTyped("link a s r 5parsec 1xs droptail 10")') == []
+
+
+def test_products_are_read_where_a_round_trip_is_known(sized):
+    """0.5BDP becomes the packets that `droptail:0.5BDP` has in tcpsim-net; in a text that is not whole it stays, and the program refuses it."""
+    browser = sized
+    words = ['dumbbell', '--flows', '4', '--rate', '10M', '--rtt', '40ms', '--end', '5s', '--queue']
+    net = lambda queue: subprocess.run([sys.executable, f'{TOP}/bin/tcpsim-net', *words, queue], capture_output=True, text=True, check=True).stdout  # noqa: E731
+    capacity = lambda text: next(line for line in text.split('\n') if line.startswith('link pq ')).split()[7]  # noqa: E731
+    text = net('droptail:50')
+    for word in ('BDP', '0.5BDP', '2BDP/sqrt(n)'):
+        browser.value(f'simulator.openText({json.dumps(text)}, "net")')
+        browser.value('(() => { const {box} = simulator.editor, line = simulator.editor.text.split("\\n").findIndex(it => it.startsWith("link pq ")), ch = box.getLine(line).indexOf("droptail 50") + 9; '
+                      f'box.focus(); box.setSelection({{line, ch}}, {{line, ch: ch + 2}}); box.replaceSelection({json.dumps(word)}); box.setCursor({{line: line + 1, ch: 0}}); }})()')
+        assert capacity(browser.value('simulator.editor.text')) == capacity(net(f'droptail:{word}')), word
+    assert browser.json('unitsTyped("link a s r 10 18 droptail 0.5BDP", () => "link a s r 10 18 droptail 0.5BDP")') == []
+
+
+# ---- what is said
+
+def test_the_key_names_all_that_is_drawn(sized):
+    """Each kind of band and mark that a panel has, in whatever width; a key that has no room beside the title has rows of its own."""
+    browser = sized
+    for width in SIZES:
+        browser.size(width, SIZES[width], mobile=width < 500)
+        choose(browser, 'lesson 17')
+        run(browser)
+        browser.value('page.panels.choose(["windows", "lengths", "sequence"])')
+        settle(browser)
+        told = browser.json('''Object.entries(page.panels.charts).map(([name, {svg, top, lanes, record}]) => {
+          const key = [...svg.node().querySelectorAll('.key')], edges = svg.node().getBoundingClientRect(), boxes = key.map(e => e.getBoundingClientRect()), title = svg.node().querySelector('.title').getBoundingClientRect();
+          const over = boxes.some((one, k) => [...boxes.slice(k + 1), title].some(two => one.left < two.right && two.left < one.right && one.top + 4 < two.bottom && two.top + 4 < one.bottom));
+          return [name, key.map(e => e.textContent).sort(), keyOf(lanes, record).map(([, words]) => words).sort(), over, boxes.every(b => b.left >= edges.left && b.bottom <= edges.top + top + 4)];
+        })''')
+        assert len(told) == (3 if width != 1024 else len(told)) and any(name == 'windows' for name, *_ in told)
+        for name, seen, there, over, within in told:
+            assert seen == there and not over and within, (width, name, seen, there, over, within)
+        assert any({'no new ack for over 200 ms', 'recovery', 'timeout', 'dropped: queue full'} <= {*seen} for name, seen, *_ in told if name == 'windows'), told
+
+
+def test_spans_of_two_flows_are_no_curves(sized):
+    """In a panel of two flows each has a strip above the frame of values, behind its name; of a flow alone the whole lane is shaded."""
+    browser = sized
+    choose(browser, 'lesson 13')
+    found = {}
+    for flows in ('fa', 'fb'), ('fa',):
+        browser.value(f'page.panels.choose([["windows", ...{json.dumps(flows)}]])')
+        found[flows] = browser.json('''(({lanes: [{from, to, strips}], x, bands}) => [from, to, x.range(), strips.map(({name}) => name),
+          [...bands.node().querySelectorAll('rect')].map(e => [e.getAttribute('class'), ...['x', 'y', 'width', 'height'].map(name => +e.getAttribute(name))]),
+          [...bands.node().querySelectorAll('text')].map(e => [e.textContent, e.getBBox().y + e.getBBox().height])])(page.panels.charts.windows)''')
+        look(browser, f'spans_{len(flows)}')
+    begin, _, (left, right), strips, rects, texts = found['fa', 'fb']
+    assert strips == ['fa', 'fb'] and {'fa', 'fb'} <= {text for text, _ in texts} <= {'fa', 'fb', 'no new ack', 'recovery'}
+    if isinstance(browser, browsers.Chromium):      # the other's letters are wider
+        assert 'no new ack' in {text for text, _ in texts}
+    assert {kind for kind, *_ in rects} == {'stall', 'recovery', 'strip', None}
+    assert all(y + tall <= begin for *_, y, _, tall in rects) and all(below <= begin + 1 for _, below in texts)
+    assert all((x + wide <= left) if kind is None else (left <= x and x + wide <= right + 1.5) for kind, x, _, wide, _ in rects)
+    begin, end, _, strips, rects, texts = found['fa',]
+    assert not strips and not texts and len(rects) > 10
+    assert all((y, tall) == (begin, end - begin) for _, _, y, _, tall in rects)
+
+
+def test_what_is_a_line_of_the_trace_says_so(sized):
+    """In the examples' comments and in lessons, beside an editor whose own lines have numbers, and where words are found."""
+    browser = sized
+    for text in browser.json('[...Object.values(simulator.examples), ...[...document.querySelectorAll("template[id^=lesson-]")].flatMap(it => [...it.content.querySelectorAll("[data-line]")].map(e => e.parentNode.textContent))]'):
+        assert not re.findall(r'(?<![Tt]race )\b[Ll]ines? \d+\b', text), text
+    choose(browser, 'lesson 3')
+    show(browser, 'trace')
+    write(browser, '#all-lines input[type=search]', 'drop=full')
+    browser.press('Enter')
+    browser.wait('document.querySelector("#all-lines output").textContent !== ""')
+    assert text_of(browser, '#all-lines output') == 'trace line 20'
+
+
+def test_heads_of_the_trace_stay(sized):
+    """They stand above their columns, wherever the list is, and its first and last lines are seen whole below them."""
+    browser = sized
+    choose(browser, 'lesson 13')
+    show(browser, 'trace')
+    for exact, heads in ((False, r' *event +time +node +kind, flow, byte +state, sends, drops'), (True, 'n time node source number KIND AFTER ACTS')):
+        if exact:
+            browser.click(element('#all-lines input[type=checkbox]'))
+        for event in (1, 2800, browser.value('page.record.last')):
+            browser.value(f'simulator.goTo({event})')
+            settle(browser)
+            top, below, row, bottom, text = browser.json('''(([box, heads, row]) => [box.top, heads.top, [heads.bottom, row.top, row.bottom], box.bottom, document.querySelector('.lines .heads').textContent])(
+              ['.lines', '.lines .heads', '.seen .present'].map(css => document.querySelector(css).getBoundingClientRect()))''')
+            assert re.fullmatch(heads, text), text
+            assert abs(top - below) <= 1 and row[0] - 1 <= row[1] and row[2] <= bottom + 1, (event, top, below, row, bottom)
+        line, columns = text_of(browser, '.seen .present'), text_of(browser, '.lines .heads')
+        if not exact:
+            assert line[columns.index('node') - 1] == ' ' != line[columns.index('node')] and line[columns.index('kind') - 1] == ' ' != line[columns.index('kind')], (line, columns)
+    browser.click(element('#all-lines input[type=checkbox]'))
+    # The present line stays in view where the list has less room.
+    browser.value('simulator.goTo(page.record.last)')
+    browser.value("simulator.list.box.style.maxHeight = `${simulator.list.box.clientHeight - 12}px`")
+    settle(browser)
+    assert browser.value('+document.querySelector(".seen .present:not([hidden])")?.dataset.event') == browser.value('page.record.last')
+    browser.value("simulator.list.box.style.maxHeight = ''")
+
+
+CONTROLS = '''[...document.querySelectorAll('button, select, input, summary, textarea')].filter(e => e.checkVisibility() && !e.closest('.CodeMirror')).filter(e => {
+  const title = (e.closest('label[title]') || e).title;
+  // Of a button it begins with what that does.
+  return !title || title === e.textContent.trim() || e.matches('button, summary') && !/^[a-z]+s /.test(title);
+}).map(e => [e.tagName, e.id, e.name, e.textContent])'''
+
+
+def test_each_control_has_a_tooltip(sized):
+    """In each tab and each dialog, and it says more than the control does; of a button, what happens."""
+    browser = sized
+    choose(browser, 'lesson 9')       # it has a slider
+    assert browser.json('["select", ".tick", "input[type=range]", ".end", "button"].every(css => document.querySelector(`#shelf ${css}`).checkVisibility())')
+    for tab in (*TABS, 'time'):
+        browser.click(element(f'[data-tab={tab}]'))
+        if tab in TABS:
+            show(browser, tab)
+        if tab == 'debug':
+            write(browser, '#debugger input', 'st')
+            browser.wait('!!document.querySelector(".goes-on button")')
+        assert browser.json(CONTROLS) == [], tab
+    for button, close in DIALOGS:
+        with dialog(browser, button, close):
+            assert browser.json(CONTROLS) == [], button
+    browser.value('simulator.showTab("net")')
+
+
+def test_no_words_of_a_control_are_cut(sized):
+    """A queue's words have room in compare, and what a list has no room for its tooltip says whole."""
+    browser = sized
+    for width in SIZES:
+        browser.size(width, SIZES[width], mobile=width < 500)
+        assert browser.json('''(e => [...e.options].every(option => {
+          e.value = option.value;
+          e.dispatchEvent(new PointerEvent("pointerenter"));
+          return e.title.endsWith(option.textContent);
+        }))(document.getElementById("choose"))''')
+        choose(browser, 'lesson 17')
+        browser.click(element('[data-tab=compare]'))
+        browser.value('document.getElementById("compare-word").value = "codel:125ms:1250ms:1000"')
+        assert browser.json('(e => e.scrollWidth <= e.clientWidth)(document.getElementById("compare-word"))'), width
+        assert browser.json('["first", "second"].every(id => (e => e.title.endsWith(e.selectedOptions[0].textContent))(document.getElementById(`compare-${id}`)))')
+        browser.value('document.getElementById("compare-word").value = ""')
+        browser.value('simulator.showTab("net")')
+
+
+def test_bars_go_by_one_rule(sized):
+    """Each is the part that its number is of 100 %, or else of the greatest in its column, as the column's head says; a number alone has none."""
+    browser = sized
+    choose(browser, 'lesson 17')
+    show(browser, 'figures')
+    tables = browser.json('''[...document.querySelectorAll('#figures-table > .table table')].map(table => [...table.tHead.rows[0].cells].map((head, k) => [head.title,
+      [...table.tBodies[0].rows].map(row => row.cells[k]).map(cell => [cell.textContent, cell.querySelector('.bar') && parseFloat(cell.querySelector('.bar').style.getPropertyValue('--part'))])]))''')
+    compared = of_100 = 0
+    for head, cells in (column for table in tables for column in table):
+        bars = [(float(text.split()[0]), bar) for text, bar in cells if bar is not None]
+        parts = any(text.endswith(' %') for text, _ in cells)
+        assert head.endswith('bars: parts of 100 %') == parts and head.endswith('bars: parts of the greatest in the column') == (bool(bars) and not parts), head
+        most = 100 if parts else max((number for number, _ in bars), default=0)
+        assert not bars or len(bars) > 1 and (parts or max(bar for _, bar in bars) == 100)
+        assert all(abs(bar - 100 * number / most) < 2 for number, bar in bars), (head, cells)
+        compared += len(bars)
+        of_100 += parts
+    assert len(tables) == 2 and compared > 20 and of_100 == 4
+    choose(browser, 'lesson 3')
+    show(browser, 'figures')
+    assert browser.json('[...document.querySelectorAll("#figures-table > .table:first-of-type .bar")].map(e => e.parentNode.textContent.slice(-2))') == [' %', ' %']
+    browser.value('simulator.showTab("net")')
+
+
+def test_an_axis_of_delays_says_seconds(sized):
+    browser = sized
+    choose(browser, 'lesson 10')
+    run(browser)
+    labels = browser.json('[...document.querySelectorAll("#delays .axis text")].map(e => e.textContent)')
+    assert '2 s' in labels and not any('k' in one for one in labels), labels
+
+
+def test_a_lesson_picture_in_the_dark(chromium):
+    """Its paper is dark, as the page's."""
+    try:
+        scheme(chromium, 'dark')
+        choose(chromium, 'lesson 10')
+        assert chromium.value('getComputedStyle(document.querySelector("#picture-dialog img")).filter').startswith('invert(')
+    finally:
+        scheme(chromium, 'light')
+
+
+def test_stalls_have_no_backticks(sized):
+    browser = sized
+    choose(browser, 'lesson 10')
+    run(browser)
+    show(browser, 'stalls')
+    assert '`' not in text_of(browser, '#stall-list') and text_of(browser, '#stall-list code') == 'why'
 
 
 # ---- panels
@@ -304,8 +587,8 @@ def test_each_lesson_names_the_panels_that_carry_it(sized):
     choose(browser, 'lesson 10')
     run(browser)
     # The victim is seen: its ten segments, and of the delay its packets, of its own colour.
-    assert browser.json('[...document.querySelectorAll("#flows input")].map(e => [e.nextSibling.textContent, e.checked])') == [['f', False], ['g', True]]
-    assert browser.value('[...document.querySelectorAll("#sequence .dots title")].map(e => e.textContent).join()') == 'segments of g'
+    assert browser.json('[...document.querySelectorAll("#flows input")].map(e => [e.nextSibling.textContent, e.checked])') == [['f', True], ['g', True]]
+    assert browser.value('[...document.querySelectorAll("#sequence .dots title")].map(e => e.textContent).join()') == 'segments of g,segments of f'
     assert browser.json('[...document.querySelectorAll("#delays .dots title")].map(e => e.textContent)') == ['delay of packets of f at a', 'delay of packets of g at a']
 
 
@@ -397,7 +680,7 @@ def test_panes_of_the_debugger_and_the_trace_have_names_and_units(sized):
     line = browser.value('page.record.line(31)')
     assert browser.value('document.querySelector("#lines li.present").title') == line
     shown = text_of(browser, '#lines li.present')
-    assert re.match(r'31 +3\.009\d+ s +s +ack f 5,000 +una=5,000 B ', shown), shown
+    assert re.match(r' *31 +3\.009\d+ s +s +ack f 5,000 +una=5,000 B ', shown), shown
     show(browser, 'debug')
     hints = dict(browser.json('[...document.querySelectorAll("#debugger [data-hint]")].map(e => [e.textContent, e.dataset.hint])'))
     assert any(text.startswith('node 0 sender') and hint == 'sender s' for text, hint in hints.items()), hints
@@ -406,14 +689,198 @@ def test_panes_of_the_debugger_and_the_trace_have_names_and_units(sized):
 
 
 def test_a_picture_of_a_lesson_is_shown_as_large_as_the_window(sized):
+    """In the lesson its letters could not be read: there is a button that says what it shows."""
     browser = sized
     choose(browser, 'lesson 10')
-    browser.wait('document.querySelector("#lesson img").naturalWidth')
+    assert browser.json('document.querySelectorAll("#lesson img").length') == 0
+    assert text_of(browser, '#lesson .shown-larger').startswith('picture: No loss, three seconds of delay')
     browser.value(f'{element("#lesson .shown-larger")}.scrollIntoView()')
     browser.click(element('#lesson .shown-larger'))
     browser.wait('document.getElementById("picture-dialog").open')
     assert browser.value('document.querySelector("#picture-dialog img").getBoundingClientRect().width > 1000')
+    settle(browser)
     browser.click(element('#picture-close'))
+    browser.wait('!document.getElementById("picture-dialog").open')
+    # On a phone it is as large as it was drawn, and scrolls.
+    browser.size(390, 844, mobile=True)
+    settle(browser)
+    browser.click(element('#lesson .shown-larger'))
+    browser.wait('document.getElementById("picture-dialog").open')
+    assert browser.json('(e => e.getBoundingClientRect().width >= e.naturalWidth)(document.querySelector("#picture-dialog img"))')
+    assert browser.value('document.documentElement.scrollWidth') <= 390
+    settle(browser)
+    look(browser, 'picture_390')
+    browser.click(element('#picture-close'))
+
+
+# ---- what a reader took for something else
+
+# At each frame while it plays: the event that the clock, the marked line and the words have, and that of the list of all lines.
+FRAMES = """(async () => {
+  const seen = [], of = css => { const e = document.querySelector(css); return e && e.checkVisibility() ? e.dataset.event : null; };
+  page.speed.value = 400; page.play(true);
+  for (let k = 0; k < 90; k++) {
+    await new Promise(done => requestAnimationFrame(done));
+    seen.push([document.getElementById('where').textContent.match(/event ([\\d,]+)/)[1].replace(/,/g, ''), of('#where'), of('#lines .present'), of('#words'), of('.seen .present')]);
+  }
+  page.play(false);
+  return seen;
+})()"""
+
+
+def test_while_it_plays_all_have_one_event(sized):
+    """The clock, the marked line and its words; the list of all lines too, and what is seen when it is left."""
+    browser = sized
+    choose(browser, 'lesson 16')
+    for tab, seen in (('net', 3), ('trace', 2)):
+        show(browser, tab)
+        browser.value('page.goEvent(0)')
+        frames = [[one for one in frame if one is not None] for frame in browser.json(FRAMES) if frame[0] != '0']     # before the first event no line is marked
+        assert all(len(frame) == seen + 1 and len({*frame}) == 1 for frame in frames), [frame for frame in frames if len(frame) != seen + 1 or len({*frame}) > 1]
+        assert len({*map(tuple, frames)}) > 5
+    browser.value('simulator.goTo(1700)')
+    show(browser, 'net')
+    assert browser.json('["#where", "#lines .present", "#words"].map(css => document.querySelector(css).dataset.event)') == ['1700'] * 3
+
+
+def test_what_happens_last_is_seen(sized):
+    """The axis of time goes on behind the last event, and what is known there is drawn: the line at the moment covers no step."""
+    browser = sized
+    choose(browser, 'lesson 1')
+    browser.value('page.goEvent(page.record.last)')
+    for name, css in (('windows', 'path[stroke]:not(.thin)'), ('sequence', '.thin')):
+        end, last, drawn = browser.json(f'''(({{x, curves}}) => [x.range()[1], x(page.record.times[page.record.count]), curves.node().querySelector({json.dumps(css)}).getBBox()])(page.panels.charts.{name})
+          .map(it => it.x === undefined ? it : it.x + it.width)''')
+        assert end - last > 6 and drawn == pytest.approx(end, abs=1), name
+    # A run that is not whole is known up to its last event.
+    browser.value('(() => { page.record.facts.whole = false; page.panels.make(); })()')
+    assert browser.value('page.panels.charts.windows.known === page.record.times[page.record.count]')
+    browser.value('page.record.facts.whole = true')
+    # A press behind the last event goes to it.
+    browser.value('page.goTo(page.panels.charts.windows.x.domain()[1])')
+    assert browser.json('[page.record.at, page.time === page.record.times[page.record.count]]') == [5, True]
+
+
+# Of each packet that is dropped: its colour, that of its flow, and where its mark lies.
+CROSSES = """[...document.querySelectorAll('.drop')].map(drop => { const cross = drop.querySelector('.cross'), box = cross.getBBox(), {a, e} = cross.getScreenCTM(), fill = css => getComputedStyle(css).fill;
+  const probe = document.body.appendChild(document.createElement('i')); probe.style.color = colourOf(+drop.dataset.flow);
+  const flow = getComputedStyle(probe).color; probe.remove();
+  return [fill(drop.querySelector('rect, .disc')), flow, a * box.x + e, a * box.width, fill(cross)]; })"""
+
+
+def test_a_dropped_packet_is_its_flows_and_crossed_out(sized):
+    """Each of several that are dropped at once has its mark, which lies over no other, in the flow's colour."""
+    browser = sized
+    for example, event, count in (('a_timer_that_stays_doubled', 1, 4), ('two_stalls_of_different_causes', 1, 2), ('four_flows_share_a_long_queue', 1023, 1)):
+        choose(browser, f'example {example}')
+        browser.value(f'page.goEvent({event})')
+        crosses = browser.json(CROSSES)
+        assert len(crosses) == count
+        assert all(fill == flow != cross and wide > 6 for fill, flow, _, wide, cross in crosses)
+        assert all(abs(one[2] - two[2]) >= one[3] for one, two in zip(crosses, crosses[1:])), crosses
+        look(browser, f'dropped_{example}')
+
+
+def test_a_flow_whose_box_is_empty_is_in_no_panel(sized):
+    """Nor in that of delays; but what waits in a queue is all that waits there."""
+    browser = sized
+    choose(browser, 'lesson 16')
+    browser.value('page.panels.choose(["windows", "delays", "lengths"])')
+    titles = '["delays", "lengths"].map(name => [...document.querySelectorAll(`#${name} :is(.dots, .area) title`)].map(e => e.textContent.split(" of ")[name === "delays" ? 2 : 1].split(" ")[0]))'
+    every = ['fa', 'fb', 'fc', 'fd']
+    assert browser.json(titles) == [every, every]
+    for flow in every[:2]:
+        browser.click(f'[...document.querySelectorAll("#flows label")].find(e => e.textContent === {json.dumps(flow)})')
+    assert browser.json(titles) == [every[2:], every]
+    dropped = '[...document.querySelectorAll("#delays .marks title")].map(e => / of (f.)/.exec(e.textContent)[1])'
+    assert {*browser.json(dropped)} <= {*every[2:]}
+    browser.value('page.panels.choose(["delays"])')
+    assert browser.value('document.getElementById("flows").checkVisibility()')
+
+
+def test_a_flow_has_one_colour(sized):
+    """In the key and in the area of who waits, as in the net."""
+    browser = sized
+    choose(browser, 'lesson 16')
+    browser.value('page.panels.choose([["lengths", "pq"]])')
+    areas, signs = browser.json('''['.area', '.flow'].map(css => [...document.querySelectorAll(`#lengths ${css}`)].map(e => getComputedStyle(e)).map(({fill, fillOpacity, opacity}) => [fill, fillOpacity, opacity]))''')
+    assert len(areas) == 4 and sorted(areas) == sorted(signs) and {*map(tuple, (it[1:] for it in areas))} == {('1', '1')}
+
+
+def test_cwnd_and_ssthresh_are_told_apart(sized):
+    """The title says which is thick, also where two flows have a longer key; and ssthresh lies at no panel's edge."""
+    browser = sized
+    for width in SIZES:
+        browser.size(width, SIZES[width], mobile=width < 500)
+        choose(browser, 'lesson 13')
+        settle(browser)
+        assert re.search(r'cwnd \(?thick\)?, ssthresh \(?thin\)?', text_of(browser, '#windows .title')), width
+        assert browser.json('(e => e.getComputedTextLength() <= page.panels.charts.windows.wide - 6)(document.querySelector("#windows .title"))')
+        if width == 1024:
+            assert browser.value('(({from, to}) => to - from)(page.panels.charts.windows.lanes[0])') > 80
+            look(browser, 'two_flows_1024')
+    browser.size(1400, 900)
+    drawn = 0
+    for name in ('bufferbloat', 'two_flows_share_fairly', 'slow_start_into_a_full_queue', 'fast_recovery', 'parking_lot_of_three_routers', 'a_slow_way_back', 'sawtooth_of_congestion_avoidance'):
+        choose(browser, f'example {name}')
+        browser.value('page.panels.choose(["windows"])')
+        edges = browser.json('''page.panels.charts.windows.lanes.map(({from}) => from).flatMap(from => [...document.querySelectorAll("#windows .thin")].flatMap(e =>
+          [...(e.getAttribute("d") || "").matchAll(/[MLHV]/g)].length ? [e.getBBox().y - from] : []).filter(y => y > -50))''')
+        assert all(y >= 3 or y < -3 for y in edges), (name, edges)
+        drawn += len(edges)
+    assert drawn >= 7
+
+
+# What each says, and words of its tooltip, for who has not built the page.
+LABELS = {'run': ('▶ run', 'curves, trace and figures'), 'figures': ('▶ run, table only', 'no trace is kept'), 'stop': ('■ stop', 'stops the program'), 'pin': ('slider for a number', 'slider above the net'),
+          'template-open': ('new from a template', 'writes the scenario'), 'lecture-open': ('full screen (l)', 'whole screen'), 'fold': ('compact (f)', 'as short stubs')}
+
+
+def test_labels_say_what_is_done(sized):
+    """Those that a stranger had guessed wrong; docs/PAGE.md has the same words."""
+    browser = sized
+    choose(browser, 'lesson 16')
+    with open(f'{TOP}/docs/PAGE.md', encoding='utf-8') as file:
+        told = file.read()
+    for name, (label, title) in LABELS.items():
+        assert browser.json(f'(e => [e.textContent, e.title.includes({json.dumps(title)})])(document.getElementById("{name}"))') == [label, True], name
+        assert name == 'run' or f'`{label}`' in told, name
+    assert browser.json('(e => [e.checkVisibility(), e.ariaPressed, page.net.folded])(document.getElementById("fold"))') == [True, 'true', True]
+    browser.click(element('#fold'))
+    assert browser.json('[document.getElementById("fold").ariaPressed, page.net.folded]') == ['false', False]
+    show(browser, 'trace')
+    assert text_of(browser, '#all-lines label') == ' lines as the program writes them'
+    choose(browser, 'lesson 9')
+    assert browser.json('[...document.querySelectorAll("#shelf label")].map(e => e.firstChild.textContent)')[-1] == 'runs for each value '
+    assert browser.json('[...document.querySelectorAll("#shelf label:last-of-type option")].map(e => e.textContent)') == ['1', '4 and their mean', '10 and their mean', '20 and their mean']
+
+
+def test_compare_says_what_it_does_before_it_is_pressed(sized):
+    browser = sized
+    choose(browser, 'lesson 3')
+    browser.value('simulator.compare.end()')
+    browser.click(element('[data-tab=compare]'))
+    says = element('#compare-form p')
+    assert browser.value(f'{says}.checkVisibility()') and 'press run both' in text_of(browser, '#compare-form p')
+    show(browser, 'compare')
+    assert not browser.value(f'{says}.checkVisibility()')
+    browser.value('simulator.showTab("net")')
+
+
+def test_on_a_phone_nothing_that_moves_the_run_is_out_of_view(sized):
+    """390 pixels wide: all tabs, and all buttons of the clock; what is above the lesson takes 80 pixels at most."""
+    browser = sized
+    browser.size(390, 844, mobile=True)
+    choose(browser, 'lesson 16')
+    settle(browser)
+    assert browser.value('document.getElementById("top").getBoundingClientRect().height') <= 80
+    assert browser.json('''[...document.querySelectorAll('#tabs button, #replay header > *, #run, #stop, #choose')].filter(e => e.checkVisibility()).map(e => [e.id, e.getBoundingClientRect()])
+      .filter(([, {left, right}]) => left < 0 || right > 390).map(([id]) => id)''') == []
+    browser.value('scrollTo(0, 0)')
+    look(browser, 'phone_top')
+    show(browser, 'compare')
+    assert browser.json('''[...document.querySelectorAll('#both .clock > *')].filter(e => e.checkVisibility()).map(e => [e.id, e.getBoundingClientRect()]).filter(([, {left, right}]) => left < 0 || right > 390).map(([id]) => id)''') == []
+    browser.value('simulator.showTab("net")')
 
 
 # ---- colours

@@ -142,6 +142,28 @@ def test_from_a_server_the_whole_address_is_shared(chromium, made):
         server.server_close()
 
 
+# ---- from Python
+
+def test_python_opens_the_page_with_its_net(browser, made, tmp_path):
+    """As a file, and within another page, as a notebook has it: the same text, and its run at the event that was named."""
+    import tcpsim
+    net = tcpsim.dumbbell(flows=2, rate='5M', rtt='20ms', end='300ms')
+    for given in {'shelf': 'pq.capacity=1..40; used pq'}, {'event': 40, 'view': 'trace'}:
+        there = net.explore(tmp_path / 'mine.html', page=made[0], **given)
+        opened_with(browser, f'file://{there.path}')
+        browser.wait(f'window.page && page.record.count > 500 && {given.get("event", "page.record.at")} === page.record.at')
+        assert browser.value('simulator.editor.text') == net.text
+        assert browser.value('document.getElementById("run-side").dataset.view') == given.get('view', 'net')
+        assert browser.value('simulator.shelf.text') == given.get('shelf', '')
+        assert run(browser).startswith('done in')
+    (tmp_path / 'notebook.html').write_text(f'<!doctype html><title>a notebook</title>{there._bundle()["text/html"]}', encoding='utf-8')
+    browser.open(f'file://{tmp_path}/notebook.html')
+    browser.value('(window.inner = document.querySelector("iframe").contentWindow, 0)')
+    browser.wait('inner.document.documentElement.dataset.run')
+    assert browser.value('inner.simulator.editor.text') == net.text and browser.value('inner.simulator.page.record.count') > 500
+    opened_with(browser, f'file://{made[0]}')
+
+
 # ---- loaded anew
 
 def load_anew(browser):
@@ -186,7 +208,7 @@ def test_nothing_typed_is_lost(browser, made):
     assert browser.value('simulator.editor.text') == long and browser.value('simulator.title') == 'long'
     choose(browser, 'example a_slow_way_back')
     assert not browser.value('simulator.editor.edited')
-    browser.wait('location.hash === "#name=a_slow_way_back"')
+    browser.wait('location.hash.startsWith("#name=a_slow_way_back&view=net")')
     load_anew(browser)
     assert browser.value('simulator.editor.text === simulator.examples.a_slow_way_back && document.getElementById("choose").value') == 'example a_slow_way_back'
 

@@ -2,7 +2,7 @@
 // Two runs under one clock: their nets in a frame each, their curves in panels that both share, and the figures that differ.
 
 const SOLID = '', DASHED = '7 4', MOST_WHOLE = 2;
-const HEAD = 36;                        // pixels of a lecture's frame above its net
+const HEAD = 36, MOST_OF_FRAME = 320;       // pixels of a frame above its net, and of a frame outside of a lecture
 const OTHER_QUEUE = 'queue';
 
 // CoDel for a link, by docs/SCENARIOS.md: RFC 8289's target and interval, or more where a packet and a half take longer than that.
@@ -14,7 +14,7 @@ function codelFor(facts, l) {
 // The text with another queue at a link; `word` is one of tcpsim-net's, as codel:5ms:100ms. Throws Wrong.
 function withQueue(text, facts, link, word, ranges) {
   const net = Object.assign(new NetText(ranges), {links: facts.links, flows: facts.flows}), queue = queueOf(ranges, word);
-  const product = queue.capacity === null ? net.product(link, facts.ways) : 1;
+  const product = queue.isProduct ? net.product(link, facts.ways, queue) : 1;
   return text.split('\n').map(line => {
     const [, statement, comment] = /^([^#]*)(.*)$/.exec(line), [kind, name, ...rest] = words(statement);
     if (kind !== 'link' || name !== facts.links[link].name) return line;
@@ -61,6 +61,7 @@ class Compare {
       if (id === 'second') select.append(new Option('the first, with another queue', OTHER_QUEUE));
       for (const [value, name] of texts) select.append(new Option(name, value));
       if ([...select.options].some(option => option.value === kept)) select.value = kept;
+      select.title = `the scenario that runs in the ${{first: 'upper net, with solid curves', second: 'lower net, with dashed curves'}[id]}: ${select.selectedOptions[0].textContent}`;
     }
     byId('compare-queue').hidden = byId('compare-second').value !== OTHER_QUEUE;
     const link = byId('compare-link'), kept = link.value;
@@ -183,6 +184,8 @@ class Compare {
     // A lecture's nets lie below each other, or beside, as their letters are larger.
     const {width, height} = nets.getBoundingClientRect();
     const pixels = (wide, tall) => Math.min(...this.clock.pages.map(({net}) => net.pixelsIn(wide, tall - HEAD)));
+    // Each has the height that it needs for letters that can be read, as far as both are seen then.
+    nets.style.minHeight = isSlide() ? '' : `${2 * Math.min(MOST_OF_FRAME, HEAD + d3.max(this.clock.pages, ({net}) => net.needs[1]))}px`;
     nets.classList.toggle('beside', isSlide() && pixels(width / 2, height) > pixels(width, height / 2));
     this.clock.pages.forEach(page => page.lay());
     this.at('head').textContent = this.lecture.heading;
@@ -200,7 +203,7 @@ class Compare {
         const {contentDocument: inside, contentWindow: own} = frame;
         inside.querySelector('h1').textContent = record.facts.title;
         const page = new own.Page(record);
-        if (this.folds(record)) { page.makeNet(true); page.show(); }
+        for (const _ of page.parts(this.folds(record) || undefined));
         done(page);
       }, {once: true});
       frame.srcdoc = `<!DOCTYPE html><html lang="en" class="within overlaid${isSlide() ? ' slide' : ''}"><meta charset="utf-8"><title>a run</title><style>${byId('replay-style').textContent}` +
@@ -216,6 +219,7 @@ class Compare {
       Object.assign(box, {type: 'checkbox', value: name, checked: was.has(name) ? was.get(name) : k < count});
       box.addEventListener('change', () => this.drawCharts());
       text.textContent = name;
+      label.title = `shows or hides ${id === 'flows' ? 'flow' : 'link'} ${name} in the panel`;
       text.style.borderBottom = `3px solid ${colour(k)}`;
       label.append(box, text);
       place.append(label);
@@ -224,7 +228,7 @@ class Compare {
   }
   drawCharts() {
     const {records} = this, time = this.clock ? this.clock.time : 0, begin = Math.min(...records.map(it => it.times[0]));
-    const span = {times: [begin, Math.max(...records.map(it => it.times[it.count]))], count: 1};
+    const span = {times: [begin, Math.max(...records.map(it => it.times[it.count]))], count: 1, facts: {whole: true, end: Math.max(...records.map(({facts}) => facts.end))}};
     const names = (what, order) => [...new Set(records.flatMap(record => order(record).map(k => record.facts[what][k].name)))];
     const flows = names('flows', record => d3.range(record.facts.flows.length));
     const links = names('links', record => d3.range(record.facts.links.length).sort((a, b) => record.longest[b] - record.longest[a] || a - b));

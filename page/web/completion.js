@@ -31,7 +31,7 @@ class Completion {
       const [, word, place, several] = /^([a-z]+) ([FL])  +(?:a value of [a-z]+ [FL]: (.*))?/.exec(row) || [];
       if (word) for (const one of several ? several.split(/, | or /) : [word]) displayed.set(one, place === 'F' ? 'flow' : 'link');
     }
-    Object.assign(this, {conditions, kinds, displayed, names: first(help), topics: line('help').split(/a command, /)[1].split(/, | or /),
+    Object.assign(this, {conditions, kinds, displayed, names: [...first(help), 'time'], topics: line('help').split(/a command, /)[1].split(/, | or /),
       parts: [...line('state').matchAll(/(\w+) [NLF]\b/g)].map(([, part]) => part)});
     this.draw();
   }
@@ -45,7 +45,7 @@ class Completion {
     let ones = [];
     if (!before.length) ones = this.line.value.trim() ? this.names : [];
     else if (name === 'help' && before.length === 1) ones = [...this.names, ...this.topics];
-    else if (name === 'why' && before.length === 1) ones = this.called('flow');
+    else if (['why', 'time'].includes(name) && before.length === 1) ones = this.called('flow');
     else if (name === 'display' && before.length === 1) ones = [...this.displayed.keys()];
     else if (name === 'display' && before.length === 2 && this.displayed.has(behind)) ones = this.called(this.displayed.get(behind));
     else if (name === 'state' && before.length === 1) ones = this.parts;
@@ -63,7 +63,7 @@ class Completion {
       const button = document.createElement('button');
       button.type = 'button';
       button.tabIndex = -1;
-      button.textContent = called ? `${word} (${called})` : word;
+      Object.assign(button, {textContent: called ? `${word} (${called})` : word, title: `writes ${word}`});
       button.addEventListener('click', () => { this.put(word, true); this.line.focus(); });
       this.place.append(button, ' ');
     }

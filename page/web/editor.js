@@ -99,9 +99,9 @@ class Editor {
       change.cancel();
       this.say('bad', 'this is too long to be edited here: open it as a file');
     });
-    this.box.on('change', (box, {origin}) => {
+    this.box.on('change', (box, {origin, from}) => {
       this.edited = origin !== 'setValue';
-      this.changed(origin);
+      this.changed(origin, from);
       clearTimeout(this.timer);
       this.timer = setTimeout(() => this.judge(), JUDGE_AFTER);
     });
@@ -135,7 +135,7 @@ class Editor {
   }
   say(look, text) {
     this.verdict.className = look;
-    this.verdict.textContent = text;
+    if (this.verdict.textContent !== text) this.verdict.textContent = text;
   }
 
   // Asks the program, with the text as it stands when it is free.

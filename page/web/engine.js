@@ -4,6 +4,7 @@
 const HAS_MEMORY64 = Uint8Array.of(0, 97, 115, 109, 1, 0, 0, 0, 5, 3, 1, 4, 1);     // a module with a 64-bit memory
 const MOST_PAGES = 65536;               // 4 GiB
 const MUCH = 1e5;                       // events
+const MOST_IDLE = 2 + Math.max(1, Math.min(8, navigator.hardwareConcurrency || 2));     // workers that wait for a run
 const NO_MEMORY64 = 'This browser runs no program with 64-bit memory, as Chromium does from version 133 on and Firefox from ' +
   'version 134 on; the runs of the examples can be seen all the same.';
 
@@ -17,9 +18,15 @@ const canKeep = () => 'Suspending' in WebAssembly && 'promising' in WebAssembly;
 async function bytesOf(packed) {
   const parts = [];
   for await (const part of unpacked(packed)) parts.push(part);
-  return new Uint8Array(await new Blob(parts).arrayBuffer());
+  return joined(parts);
 }
 async function textOf(packed) { return new TextDecoder().decode(await bytesOf(packed)); }
+// Pieces of output as one. (A Blob of them would go by way of the browser's own process.)
+function joined(parts) {
+  const all = new Uint8Array(parts.reduce((sum, {length}) => sum + length, 0));
+  parts.reduce((at, part) => { all.set(part, at); return at + part.length; }, 0);
+  return all;
+}
 const toBytes = text => new TextEncoder().encode(text);
 
 // Pieces of output as they come: an async iterable. `begun` gives whether there is one. `close` says how the run ended, which `ended`
@@ -85,7 +92,7 @@ class Engine {
     const leave = (answer, keep) => {
       if (pieces.closed) return;          // its worker may be at another run already
       worker.onmessage = worker.onerror = null;
-      if (keep && this.idle.length < 3) this.idle.push(worker); else worker.terminate();
+      if (keep && this.idle.length < MOST_IDLE) this.idle.push(worker); else worker.terminate();
       pieces.close(answer);
     };
     worker.onmessage = ({data}) => {
@@ -103,7 +110,7 @@ class Engine {
   keep(words, {files = new Map(), pages = MOST_PAGES} = {}) {
     const worker = this.take(), number = this.count++;
     let parts = [], told = null, begun = false, over = null;
-    const answer = async more => told({bytes: new Uint8Array(await new Blob(parts.splice(0)).arrayBuffer()), ...more});
+    const answer = more => told({bytes: joined(parts.splice(0)), ...more});
     const leave = ended => { over = ended; worker.terminate(); if (told) answer({note: ended.note || '', ended}); };
     worker.onmessage = ({data}) => {
       if (data.number !== number) return;
@@ -125,6 +132,6 @@ class Engine {
   async run(words, input, options) {
     const {pieces, ended} = this.start(words, input, options), parts = [];
     for await (const piece of pieces) parts.push(piece);
-    return {...await ended, bytes: new Uint8Array(await new Blob(parts).arrayBuffer())};
+    return {...await ended, bytes: joined(parts)};
   }
 }

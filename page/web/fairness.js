@@ -44,7 +44,8 @@ function jain(shares) {
 function ofFlows(parts) {
   const [flows, ...others] = parts.map(({length}) => length), sum = flows + d3.sum(others), every = many(sum, 'flow');
   const left = ['mice', 'limited by their window', 'that ended'].map((what, k) => [others[k], what]).filter(([count]) => count).map(one => one.join(' '));
-  return left.length ? `of ${flows || 'none'} of ${every} (without ${left.join(', ')})` : `of ${every}`;
+  if (!flows) return left.length ? `as none of ${every} is compared (${left.join(', ')})` : `as there is none of ${every}`;
+  return left.length ? `of ${flows} of ${every} (without ${left.join(', ')})` : `of ${every}`;
 }
 
 // ---- runs that are too short

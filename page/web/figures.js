@@ -30,21 +30,23 @@ function barOf(part) {
   bar.style.setProperty('--part', `${100 * Math.min(1, part || 0)}%`);
   return bar;
 }
-// A table with these heads; each row has [text, tooltip, size] or a text for each cell. A size is a bar too, beside the greatest of its
-// column, or beside 1 where all are parts.
+const OF_BARS = 'bars: parts of the greatest in the column', OF_ALL_BARS = 'bars: parts of 100 %';
+// A table with these heads, [text, tooltip] or a text each; each row has [text, tooltip, size] or a text for each cell. A size is a bar too:
+// a part of 100 % where it is one, else beside the greatest of its column, where there is another to be compared.
 function tableOf(heads, rows) {
   const around = document.createElement('div'), table = document.createElement('table'), head = table.createTHead().insertRow(), body = table.createTBody();
   around.className = 'table';
   around.append(table);
-  for (const text of heads) addCell(head, 'th', text).scope = 'col';
-  const most = heads.map((_, k) => Math.max(1, ...rows.map(cells => [cells[k]].flat()[2] || 0)));
+  const columns = heads.map((_, k) => rows.map(cells => [cells[k]].flat()).filter(([, , size]) => size !== undefined)), isPart = columns.map(ones => ones.some(([text]) => text.endsWith(' %')));
+  const most = columns.map((ones, k) => (isPart[k] ? 1 : ones.length > 1 && Math.max(...ones.map(([, , size]) => size))));
+  heads.map(one => [one].flat()).forEach(([text, title], k) => Object.assign(addCell(head, 'th', text), {scope: 'col', title: [title, isPart[k] ? OF_ALL_BARS : most[k] ? OF_BARS : ''].filter(Boolean).join('; ')}));
   for (const cells of rows) {
     const row = body.insertRow();
     cells.map(cell => [cell].flat()).forEach(([text, title, size], k) => {
       const cell = addCell(row, k ? 'td' : 'th', text);
       if (!k) cell.scope = 'row';
       if (title) cell.title = title;
-      if (size !== undefined) cell.append(barOf(size / most[k]));
+      if (size !== undefined && most[k]) cell.append(barOf(size / most[k]));
     });
   }
   return around;
@@ -54,7 +56,7 @@ function tableOf(heads, rows) {
 class Overview {
   constructor(csv, facts, record) {
     const values = new Map(readFigures(csv).map(({what, number, figure, value}) => [`${what} ${number} ${figure}`, value === '-' ? null : +value]));
-    Object.assign(this, {facts, record, of: (what, number, figure) => values.get(`${what} ${number} ${figure}`)});
+    Object.assign(this, {facts, record, of: (what, number, figure) => values.get(`${what} ${number} ${figure}`), sums: []});
     const flows = d3.range(facts.flows.length);
     this.completed = flows.map(f => this.of('flow', f, 'completed'));
     this.begin = d3.min(facts.flows, ({start}) => start);
@@ -75,19 +77,23 @@ class Overview {
   }
   // The link of a flow's way that was busiest, the first where equal.
   bottleneck(f) { return this.facts.ways[f][0].reduce((best, l) => this.used[l] > this.used[best] ? l : best); }
-  // The part that a flow has of what its bottleneck sent; null where no trace was kept.
+  // The part that a flow has of the bytes that its bottleneck sent; null where no trace was kept.
   share(f) {
     const {record} = this;
     if (!record) return null;
-    const track = record.tracks[this.bottleneck(f)], size = entry => track.size(entry);
-    return d3.sum(track.sent.filter(entry => track.flow[entry] === f), size) / (d3.sum(track.sent, size) || 1);
+    const l = this.bottleneck(f), track = record.tracks[l];
+    if (!this.sums[l]) {
+      this.sums[l] = this.facts.flows.map(() => 0);
+      for (let k = 0, entry; k < track.gone; k++) this.sums[l][track.flow[entry = track.entryOf(k)]] += track.size(entry);
+    }
+    return this.sums[l][f] / (d3.sum(this.sums[l]) || 1);
   }
   // The segments of a flow that were dropped; null where no trace was kept.
   lost(f) { return this.record && this.record.drops.filter(({flow, sort}) => flow === f && sort === DATA).length; }
   words() {
     const {facts, used, begin, end} = this, index = jain(this.compared[0].map(f => this.goodputs[f])), most = used.indexOf(Math.max(...used));
-    return [[`Bottleneck: ${facts.links[most].name}, ${percent(used[most])} utilized in ${seconds(end - begin, 3)}.`, used[most]],
-      [`Jain's index of goodput: ${index === null ? '-' : index.toFixed(4)}, ${ofFlows(this.compared)}.`, index],
+    return [`Bottleneck: ${facts.links[most].name}, ${percent(used[most])} utilized in ${seconds(end - begin, 3)}.`,
+      `Jain's index of goodput: ${index === null ? '-' : index.toFixed(4)}, ${ofFlows(this.compared)}.`,
       ...tooShort(facts, begin, end, this.compared[0], portionsOf(this.record, begin, end))];
   }
   flowRows() {
@@ -111,8 +117,11 @@ class Overview {
   }
 }
 const percent = part => `${(100 * part).toFixed(1)} %`;
-const FLOW_HEADS = ['flow', 'goodput', 'share', 'bottleneck', 'loss', 'timeouts', 'least RTT', 'median RTT', 'complete at'];
-const LINK_HEADS = ['link', 'utilization', 'median wait', '99 % wait', 'most waiting', 'dropped', 'loss'];
+const FLOW_HEADS = ['flow', ['goodput', 'bytes in order at the receiver, a second, from the flow\u2019s start to its completion or the end'], ['share', 'of the bytes that its bottleneck sent'],
+  ['bottleneck', 'the busiest link on its way'], ['loss', 'the part of its segments that was dropped'], ['timeouts', 'how often its retransmission timer ended'],
+  ['least RTT', 'the least round trip that its sender measured'], ['median RTT', 'the median of the round trips that its sender measured'], ['complete at', 'when all its bytes were acknowledged']];
+const LINK_HEADS = ['link', ['utilization', 'the part of the time in which it sends'], ['median wait', 'in its queue'], ['99 % wait', 'the 99th percentile of the wait in its queue'],
+  ['most waiting', 'packets in its queue at most'], ['dropped', 'packets'], ['loss', 'the part of the packets offered to it that was dropped']];
 
 function headOf(text) {
   const head = document.createElement('h2');
@@ -121,7 +130,7 @@ function headOf(text) {
 }
 function folded(words, ...parts) {
   const made = document.createElement('details'), summary = document.createElement('summary');
-  summary.textContent = words;
+  Object.assign(summary, {textContent: words, title: 'shows or folds these tables'});
   made.append(summary, ...parts);
   return made;
 }
@@ -129,10 +138,7 @@ function drawFigures(place, csv, facts, record) {
   const seen = new Overview(csv, facts, record), idle = seen.carriedLittle(), busy = d3.range(facts.links.length).filter(l => !idle.includes(l));
   const said = document.createElement('ul');
   said.className = 'says';
-  for (const [words, part] of seen.words().map(words => [words].flat())) {
-    const row = said.appendChild(Object.assign(document.createElement('li'), {textContent: words}));
-    if (part) row.append(barOf(part));
-  }
+  said.append(...seen.words().map(words => Object.assign(document.createElement('li'), {textContent: words})));
   place.replaceChildren(said, headOf('Flows'), tableOf(FLOW_HEADS, seen.flowRows()), headOf('Links'), tableOf(LINK_HEADS, seen.linkRows(busy)),
     ...(idle.length ? [folded(`${many(idle.length, 'link')} carried less than a tenth of the busiest, and dropped nothing`, tableOf(LINK_HEADS, seen.linkRows(idle)))] : []),
     folded('all figures, as the program counts them', ...wholeTables(csv, facts)));

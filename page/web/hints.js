@@ -1,5 +1,6 @@
 'use strict';
-// Quiet hints behind the numbers of a scenario, and units that are typed: 18ms becomes 18000000 once the cursor leaves it.
+// Quiet hints behind the numbers of a scenario, and units that are typed: 18ms becomes 18000000 once the cursor leaves it, and as a
+// queue's capacity 0.5BDP the packets that this is.
 
 // The places of a statement's numbers that have units, and the reader of what is typed there.
 const TIME = [timeOf, waitText], RATE = [rateOf, rateText], SIZE = [sizeOf, bytes => `${number(bytes)} bytes`];
@@ -31,12 +32,27 @@ function bytesText(bytes) {
   const [scale, unit] = [[1e9, 'GB'], [1e6, 'MB'], [1e3, 'kB']].find(([least]) => bytes >= least) || [1, 'bytes'];
   return `${+(bytes / scale).toPrecision(4)} ${unit}`;
 }
-// The numbers that a line has with units, where each is read: [begin, end, number].
-function unitsTyped(line) {
+// The packets of a capacity that is typed as products, in a text (which a function gives) that is whole but for it; null where it is not,
+// as then no round trip is known.
+function productTyped(text, name, word) {
+  const capacity = Products.of(word);
+  if (!capacity) return null;
+  try {
+    const {links, flows, ways} = factsOf(text().replace(word, '1'), '');
+    return String(Object.assign(new NetText({capacity: [1, Infinity]}), {links, flows}).product(links.findIndex(link => link.name === name), ways, {capacity}));
+  } catch (wrong) {
+    if (!(wrong instanceof TypeError || wrong instanceof RangeError)) throw wrong;
+    return null;
+  }
+}
+// The numbers that a line of a text has with units, where each is read: [begin, end, number].
+function unitsTyped(line, text) {
   const found = [], statement = line.split('#', 1)[0];
-  let k = -1, kind = '';
+  let k = -1, kind = '', name = '';
   for (const {0: word, index} of statement.matchAll(/[^ ]+/g)) {
-    if (!++k) kind = word;
+    if (!++k) kind = word; else if (k === 1) name = word;
+    const product = kind === 'link' && k === 7 && productTyped(text, name, word);
+    if (product) found.push([index, index + word.length, product]);
     const reader = UNITS_OF[kind] && UNITS_OF[kind][k];
     if (!reader || WHOLE_NUMBER.test(word) || !/^\d/.test(word)) continue;
     try {
@@ -79,7 +95,7 @@ class Hints {
   settle(line, ch) {
     const {box} = this, text = box.getLine(line);
     if (text === undefined || box.getOption('readOnly')) return;
-    for (const [begin, end, plain] of unitsTyped(text).reverse())
+    for (const [begin, end, plain] of unitsTyped(text, () => box.getValue()).reverse())
       if (ch < begin || ch > end) box.replaceRange(plain, {line, ch: begin}, {line, ch: end}, '+units');
   }
 }

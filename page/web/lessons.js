@@ -54,20 +54,21 @@ class Lessons {
     made.textContent = text;
     made.dataset[kind] = value;
     made.className = kind;
-    made.title = kind === 'event' ? `to event ${value} of the run` : `opens ${value}.txt`;
+    made.title = kind === 'event' ? `goes to the event of trace line ${value}` : `opens ${value}.txt, and runs it`;
     return made;
   }
-  // A picture, which a press shows as large as the window.
-  async picture(image) {
-    const button = document.createElement('button'), dialog = byId('picture-dialog');
-    Object.assign(button, {className: 'shown-larger', title: 'shows the picture as large as the window'});
+  // A picture has no room here: a press shows it as large as the window, and no smaller than its letters can be read.
+  picture(image) {
+    const {alt, dataset: {picture}} = image, button = document.createElement('button'), dialog = byId('picture-dialog'), large = dialog.querySelector('img');
+    Object.assign(button, {className: 'shown-larger', title: 'shows the picture as large as the window', textContent: `picture: ${alt}`});
     image.replaceWith(button);
-    button.append(image);
-    button.addEventListener('click', () => {
-      Object.assign(dialog.querySelector('img'), {src: image.src, alt: image.alt});
+    button.addEventListener('click', async () => {
+      const src = URL.createObjectURL(new Blob([await bytesOf(document.getElementById(`picture-${picture}`).textContent)], {type: 'image/svg+xml'}));
+      await new Promise(done => { Object.assign(large, {src, alt, onload: done}); });
+      URL.revokeObjectURL(src);
+      const {naturalWidth: wide, naturalHeight: tall} = large;
+      large.style.width = `${Math.max(wide, Math.min(0.92 * innerWidth, 0.86 * innerHeight * wide / tall))}px`;
       dialog.showModal();
     });
-    const packed = document.getElementById(`picture-${image.dataset.picture}`).textContent;
-    image.src = URL.createObjectURL(new Blob([await bytesOf(packed)], {type: 'image/svg+xml'}));
   }
 }

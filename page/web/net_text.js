@@ -69,10 +69,15 @@ class NetText {
     }
     return 0;
   }
-  // The bandwidth-delay product of a link in whole packets, at least one.
-  product(l, ways) {
-    const {rate, name} = this.links[l], packet = BigInt(this.greatestPacket());
-    const packets = Number(BigInt(rate) * BigInt(this.roundTrip(l, ways)) / (packet * BITS_NS)) || 1;
+  // How many flows have their data go over a link, or where none has, their acknowledgements. Mice, which have one segment in flight,
+  // are not counted.
+  flowsOver(l, ways) {
+    const many = ways.filter((_, f) => this.flows[f].rwnd >= 2 * this.flows[f].mss);
+    return [0, 1].map(sort => many.filter(both => both[sort].includes(l)).length).find(Boolean) || 0;
+  }
+  // The packets of a link's queue that is so many bandwidth-delay products.
+  product(l, ways, {capacity} = this.links[l].queue) {
+    const {rate, name} = this.links[l], packets = capacity.packets(rate, this.roundTrip(l, ways), this.greatestPacket(), this.flowsOver(l, ways));
     return within(this.ranges, 'capacity', packets, `the bandwidth-delay product of link ${name}, ${number(packets)} packets,`);
   }
   // Gives each newreno flow a window of 1.25 times what its way holds; answers lines of a comment that say so.
@@ -82,7 +87,7 @@ class NetText {
     this.flows.forEach((flow, f) => {
       if (flow.variant !== 'newreno') return;
       const there = ways[f][0], slowest = there.reduce((best, l) => this.links[l].rate < this.links[best].rate ? l : best);
-      const {rate, queue} = this.links[slowest], room = queue.capacity === null ? this.product(slowest, ways) : queue.capacity;
+      const {rate, queue} = this.links[slowest], room = queue.isProduct ? this.product(slowest, ways) : queue.capacity;
       flow.rwnd = this.boundedWindow(flow, rate, d3.sum(ways[f].flat(), l => this.links[l].delay), room);
       flow.note += ', a window of 1.25 x (BDP + queue)';
     });
@@ -99,7 +104,7 @@ class NetText {
 
   text(end, head) {
     const ways = this.ways(), names = this.nodes.map(node => node.name), note = words => words ? `  # ${words}` : '';
-    const products = this.links.map((link, l) => link.queue.capacity === null ? this.product(l, ways) : 1);
+    const products = this.links.map((link, l) => link.queue.isProduct ? this.product(l, ways) : 1);
     const lines = [...head.map(line => `# ${line}`), `sim ${end}`, '# Nodes.', ...this.nodes.map(node => `node ${node.name} ${node.kind}`),
       '# Links: name, from, to, rate in bit/s, delay in ns, queue.'];
     this.links.forEach((link, l) => lines.push(`link ${link.name} ${names[link.source]} ${names[link.to]} ${link.rate} ${link.delay} ` +

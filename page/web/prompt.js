@@ -1,7 +1,7 @@
 'use strict';
 // The program's debugger: commands are typed, answers stand below each other, and the net goes where the program is. A session
 // is run anew over all commands so far, which gives the same answers, with those of the last command behind them; where that
-// takes too long a worker keeps the session, and waits.
+// takes too long a worker keeps the session, and waits. `time` is answered here, as tcpsim-debug does it.
 
 const SCENARIO_FILE = 'scenario.txt', PROMPT = '(tcpsim) ';
 const QUIT = /^ *q(u(i(t)?)?)? *$/, PLACE = /^at (\d+) of the run/gm;
@@ -17,10 +17,36 @@ function meaningOf(facts, line) {
   return `${seconds(+first)}, ${facts.nodes[second].name}: ${what} ${of}`;
 }
 
+// ---- where the time went
+
+const ASKS_TIME = /^ *time(?: +(\S+))? *$/, HELP_OF_TIME = /^ *h(?:e(?:l(?:p)?)?)? +time *$/, BEHIND = /^why F .*\n/m;       // in the list of help
+const USAGE = 'time [F]     tell where the time of flow F went, in the whole run; alone, a row for each flow\n';
+const inSeconds = ns => `${Math.floor(ns / 1e9)}.${String(ns % 1e9).padStart(9, '0')}`, partOfWhole = (ns, whole) => (100 * ns / (whole || 1)).toFixed(2);
+// Rows below each other, all columns but the last to the right.
+function aligned(rows) {
+  const wide = rows[0].map((_, k) => Math.max(...rows.map(row => row[k].length)));
+  return rows.map(row => `${row.map((word, k) => k < row.length - 1 ? word.padStart(wide[k]) : word).join('  ')}\n`).join('');
+}
+// The parts of a flow's time as tcpsim-time has them; of none a row for each flow, with its greatest part.
+function timeText(record, named) {
+  const {flows} = record.facts, f = flows.findIndex(({name}, k) => name === named || String(k) === named), path = k => new CriticalPath(record, k);
+  if (named && f < 0) return `time: there is no flow ${named}\n`;
+  if (named) {
+    const found = path(f), {time} = found;
+    if (!found.acknowledged) return `time: nothing is acknowledged of ${flows[f].name}\n`;
+    return aligned([['seconds', '%', 'part'], ...found.parts().map(({part, ns}) => [inSeconds(ns), partOfWhole(ns, time), partText(part, flows[f].name)]), [inSeconds(time), '100.00', 'in all']]);
+  }
+  return aligned([['flow', 'seconds', '%', 'greatest part'], ...flows.map(({name}, k) => {
+    const found = path(k), [most] = found.acknowledged ? found.parts() : [];
+    return most ? [name, inSeconds(found.time), partOfWhole(most.ns, found.time), partText(most.part, name)] : [name, '-', '-', '-'];
+  })]);
+}
+
 class Prompt {
-  // `facts` are the scenario's, `go` is given the number of events run, `history` has the lines typed before.
-  constructor(place, engine, text, {facts, go, history}) {
-    Object.assign(this, {engine, go, history, facts, againWithin: AGAIN_WITHIN, commands: [], known: 0, noted: 0, file: toBytes(text), back: 0, draft: '', kept: null});
+  // `record` is of the scenario's run, `go` is given the number of events run, `history` has the lines typed before.
+  constructor(place, engine, text, {record, go, history}) {
+    const {facts} = record;
+    Object.assign(this, {engine, go, history, record, facts, againWithin: AGAIN_WITHIN, commands: [], known: 0, noted: 0, file: toBytes(text), back: 0, draft: '', kept: null});
     place.textContent = '';
     this.said = document.createElement('pre');
     this.said.setAttribute('aria-live', 'polite');
@@ -30,7 +56,8 @@ class Prompt {
     label.textContent = 'tcpsim debug> ';
     this.line = document.createElement('input');
     Object.assign(this.line, {autocomplete: 'off', autocapitalize: 'off', spellcheck: false, placeholder: 'help; stalls; step 3; until 2s; break drop; run; display flow 0'});
-    button.textContent = 'do it';
+    Object.assign(button, {textContent: 'do it', title: 'gives the command to the program (Enter)'});
+    this.line.title = 'a command of the prompt; Tab completes it, and the arrow keys bring earlier ones';
     label.append(this.line);
     form.append(label, button);
     this.completion = new Completion(this.line, command => this.ask(command), facts);
@@ -75,7 +102,7 @@ class Prompt {
     Object.assign(this, {back: 0, draft: ''});
     if (command.trim() && this.history[this.history.length - 1] !== command) this.history.push(command);
     this.completion.draw();
-    const {answer, noted} = await (this.kept ? this.giveKept(command) : this.runAnew(command));
+    const {answer, noted} = await this.answerTo(command);
     this.running = false;
     if (this.over) return;
     this.said.append(`> ${command}\n`, ...this.lines(answer), noted);
@@ -83,6 +110,13 @@ class Prompt {
     this.said.scrollTop = this.said.scrollHeight;
     const places = [...answer.matchAll(PLACE)];
     if (places.length) this.go(+places[places.length - 1][1]);
+  }
+  async answerTo(command) {
+    const time = ASKS_TIME.exec(command);
+    if (time) return {answer: timeText(this.record, time[1]), noted: ''};
+    if (HELP_OF_TIME.test(command)) return {answer: USAGE, noted: ''};
+    const told = await (this.kept ? this.giveKept(command) : this.runAnew(command));
+    return /^ *h(e(l(p)?)?)? *$/.test(command) ? {...told, answer: told.answer.replace(BEHIND, found => found + USAGE)} : told;
   }
   // The lines of an answer, each with what its numbers mean behind it.
   lines(answer) {

@@ -160,5 +160,7 @@ function templateText(shape, fields, ranges) {
   if (last >= given.end) throw new Wrong(`start ${spelledTime(last)} is not before the end, ${spelledTime(given.end)}`);
   const net = new NetText(ranges), head = BUILDERS[shape](net, given);
   net.check();
-  return net.text(given.end, [...head, ...net.boundWindows(), `Written by: ${['tcpsim-net', shape, ...words].join(' ')}`]);
+  return net.text(given.end, [...head, ...net.boundWindows(), `Written by: ${['tcpsim-net', shape, ...words].map(quoted).join(' ')}`]);
 }
+// A word as a shell takes it: Python's shlex.quote.
+const quoted = word => (/^[\w@%+=:,./-]+$/.test(word) ? word : `'${word.replaceAll("'", `'"'"'`)}'`);

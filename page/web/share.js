@@ -32,10 +32,11 @@ async function unpackedText(word) {
   return new Blob(parts).text();
 }
 
-// The fragment of {text, name, lesson, view, event, time, second}; and what a fragment has, null where it is none of these. Texts are
+const NO_SHELF = 'none';                // what is shared of a shelf from which a lesson's sliders were taken
+// The fragment of {text, name, lesson, view, event, time, shelf, second}; and what a fragment has, null where it is none of these. Texts are
 // those of `examples` by their names, or packed. A lesson alone, as #lesson=3, has no text. `second`, {name, text}, is the run beside.
-async function fragmentOf({text, name, lesson, view, event, time, second}, examples = {}) {
-  const given = {lesson, name, view, event, time}, plain = (one, title) => one === undefined || examples[title] === one;
+async function fragmentOf({text, name, lesson, view, event, time, shelf, second}, examples = {}) {
+  const given = {lesson, name, view, event, time, shelf}, plain = (one, title) => one === undefined || examples[title] === one;
   if (!plain(text, name)) given.scenario = await packedText(text);
   if (second) given.beside = second.name;
   if (second && !plain(second.text, second.name)) given.second = await packedText(second.text);
@@ -49,7 +50,7 @@ async function readFragment(fragment, examples = {}, kept = null) {
   const text = kept === null ? await textOf('scenario', 'name') : kept, lesson = whole('lesson');
   if (text === null && !lesson) return null;
   const beside = given.has('beside') ? await textOf('second', 'beside') : null;
-  return {text, name: named('name'), lesson, view: TABS.some(([name]) => name === given.get('view')) ? given.get('view') : 'net', event: whole('event'), time: whole('time'),
+  return {text, name: named('name'), lesson, view: TABS.some(([name]) => name === given.get('view')) ? given.get('view') : 'net', event: whole('event'), time: whole('time'), shelf: given.get('shelf'),
     second: beside === null ? null : {name: named('beside'), text: beside}, runs: given.has('view') || given.has('event')};
 }
 

@@ -5,16 +5,16 @@ const byId = id => document.getElementById(id);
 const dataOf = id => JSON.parse(byId(id).textContent);
 const LAY_AFTER = 60, NOTE_AFTER = 300;         // ms after the last change of size; of what the address says
 const AT_ONCE = 30000, LATE = 100;              // events of a run that is shown while a hand moves; ms after which it is ended for the next
-// The tabs: a name, as the address has it, what it says, the elements in its panel where simulator.html has none, and what is done
-// once it is shown.
+// The tabs: a name, as the address has it, what it says, its tooltip, the elements in its panel where simulator.html has none, and what
+// is done once it is shown.
 const TABS = [
-  ['net', 'curves', [], it => it.page && it.page.panels.make()],
-  ['figures', 'figures', ['figures-table']],
-  ['stalls', 'stalls', ['stall-list'], it => it.stalls && it.stalls.show()],
-  ['time', 'time', ['time-went'], it => it.showTime()],
-  ['trace', 'trace', ['all-lines'], it => it.list && it.list.show(it.page.record.at)],
-  ['debug', 'debugger', ['debugger'], it => it.page && it.page.panels.make()],
-  ['compare', 'compare', [], it => it.compare && it.compare.offer()],
+  ['net', 'curves', 'shows panels over the whole run, and the trace around the moment', [], it => { if (it.page) { it.page.panels.make(); it.page.show(); } }],
+  ['figures', 'figures', 'shows goodput, share, utilization, wait, loss, timeouts, fairness', ['figures-table'], it => it.drawSoon()],
+  ['stalls', 'stalls', 'shows where flows had no new acknowledgement for more than 200 ms, and why', ['stall-list'], it => it.stalls && it.stalls.show()],
+  ['time', 'time', 'shows where the time of a flow went (w)', ['time-went'], it => it.showTime()],
+  ['trace', 'trace', 'shows all lines of the trace, a line an event', ['all-lines'], it => it.list && it.list.show(it.page.record.at)],
+  ['debug', 'debugger', 'takes commands of tcpsim debug, and shows their answers', ['debugger'], it => it.page && it.page.panels.make()],
+  ['compare', 'compare', 'runs two scenarios under one clock, and shows what differs', [], it => it.compare && it.compare.offer()],
 ];
 const isCalm = () => matchMedia('(prefers-reduced-motion: reduce)').matches;
 // Whether all stands below each other, as simulator.css has it.
@@ -29,8 +29,14 @@ class Simulator {
     this.examples = dataOf('examples');
     this.lessons = new Lessons(byId('lesson'), dataOf('lessons'), name => this.openExample(name), event => this.goFromLesson(event));
     this.editor = new Editor(byId('editor'), dataOf('grammar'), null);
-    this.editor.changed = origin => { this.markOld(); this.note(); if (this.explored && /^(undo|redo)$/.test(origin)) this.explore().then(() => this.rest()); };
-    this.drag = new Drag(byId('editor'), this.editor.box, dataOf('templates').ranges, said => this.explore(said), () => this.rest());
+    this.editor.changed = (origin, at) => {
+      if (!this.exploring) this.markOld();
+      this.note();
+      this.shelf.told();
+      if (this.explored && /^(undo|redo)$/.test(origin)) this.explore(this.drag.saidAt(at)).then(() => this.rest());
+    };
+    this.drag = new Drag(byId('editor'), this.editor.box, dataOf('templates').ranges, {moved: said => this.explore(said), rests: () => this.rest(), pins: at => this.pin(at)});
+    this.shelf = new Shelf(byId('shelf'), this, this.drag.ranges);
     this.title = 'scenario';
     this.typed = [];                    // at the debugger's prompt
     this.templates = new TemplateForm(byId('template-dialog'), dataOf('templates'), (text, name) => this.openText(text, name));
@@ -55,6 +61,8 @@ class Simulator {
     };
     group('Lessons', this.lessons.lessons.map(lesson => [`lesson ${lesson.number}`, `${lesson.number}. ${lesson.title}`]));
     group('Examples', Object.keys(this.examples).map(name => [`example ${name}`, name.replace(/_/g, ' ')]));
+    // It says whole what may have no room in it.
+    choose.addEventListener('pointerenter', () => { choose.title = `opens a lesson of the tutorial, or an example, and runs it: ${choose.selectedIndex < 0 ? 'none is chosen' : choose.selectedOptions[0].textContent}`; });
     choose.addEventListener('change', () => {
       const [kind, name] = choose.value.split(' ');
       if (kind === 'lesson') this.openLesson(+name); else { this.lessons.show(null); this.openExample(name); }
@@ -66,12 +74,15 @@ class Simulator {
     byId('choose').value = `lesson ${number}`;
     if (lesson.examples.length) this.openExample(lesson.examples[0]);
   }
+  // It runs at once, and moves unless a lecturer has the keys.
   openExample(name) {
+    const {now} = this.lessons;
     this.endRun();
     this.title = name;
     this.say('');
     this.editor.text = this.examples[name];
-    if (!this.engine) this.showCarried();
+    this.openShelf(now && now.examples.includes(name) ? now.shelf : '');
+    if (this.engine) this.start({plays: !this.lecture.on}); else this.showCarried();
   }
   // Of a file that is too long no more is read than the program needs to say so.
   async openFile(file) {
@@ -103,16 +114,26 @@ class Simulator {
     this.title = title;
     this.say(said);
     this.editor.text = text;
+    this.openShelf('');
     this.lessons.show(null);
     byId('choose').selectedIndex = -1;
+  }
+  // What a lesson, or nobody, put on the shelf; what is shared says only what is other than that.
+  openShelf(words) {
+    this.shelf.open(words);
+    this.shelfGiven = this.shelf.text;
+  }
+  pin(at) {
+    if (!at || at.name === 'lose') this.say(`put the cursor on a number of the scenario, and then add its slider${at ? '; that of a lost packet can have none' : ''}`);
+    else this.shelf.pin(at);
   }
   // An example that differs from a text by its queues alone.
   twinOf(text) {
     const plain = one => [...statementsOf(one)].map(words => (words[0] === 'link' ? words.slice(0, 6) : words).join(' ')).join('\n'), wanted = plain(text);
     return Object.keys(this.examples).find(name => this.examples[name] !== text && plain(this.examples[name]) === wanted);
   }
-  // What a fragment behind the address has: answers whether it had a scenario.
-  async openFragment(fragment = location.hash) {
+  // What a fragment behind the address has, or one that is written into the page: answers whether it had a scenario.
+  async openFragment(fragment = location.hash || document.documentElement.dataset.shared || '') {
     const mine = this.asked = {};
     try {
       const kept = draftOf(fragment), given = await readFragment(fragment, this.examples, kept);
@@ -124,10 +145,12 @@ class Simulator {
         this.openText(given.text, given.name, kept === null ? '' : 'as it was edited');
         this.editor.edited = kept !== null;
         this.lessons.show(lesson || null);
+        if (lesson && this.examples[given.name] === given.text) this.openShelf(lesson.shelf);
         if (lesson) byId('choose').value = `lesson ${lesson.number}`;
       }
       const example = `example ${given.name}`;
       if (!lesson && this.examples[given.name] === given.text) byId('choose').value = example;
+      if (given.shelf !== null) this.shelf.open(given.shelf);
       this.wanted = given.runs ? given : null;
       if (this.engine && this.wanted) await this.showShared(this.wanted);
       return true;
@@ -154,7 +177,8 @@ class Simulator {
   // What is shared of the page as it is: its text, and what is seen of its run, or of two.
   shared() {
     const {text} = this.editor, shown = this.page && this.run.text === text, both = this.view === 'compare' && this.compare ? this.compare.beside(text) : null;
-    return {text, name: this.title, lesson: this.lessons.now && this.lessons.now.number, view: this.view, event: shown ? this.page.record.at : null, ...both};
+    return {text, name: this.title, lesson: this.lessons.now && this.lessons.now.number, view: this.view, event: shown ? this.page.record.at : null,
+      shelf: this.shelf.text === this.shelfGiven ? null : this.shelf.text || NO_SHELF, ...both};
   }
   get view() { return byId('run-side').dataset.view; }
 
@@ -165,6 +189,7 @@ class Simulator {
   }
   async keep() {
     if (this.wanted) return;            // what the address says is not yet shown
+    if (this.exploring) { this.note(); return; }
     const {noting} = this, {view, ...state} = this.shared();
     if (this.run && this.run.text === state.text || state.second) state.view = view;
     let fragment = await fragmentOf(state, this.examples);
@@ -194,6 +219,7 @@ class Simulator {
     this.editor.run = (words, input) => this.engine.run(words, input);
     this.compare = new Compare(byId('both'), this.engine, () => this.texts(), dataOf('templates').ranges, this.mostKept, this.lecture);
     this.enable(false);
+    this.shelf.told();
     const ready = Math.round(performance.now());
     this.editor.judge();
     if (!this.wanted && this.isPlain) await this.start({plays: true});
@@ -213,13 +239,14 @@ class Simulator {
     byId('run').disabled = byId('figures').disabled = running;
     byId('stop').disabled = !running;
     byId('progress').hidden = !running;
+    byId('how-far').textContent = '';
   }
   // The run of an example whose trace the page has.
   async showCarried() {
     const title = this.title, mine = this.run = {text: this.examples[title], title}, packed = byId(`trace-${title}`).textContent;
     const record = new Record(factsOf(this.examples[title], title));
     await fill(record, unpacked(packed), () => {}, () => this.run === mine);
-    if (this.run === mine) this.showRun(record, title);
+    if (this.run === mine) await this.showRun(record, title);
   }
 
   // Says above the net if it is of another text than the editor's.
@@ -257,14 +284,19 @@ class Simulator {
     for await (const piece of run.pieces) parts.push(piece);
     const counted = await run.ended;
     if (this.run !== mine || counted.why || counted.status) return counted;
-    mine.csv = await new Blob(parts).text();
-    this.drawFigures(mine);
+    mine.csv = new TextDecoder().decode(joined(parts));
+    this.shelf.told();
+    this.drawSoon(mine);
     byId('save-figures').disabled = false;
     if (!mine.record) this.showTab('figures');
     return counted;
   }
-  // What is known of the run by now.
-  drawFigures({csv, text, title, record}) { if (csv) drawFigures(byId('figures-table'), csv, factsOf(text, title), this.page && this.page.record === record ? record : null); }
+  // Draws what is known of the run by now, once it is seen.
+  drawSoon(run = this.undrawn) {
+    const {csv, text, title, record} = this.run || {}, seen = this.view === 'figures' && run && run === this.run && csv;
+    this.undrawn = seen ? null : run;
+    if (seen) drawFigures(byId('figures-table'), csv, factsOf(text, title), this.page && this.page.record === record ? record : null);
+  }
   // Keeps the trace, and shows it. Answers what is to be said, '' where there is nothing, null where there were too many events.
   async keepTrace(input, mine, most, wanted) {
     const run = mine.trace = this.engine.start(['run', '--explain'], input, {most, pages: this.mostPages, read: true});
@@ -273,6 +305,7 @@ class Simulator {
     if (!begun) return this.reason(await run.ended);
     let record = mine.record = new Record(factsOf(mine.text, mine.title)), lacks = false;
     const {end} = record.facts, told = (count, time) => {
+      if (!wanted()) return;
       byId('progress').value = time / end;
       byId('how-far').textContent = `${number(count)} events, ${(100 * time / end).toFixed(0)} % of ${seconds(end, 3)}`;
     };
@@ -286,10 +319,11 @@ class Simulator {
     if (!wanted()) return '';
     const ended = await run.ended;
     byId('how-far').textContent = '';
-    if (lacks) { record = mine.record = null; return 'no memory in this page for the trace: figures alone want none'; }
+    if (lacks) { record = mine.record = null; return 'no memory in this page for the trace: a run with the table only needs none'; }
     if (ended.why === 'long') { mine.record = null; return null; }
-    if (record.count) this.showRun(record, mine.title);
-    this.drawFigures(mine);
+    if (record.count) await this.showRun(record, mine.title);
+    if (!wanted()) return '';
+    this.drawSoon(mine);
     return ended.why || ended.status ? `${this.reason(ended)}: what is shown ends at ${seconds(record.times[record.count])}` : '';
   }
   // A run that has more events than are kept unasked.
@@ -306,7 +340,8 @@ class Simulator {
       const counted = await mine.figures.ended;
       if (this.run !== mine) return;
       this.enable(false);
-      this.say(counted.why || counted.status ? this.reason(counted) : `figures alone, in ${((performance.now() - mine.begun) / 1000).toFixed(2)} s`);
+      this.showTab('figures');
+      this.say(counted.why || counted.status ? this.reason(counted) : `the table only, in ${((performance.now() - mine.begun) / 1000).toFixed(2)} s`);
     };
     dialog.showModal();
   }
@@ -345,13 +380,14 @@ class Simulator {
       await this.exploreOnce();
     }
     this.exploring = null;
+    this.markOld();
   }
   endExploring() {
     this.again = this.isLong = false;
     if (this.exploring) this.exploring.end();
     this.exploring = null;
   }
-  // Figures and trace, side by side; of a long run the figures alone.
+  // Figures and trace, side by side; of a long run the figures only.
   async exploreOnce() {
     const text = this.editor.text, input = toBytes(text), {title, mostPages: pages} = this;
     const figures = this.engine.start(['figures'], input, {pages}), trace = this.engine.start(['run'], input, {most: AT_ONCE, pages, read: true});
@@ -369,17 +405,18 @@ class Simulator {
       return;
     }
     if (this.exploring !== mine) return;        // another scenario was opened, or is run
-    const run = this.run = {text, title, begun: mine.begun, csv: await new Blob(parts).text(), record: this.isLong || read.why || read.status ? null : record};
-    if (run.record) { this.replaceRun(run.record); this.markOld(); }
-    this.drawFigures(run);
+    const run = this.run = {text, title, begun: mine.begun, csv: new TextDecoder().decode(joined(parts)), record: this.isLong || read.why || read.status ? null : record};
+    if (run.record) await this.replaceRun(run.record);
+    if (this.run !== run) return;
+    this.drawSoon(run);
     byId('save-figures').disabled = false;
-    this.say(`${this.explored}${this.isLong ? ': figures alone, until the hand rests' : ''}`);
+    this.say(`${this.explored}${this.isLong ? ': figures only, until the hand rests' : ''}`);
     document.documentElement.dataset.explored = +(document.documentElement.dataset.explored || 0) + 1;
   }
   // Another run of the same net stands where this one does, at the same moment.
-  replaceRun(record) {
+  async replaceRun(record) {
     const names = ({nodes, links, flows}) => [nodes, links, flows].map(ones => ones.map(({name}) => name).join(' ')).join('\n');
-    if (!this.page || names(this.page.facts) !== names(record.facts)) { this.showRun(record, this.title); return; }
+    if (!this.page || names(this.page.facts) !== names(record.facts)) { await this.showRun(record, this.title); return; }
     this.page.replace(record);
     if (this.view === 'time') this.showTime();
   }
@@ -405,27 +442,36 @@ class Simulator {
     if (this.list) this.list.end();
     if (this.prompt) this.prompt.end();
     if (this.stalls) this.stalls.end();
-    this.page = this.list = this.prompt = this.stalls = window.page = null;
-    for (const id of ['tab-net', ...TABS.flatMap(([, , ids]) => ids)]) byId(id).textContent = '';
+    this.page = this.list = this.prompt = this.stalls = this.building = window.page = null;
+    for (const id of ['tab-net', ...TABS.flatMap(([, , , ids]) => ids)]) byId(id).textContent = '';
     byId('save-trace').disabled = byId('save-figures').disabled = true;
     byId('progress').value = 0;
+    this.markOld();         // its words take room above the net
   }
-  showRun(record, title) {
+  // Part by part, and not seen before all is there; a newer run ends it.
+  async showRun(record, title) {
+    const {run} = this, mine = this.building = {}, place = byId('tab-net');
     if (this.page) this.page.end();
     if (this.prompt) this.prompt.end();
+    this.page = window.page = null;
     this.showTab('net');
-    const place = byId('tab-net');
-    place.textContent = '';
-    place.append(byId('view').content.cloneNode(true));
+    place.classList.add('building');
+    place.replaceChildren(byId('view').content.cloneNode(true));
     this.lecture.addKeys(place.querySelector('#keys'));
     this.lessons.putHead(place.querySelector('h1'), title);
-    this.page = window.page = new Page(record, {told: () => this.note(), causes: 'the tab stalls says why', openTime: () => this.openTime()});
-    this.showPanels();
-    this.lecture.arrange();
+    const page = await Page.of(record, {wanted: () => this.building === mine && this.run === run, choose: panels => this.choosePanels(panels), fold: this.lecture.folds(record.facts),
+      told: () => this.note(), moved: at => { if (this.view === 'trace' && this.list) this.list.show(at); }, causes: () => (this.lecture.on ? 'w says why' : 'the tab stalls says why'), openTime: () => this.openTime()});
+    if (this.building !== mine) return;
+    this.building = null;
+    place.classList.remove('building');
+    if (!page) { place.textContent = ''; return; }
+    this.page = window.page = page;
+    if (this.view !== 'net') this.showTab(this.view);
     this.markOld();
+    this.shelf.told();
     this.showParts(record);
-    // Where all stands below each other, the run is brought into view.
-    if (document.documentElement.dataset.ready && isNarrow()) byId('run-side').scrollIntoView();
+    // Where all stands below each other, the run is brought into view, behind its lesson where there is one.
+    if (document.documentElement.dataset.ready && isNarrow()) byId(byId('lesson').hidden ? 'run-side' : 'lesson').scrollIntoView();
   }
   // What is in the other tabs.
   showParts(record) {
@@ -435,7 +481,7 @@ class Simulator {
     byId('save-trace').disabled = false;
     if (!this.engine) return;
     this.stalls = new StallList(byId('stall-list'), this.engine, this.run.text, record, stall => this.goToStall(stall));
-    this.prompt = new Prompt(byId('debugger'), this.engine, this.run.text, {facts: record.facts, go: event => this.goTo(event), history: this.typed});
+    this.prompt = new Prompt(byId('debugger'), this.engine, this.run.text, {record, go: event => this.goTo(event), history: this.typed});
   }
   // Of which proof the program is, and the licenses of what the page has besides.
   showAbout() {
@@ -454,20 +500,18 @@ ${dataOf('licenses').join('\n\n')}`;
     byId('about-dialog').showModal();
   }
   goTo(event) {
-    if (!this.page) return;
-    this.page.jump(event);
-    this.list.show(this.page.record.at);
+    if (this.page) this.page.jump(event);
   }
   goToStall({event, flow, from, to}) {
     this.showTab('net');
     this.goTo(event);
-    this.page.say(`${this.page.facts.flows[flow].name}: no new acknowledgement for ${seconds(to - from)}`);
+    this.page.say(`${this.page.facts.flows[flow].name}: ${to === undefined ? 'the retransmission timer ends' : `no new acknowledgement for ${seconds(to - from)}`}`);
   }
   goFromLesson(event) {
-    if (!this.page) { this.say('run the scenario first: then a line of the text leads to its event'); return; }
+    if (!this.page) { this.say('run the scenario first: then a trace line that the lesson names leads to its event'); return; }
     this.showTab('net');
     this.goTo(event);
-    byId('run-side').scrollIntoView({block: 'nearest'});
+    byId('net-room').scrollIntoView({block: 'nearest'});
   }
   showTab(name) {
     for (const tab of document.querySelectorAll('[role=tab]')) {
@@ -481,7 +525,7 @@ ${dataOf('licenses').join('\n\n')}`;
     byId('tab-net').hidden = name === 'compare';
     byId('run-side').dataset.view = name;
     this.note();
-    const [, , , shown] = TABS.find(([one]) => one === name);
+    const [, , , , shown] = TABS.find(([one]) => one === name);
     if (shown) shown(this);
   }
   // Where the time went: in a tab of its own, and in a lecture in the panel's place.
@@ -492,15 +536,17 @@ ${dataOf('licenses').join('\n\n')}`;
     this.page.showTime(this.went);
   }
   // The panels that carry the lesson; in a lecture the first of them alone.
-  showPanels() {
-    const {now} = this.lessons, {panels} = this.page, named = now && now.examples.includes(this.run.title) ? now.panels : [];
-    if (named.length) panels.choose(named);
+  showPanels() { this.choosePanels(this.page.panels); if (!this.lecture.on) this.page.panels.make(); }
+  choosePanels(panels) {
+    const {now} = this.lessons, named = now && now.examples.includes(this.run.title) ? now.panels : [];
+    if (named.length) panels.name(named);
+    if (this.lecture.on) panels.name([panels.shown[0]]);
     this.lecture.choose(panels.shown[0]);
   }
   // What is shown of a run is laid out anew where its room has changed.
   laySoon() {
     clearTimeout(this.laying);
-    this.laying = setTimeout(() => { if (this.page && byId('net').clientWidth) this.page.lay(); }, LAY_AFTER);
+    this.laying = setTimeout(() => { if (this.building) { this.laySoon(); return; } if (this.page && byId('net').clientWidth) this.page.lay(); this.shelf.draw(); }, LAY_AFTER);
   }
 
   // ---- buttons and keys
@@ -510,6 +556,7 @@ ${dataOf('licenses').join('\n\n')}`;
     on('run', () => this.start({plays: true}));
     on('figures', () => this.start({trace: false}));
     on('stop', () => this.stop());
+    on('pin', () => { const {line, ch} = this.editor.box.getCursor(); this.pin(this.drag.found(line, ch)); });
     on('template-open', () => byId('template-dialog').showModal());
     on('open', () => file.click());
     file.addEventListener('change', () => { if (file.files[0]) this.openFile(file.files[0]); file.value = ''; });
@@ -517,15 +564,16 @@ ${dataOf('licenses').join('\n\n')}`;
     on('share-open', () => this.share.open());
     on('about-open', () => this.showAbout());
     on('about-close', () => byId('about-dialog').close());
+    on('picture-close', () => byId('picture-dialog').close());
     for (const choice of ['figures', 'keep', 'leave']) on(`ask-${choice}`, () => byId('ask').close(choice));
     const keys = this.editor.box.getOption('extraKeys'), runs = () => byId('run').click();
-    this.editor.box.setOption('extraKeys', {...keys, 'Ctrl-Enter': runs, 'Cmd-Enter': runs});
+    this.editor.box.setOption('extraKeys', {...keys, 'Ctrl-Enter': runs, 'Cmd-Enter': runs, 'Alt-P': () => byId('pin').click()});
     this.listen();
   }
   makeTabs() {
-    const tabs = TABS.map(([name, says, ids]) => {
+    const tabs = TABS.map(([name, says, title, ids]) => {
       const tab = document.createElement('button'), panel = byId(`tab-${name}`) || byId('run-side').appendChild(document.createElement('div'));
-      Object.assign(tab, {textContent: says, id: `of-${name}`, role: 'tab'});
+      Object.assign(tab, {textContent: says, title, id: `of-${name}`, role: 'tab'});
       tab.dataset.tab = name;
       tab.setAttribute('aria-controls', panel.id = `tab-${name}`);
       panel.setAttribute('role', 'tabpanel');

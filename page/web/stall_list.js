@@ -1,14 +1,15 @@
 'use strict';
 // Where flows stalled, the longest first, and why: spans without a new acknowledgement, as tcpsim-stalls has them, each with what the
-// program's own session answers to `why` in its midst.
+// program's own session answers to `why` in its midst. Below them, the timeouts that are in no stall.
 
 const MOST_ASKED = 200;                 // stalls for which the program is asked, the longest
+const MOST_TIMEOUTS = 10;               // in no stall, that are named
 
 // The spans in which all packets of a flow that were in the net were at one link, and one of them waited: [begin, end, link].
 function waitsOf(record, f) {
   const {facts} = record, moves = [], ways = [...new Set(facts.ways[f].flat())];
   for (const l of ways) {
-    const track = record.tracks[l], turns = new Map(Array.from(track.sent, (entry, k) => [entry, k]));
+    const track = record.tracks[l], turns = new Map(d3.range(track.gone).map(k => [track.entryOf(k), k]));
     const dropped = record.drops.filter(({link, flow, reason}) => link === l && flow === f && reason === 'codel');
     track.flow.forEach((flow, entry) => {
       if (flow !== f) return;
@@ -63,7 +64,13 @@ function causeOf(record, {flow: f, event, from, to}, queue) {
   if (ack) return 'an acknowledgement was lost';
   if (isLost) return 'fast retransmit took a round trip';
   const end = record.eventsBefore(to), alarm = delack && matters(delack) && d3.range(event + 1, end + 1).some(at => ofFlow(at, 'delack'));
-  return alarm ? 'a delayed acknowledgement was waited for' : 'the way is longer';
+  return alarm ? 'a delayed acknowledgement was waited for' : 'the round trip took longer';
+}
+// The timeouts that are in no stall, as una rose shortly before and after: {event, flow} each.
+function otherTimeouts(record) {
+  const begins = new Set(record.stalls.map(({flow, event}) => `${flow} ${event}`));
+  return record.timeouts.map((event, k) => ({event, flow: +record.line(event).split(' ')[6], since: record.first + record.timerEnds[k].since}))
+    .filter(({flow, since}) => !begins.has(`${flow} ${since}`));
 }
 // What the program says that the flow waits for.
 function foundIn(answer) {
@@ -85,7 +92,7 @@ class StallList {
     this.drawn = true;
     const {stalls, record} = this, asked = stalls.slice(0, MOST_ASKED).sort((one, two) => one.event - two.event);
     this.say(stalls.length ? 'the program is asked' : 'No stall: no flow was without a new acknowledgement for more than 200 ms.');
-    if (!stalls.length) return;
+    if (!stalls.length) { this.sayOthers(); return; }
     const commands = asked.map(({flow, from, to}) => `goto ${record.eventsBefore((from + to) / 2)}\nwhy ${flow}\n`).join('');
     const {bytes, note, why} = await this.engine.run(['debug', SCENARIO_FILE], toBytes(commands), {files: new Map([[SCENARIO_FILE, toBytes(this.text)]])});
     if (this.over) return;
@@ -94,7 +101,25 @@ class StallList {
     if (why || answers.length !== asked.length) { this.say(why || note.trim()); return; }
     this.draw(new Map(asked.map((stall, k) => [stall, answers[k]])));
   }
-  say(words) { this.place.replaceChildren(Object.assign(document.createElement('p'), {textContent: words})); }
+  say(...words) {
+    const said = document.createElement('p');
+    said.append(...words);
+    this.place.replaceChildren(said);
+  }
+  // Says which timeouts the figures count and no stall has.
+  sayOthers() {
+    const {record, place} = this, others = otherTimeouts(record), said = document.createElement('p');
+    if (!others.length) return;
+    said.append(`${many(others.length, 'timeout')} ${others.length === 1 ? 'is in no stall but in a shorter span' : 'are in no stall but in shorter spans'}: `);
+    others.slice(0, MOST_TIMEOUTS).forEach((one, k) => {
+      const button = Object.assign(document.createElement('button'), {textContent: `${record.facts.flows[one.flow].name} at ${seconds(record.timeOf(one.event), 9)}`, title: `goes to event ${number(one.event)}`});
+      button.addEventListener('click', () => this.go(one));
+      said.append(k ? ', ' : '', button);
+    });
+    if (others.length > MOST_TIMEOUTS) said.append(`, and ${others.length - MOST_TIMEOUTS} more`);
+    said.append('. A NewReno sender\u2019s timer goes on while partial acknowledgements come (RFC 6582 section 3.2).');
+    place.append(said);
+  }
   // The cause of a stall, and what was found.
   why(stall, answer) {
     const {flow} = stall, {record, waits} = this, {links} = record.facts;
@@ -104,18 +129,19 @@ class StallList {
   }
   draw(answers) {
     const {record, stalls} = this, {flows} = record.facts;
-    this.say(`${many(stalls.length, 'stall')} of more than 200 ms without a new acknowledgement. What each flow waited for is the program\u2019s answer to \`why\` in the ` +
-      'midst of the stall; tcpsim-stalls tells nine causes apart.');
-    const table = tableOf(['flow', 'from', 'length', 'cause', 'found'], stalls.map(stall => [flows[stall.flow].name, [seconds(stall.from, 3), `${number(stall.from)} ns`],
+    this.say(`${many(stalls.length, 'stall')} of more than 200 ms without a new acknowledgement. What each flow waited for is the program\u2019s answer to `,
+      Object.assign(document.createElement('code'), {textContent: 'why'}), ' in the midst of the stall; tcpsim-stalls tells nine causes apart.');
+    const table = tableOf(['flow', 'from', 'length', ['cause', 'in the words of tcpsim-stalls'], ['found', 'what the program answers to why; its lines are those of the trace']], stalls.map(stall => [flows[stall.flow].name, [seconds(stall.from, 3), `${number(stall.from)} ns`],
       [waitText(stall.to - stall.from), `${number(stall.to - stall.from)} ns`],
       ...(answers.has(stall) ? this.why(stall, answers.get(stall)) : ['-', `only the longest ${MOST_ASKED} are asked about`])]));
     table.querySelectorAll('tbody tr').forEach((row, k) => {
       const button = document.createElement('button');
       button.textContent = row.cells[0].textContent;
-      button.title = `to event ${number(stalls[k].event)}, with which it begins`;
+      button.title = `goes to event ${number(stalls[k].event)}, with which it begins`;
       row.cells[0].replaceChildren(button);
       row.addEventListener('click', () => this.go(stalls[k]));
     });
     this.place.append(table);
+    this.sayOthers();
   }
 }

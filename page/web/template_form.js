@@ -44,6 +44,7 @@ class TemplateForm {
       hint.id = `hint-${name}`;
       hint.textContent = this.facts.help[name];
       input.setAttribute('aria-describedby', hint.id);
+      input.title = hint.textContent;
       label.append(LABELS[name] || name, input);
       this.fields.append(label, hint);
     }

@@ -12,30 +12,32 @@ class TraceList {
     this.box.tabIndex = 0;
     this.box.setAttribute('role', 'region');
     this.box.setAttribute('aria-label', 'all lines of the trace; the arrow keys go from line to line');
+    this.heads = Object.assign(document.createElement('div'), {className: 'heads'});
     this.space = document.createElement('div');
     this.seen = document.createElement('div');
     this.seen.className = 'seen';
     this.space.append(this.seen);
-    this.box.append(this.space);
+    this.box.append(this.heads, this.space);
     const find = document.createElement('form'), word = this.word = document.createElement('input');
     word.type = 'search';
     word.placeholder = 'find words, as drop=full';
     word.setAttribute('aria-label', 'words of a line');
-    const button = document.createElement('button');
-    button.textContent = 'find next';
+    word.title = 'words of a line, exact or as it is shown';
+    const button = Object.assign(document.createElement('button'), {textContent: 'find next', title: 'goes to the next line of the trace that has these words'});
     this.told = document.createElement('output');
     const exact = document.createElement('label'), box = this.exact = document.createElement('input');
     box.type = 'checkbox';
     box.addEventListener('change', () => this.draw());
-    exact.append(box, ' exact lines');
-    exact.title = 'the lines as the program writes them; a line\u2019s tooltip has it too';
+    exact.append(box, ' lines as the program writes them');
+    exact.title = 'shows each line exactly as it is in the trace: numbers instead of names, times in ns; a line\u2019s tooltip has it too';
     find.append(word, button, exact, this.told);
     find.addEventListener('submit', event => { event.preventDefault(); this.find(word.value); });
     place.append(find, this.box);
     this.tall = Math.min(MOST_TALL, record.count * LINE);
     this.space.style.height = `${this.tall}px`;
     this.box.addEventListener('scroll', () => this.draw());
-    this.sized = new ResizeObserver(() => this.draw());
+    // Where the present line was seen it stays so.
+    this.sized = new ResizeObserver(() => { if (this.rows.some(row => !row.hidden && row.dataset.event === String(this.at))) this.show(this.at); else this.draw(); });
     this.sized.observe(this.box);
     this.box.addEventListener('keydown', event => this.key(event));
     this.box.addEventListener('click', event => {
@@ -51,14 +53,16 @@ class TraceList {
     this.go(Math.min(this.record.last, Math.max(this.record.first + 1, this.at + by)));
   }
   end() { this.sized.disconnect(); this.searching = null; }
-  // The first line that is seen, and how many are.
-  get room() { return Math.max(1, Math.ceil(this.box.clientHeight / LINE)); }
+  // The height below the heads; the first line that is seen there, and how many are.
+  get high() { return this.box.clientHeight - LINE; }
+  get room() { return Math.max(1, Math.ceil(this.high / LINE)); }
   get top() {
-    const most = Math.max(1, this.tall - this.box.clientHeight);
+    const most = Math.max(1, this.tall - this.high);
     return Math.round(Math.min(1, this.box.scrollTop / most) * Math.max(0, this.record.count - this.room));
   }
   draw() {
     const {record, top} = this, many = Math.min(this.room, record.count);
+    this.heads.textContent = this.exact.checked ? EXACT_HEADS : inColumns(this.wide, HEADS);
     while (this.rows.length < many) this.rows.push(this.seen.appendChild(document.createElement('div')));
     this.seen.style.transform = `translateY(${Math.min(this.box.scrollTop, Math.max(0, this.tall - many * LINE))}px)`;
     this.rows.forEach((row, k) => {
@@ -77,7 +81,7 @@ class TraceList {
     const k = event - this.record.first - 1, {top, room} = this;
     if (k < top || k >= top + room - 1) {
       const most = Math.max(1, this.record.count - room), wanted = Math.max(0, Math.min(most, k - (room >> 1)));
-      this.box.scrollTop = wanted / most * Math.max(0, this.tall - this.box.clientHeight);
+      this.box.scrollTop = wanted / most * Math.max(0, this.tall - this.high);
     }
     this.draw();
   }
@@ -90,13 +94,13 @@ class TraceList {
     for (let k = 0; k < count; k++) {
       const event = record.first + (start - record.first + k) % count + 1;
       const line = record.line(event);
-      if (line.includes(text) || readable(record.facts, line, this.wide).includes(text)) { this.told.textContent = `line ${number(event)}`; this.go(event); return; }
+      if (line.includes(text) || readable(record.facts, line, this.wide).includes(text)) { this.told.textContent = `trace line ${number(event)}`; this.go(event); return; }
       if (k % 64 || performance.now() - begun < TURN) continue;
-      this.told.textContent = `looked at ${number(k)} lines`;
+      this.told.textContent = `looked at ${number(k)} lines of the trace`;
       await pause();
       if (this.searching !== token) return;
       begun = performance.now();
     }
-    this.told.textContent = `no line has ${text}`;
+    this.told.textContent = `no line of the trace has ${text}`;
   }
 }

@@ -30,7 +30,7 @@ function countOf(word) {
 const rateOf = word => amountOf(word, RATE_WORDS, 'rate', '10M (units k, M, G of bit/s)');
 const sizeOf = word => amountOf(word, RATE_UNITS, 'size', '64k (bytes; units k, M, G)');
 const READERS = {end: timeOf, rate: rateOf, delay: timeOf, capacity: countOf, target: timeOf, interval: timeOf, maxpacket: sizeOf,
-  segments: countOf, start: timeOf};
+  segments: countOf, start: timeOf, mss: sizeOf, rwnd: sizeOf, delack: timeOf};
 
 // ---- as words again
 
@@ -53,19 +53,42 @@ const numberOf = (ranges, name, word) => within(ranges, name, READERS[name](word
 
 // ---- queues
 
-// A link's queue. The capacity is null where it is to be the bandwidth-delay product, CoDel's maxpacket where it is to be the
-// greatest packet.
+// A queue's capacity as so many bandwidth-delay products of its link, or by the root of how many flows send over it.
+const PRODUCTS = /^(?:([0-9]{1,6})(?:\.([0-9]{1,6}))?)?BDP(\/sqrt\(n\))?$/;
+class Products {
+  constructor(whole, digits, root) { Object.assign(this, {times: BigInt(whole + digits), parts: 10n ** BigInt(digits.length), root}); }
+  static of(word) {
+    const found = PRODUCTS.exec(word);
+    return found && new Products(found[1] || '1', found[2] || '', Boolean(found[3]));
+  }
+  toString() { return `${this.times === this.parts ? '' : +(Number(this.times) / Number(this.parts)).toPrecision(6)}BDP${this.root ? '/sqrt(n)' : ''}`; }
+  // The whole packets that this is, at least one, of a rate in bit/s, a round trip in ns, bytes of a packet, and how many flows.
+  packets(rate, trip, packet, flows) {
+    const held = this.times * BigInt(rate) * BigInt(trip), part = this.parts * BigInt(packet) * BITS_NS;
+    return Number(this.root ? rootOf(held * held / (part * part * BigInt(Math.max(1, flows)))) : held / part) || 1;
+  }
+}
+// The whole square root.
+function rootOf(square) {
+  let root = BigInt(Math.floor(Math.sqrt(Number(square))));
+  while (root * root > square) root -= 1n;
+  while ((root + 1n) * (root + 1n) <= square) root += 1n;
+  return root;
+}
+
+// A link's queue. The capacity can be Products, CoDel's maxpacket is null where it is to be the greatest packet.
 class Queue {
   constructor(kind, capacity, target = 0, interval = 0, maxpacket = null) { Object.assign(this, {kind, capacity, target, interval, maxpacket}); }
+  get isProduct() { return this.capacity instanceof Products; }
   toString() {
-    if (this.kind === 'droptail') return `droptail:${this.capacity === null ? 'BDP' : this.capacity}`;
+    if (this.kind === 'droptail') return `droptail:${this.capacity}`;
     const times = `codel:${spelledTime(this.target)}:${spelledTime(this.interval)}`;
     if (this.maxpacket !== null) return `${times}:${this.capacity}:${this.maxpacket}`;
     return this.capacity === CODEL_LIMIT ? times : `${times}:${this.capacity}`;
   }
   // The words of a link's statement from the kind on, of the greatest packet in bytes and the product in packets.
   words(packet, product) {
-    const capacity = this.capacity === null ? product : this.capacity;
+    const capacity = this.isProduct ? product : this.capacity;
     if (this.kind === 'droptail') return `droptail ${capacity}`;
     return `codel ${capacity} ${this.target} ${this.interval} ${this.maxpacket === null ? packet : this.maxpacket}`;
   }
@@ -77,11 +100,11 @@ function queueOf(ranges, word) {
     return Number(packets);
   };
   let read = null;
-  if (kind === 'droptail' && rest.length === 1) read = new Queue(kind, rest[0] === 'BDP' ? null : limit(rest[0]));
+  if (kind === 'droptail' && rest.length === 1) read = new Queue(kind, Products.of(rest[0]) || limit(rest[0]));
   else if (kind === 'codel' && rest.length >= 2 && rest.length <= 4)
     read = new Queue(kind, rest.length > 2 ? limit(rest[2]) : CODEL_LIMIT, timeOf(rest[0]), timeOf(rest[1]), rest.length > 3 ? sizeOf(rest[3]) : null);
   else throw new Wrong(`'${word}' is no queue: write droptail:N, droptail:BDP or codel:TARGET:INTERVAL[:LIMIT[:MAXPACKET]]`);
-  if (read.capacity !== null) within(ranges, 'capacity', read.capacity);
+  if (!read.isProduct) within(ranges, 'capacity', read.capacity);
   if (kind === 'codel') {
     within(ranges, 'target', read.target);
     within(ranges, 'interval', read.interval);

@@ -1,0 +1,109 @@
+#!/usr/bin/env python3
+"""Tests of how a run is shown in the page with the simulator, part by part: python3 -m pytest dev/test_page_speed.py. No task of the page's
+own thread is long, and no frame has parts of two runs.
+"""
+import json
+import os
+import sys
+
+import pytest
+
+sys.path.insert(0, os.path.dirname(os.path.abspath(__file__)))
+import page_cases
+from test_page_explore import dumbbell, opened as opens
+
+pytest_plugins = 'page_fixtures'
+pytestmark = pytest.mark.built
+
+LONGEST = 60            # ms that a task may take of a processor: it takes 15, and took 120 when a run was shown in one
+RUN = '--flows', '2', '--rate', '50M', '--rtt', '20ms', '--queue', 'droptail:50', '--end', '2400ms'
+# What is seen of a run: in the net, the panels, the clock and the lines; null where nothing is.
+SEEN = '''(() => {
+  const all = css => [...document.querySelectorAll(css)].map(it => it.textContent + (it.getAttribute('d') || '')).join('|');
+  return document.getElementById('replay') && getComputedStyle(document.getElementById('replay')).visibility === 'visible' ?
+    ['#net .node .name, #net .queue > title', '#charts .outline, #flows', '#where', '#lines li:not([hidden])'].map(all) : null;
+})()'''
+# What each frame shows until a script is done.
+FRAMES = '''(async () => {
+  const seen = [], look = () => ''' + SEEN + ''';
+  let goes = true;
+  const frame = () => { seen.push(look()); if (goes) requestAnimationFrame(frame); };
+  requestAnimationFrame(frame);
+  await (%s)();
+  await new Promise(done => setTimeout(done, 300));
+  goes = false;
+  return [...new Map(seen.map(it => [JSON.stringify(it), it])).values()];
+})()'''
+# A run is begun; while it is built another scenario is opened, and run.
+IN_BETWEEN = '''async () => {
+  const place = document.getElementById('tab-net');
+  let second = null, parts = 0;
+  const watch = new MutationObserver(() => {
+    if (second || !place.classList.contains('building') || ++parts < %d) return;
+    simulator.openText(%s, 'second');
+    second = simulator.start();
+  });
+  watch.observe(place, {subtree: true, childList: true, attributes: true});
+  await simulator.start();
+  await second;
+  watch.disconnect();
+  page.play(false);
+}'''
+
+
+@pytest.fixture
+def texts():
+    """Two scenarios with other nodes, links and flows."""
+    return [page_cases.read('examples', f'{name}.txt').decode() for name in ('bufferbloat', 'two_flows_share_fairly')]
+
+
+def shown(browser, text):
+    """What is seen of a scenario's run that is shown alone."""
+    opens(browser, text)
+    browser.value('simulator.start().then(() => page.play(false))')
+    return browser.json(SEEN)
+
+
+def test_no_task_is_long_after_a_run(chromium):
+    """By the processor's time of the page's own thread, of a run of 30,000 events."""
+    chromium.size(1400, 900)
+    opens(chromium, dumbbell(*RUN))
+    chromium.value('simulator.start()')                 # its code is compiled
+    chromium.value('new Promise(done => setTimeout(done, 500))')
+    events, _, longest = chromium.longest_task('simulator.start().then(() => new Promise(done => setTimeout(done, 500))).then(() => page.record.count)')
+    assert 25_000 < events <= 30_000
+    assert 1000 * longest < LONGEST
+
+
+@pytest.mark.parametrize('parts', [1, 4, 8])
+def test_no_frame_has_parts_of_two_runs(browser, texts, parts):
+    """A newer run that comes while an older one is built ends that."""
+    browser.size(1400, 900)
+    first, second = (shown(browser, text) for text in texts)
+    assert first and second and all(one != two for one, two in zip(first, second))
+    opens(browser, texts[0])
+    frames = browser.json(FRAMES % (IN_BETWEEN % (parts, json.dumps(texts[1]))))
+    assert [it for it in frames if it not in (None, first, second)] == []
+    assert frames[-1] == second and first not in frames
+    assert browser.value('!document.getElementById("tab-net").classList.contains("building") && simulator.list.record === page.record')
+
+
+@pytest.mark.parametrize('link, word, event', [('a', 7, 4000), ('sp', 4, 0)], ids=['capacity', 'rate'])
+def test_no_frame_of_a_drag_has_parts_of_two_runs(browser, texts, link, word, event):
+    """The run before stays until the next is there, whole: in the net that stays, and in one that is drawn anew."""
+    browser.size(1400, 900)
+    opens(browser, texts[0])
+    browser.value('simulator.start().then(() => { page.play(false); page.goEvent(%d); })' % event)
+    at = f'const {{box}} = simulator.editor, line = simulator.editor.text.split("\\n").findIndex(it => it.startsWith("link {link} ")); box.setCursor({{line, ch: [...box.getLine(line).matchAll(/[^ ]+/g)][{word}].index}});'
+    move = f'async () => {{ {at} for (let k = 0; k < 3; k++) {{ simulator.drag.key(1); while (simulator.exploring) await new Promise(done => setTimeout(done, 20)); window.steps.push({SEEN}); }} }}'
+    browser.value(f'window.steps = [{SEEN}]')
+    frames = browser.json(FRAMES % move)
+    steps = browser.json('window.steps')
+    assert len({json.dumps(it) for it in steps}) == 4
+    assert [it for it in frames if it not in steps] == []
+    # A run before had other lines of the same numbers.
+    assert browser.json("[...document.querySelectorAll('#lines li[data-event]')].filter(it => it.title !== page.record.line(+it.dataset.event)).length") == 0
+
+
+if __name__ == '__main__':
+    sys.exit(pytest.main([__file__, '-q', *sys.argv[1:]]))
