@@ -44,16 +44,17 @@ class Breakdown:
     def against_alone(self) -> str:
         """How long it takes alone and here, and behind whose packets it waits longest."""
         waits = [row for row in self.rows() if row.part.kind == QUEUE and row.part.behind != self.name and row.ns]
-        words = f'alone {self.alone.time / 1e9:.6f} s, here {self.path.time / 1e9:.6f} s'
+        words = f'alone {self.alone.time / 1e9 if self.alone else 0:.6f} s, here {self.path.time / 1e9:.6f} s'
         if waits:
             words += f'; {waits[0].ns / 1e9:.6f} s of it behind packets of {waits[0].part.behind} in the queue of {waits[0].part.at}'
         return words
 
     def table(self) -> list[tuple[str, ...]]:
         """Its parts in words, titles first and the whole last: seconds, percent, the seconds alone where they are known, the part."""
-        rows = [('seconds', '%', 'alone', 'part'),
+        rows: list[tuple[str, ...]] = [
+                ('seconds', '%', 'alone', 'part'),
                 *((in_seconds(row.ns), f'{100 * row.share:.2f}', in_seconds(row.alone), words_of(row.part, self.name)) for row in self.rows()),
-                (in_seconds(self.path.time), '100.00', in_seconds(self.alone and self.alone.time), 'in all')]
+                (in_seconds(self.path.time), '100.00', in_seconds(self.alone.time if self.alone else None), 'in all')]
         return rows if self.alone else [(*row[:2], row[3]) for row in rows]
 
     def heading(self) -> str:
@@ -116,7 +117,7 @@ def words_of(part: Part, flow: str) -> str:
 
 def times(doubled: int | None) -> str:
     """How often a timer was doubled."""
-    return {0: 'not doubled', 1: 'doubled once', 2: 'doubled twice'}.get(doubled, f'doubled {doubled} times')
+    return {0: 'not doubled', 1: 'doubled once', 2: 'doubled twice'}.get(doubled or 0, f'doubled {doubled} times')
 
 
 def words_of_timeout(timeout: Timeout) -> list[str]:

@@ -14,9 +14,9 @@ from tcpsim.lives import CAME, PARTIAL, THIRD_DUPLICATE, Packet
 
 if TYPE_CHECKING:
     from tcpsim.stalls import Stall
+    Cause = Callable[[Stall], 'Found | None']
 
 Found = namedtuple('Found', 'words lines')
-Cause = Callable[['Stall'], Found | None] if TYPE_CHECKING else Callable
 
 
 # ---- words
@@ -181,10 +181,9 @@ def a_retransmission_was_lost(stall: Stall) -> Found | None:
 def the_timer_had_doubled(stall: Stall) -> Found | None:
     """The segment at una came, its acknowledgement was dropped, and the timer that was then waited for
     had been doubled and not measured since; nothing sent again was dropped."""
-    timers = doubled_timers(stall)
-    if not has_lost_acknowledgement(stall) or not timers:
+    timers, ack = doubled_timers(stall), lost_acknowledgement(stall)
+    if ack is None or not has_lost_acknowledgement(stall) or not timers:
         return None
-    ack = lost_acknowledgement(stall)
     return Found(f'acknowledgement {ack.number} was dropped ({ack.fate}), and the timer had doubled to '
                  f'{seconds(max(value for _, value in timers))}',
                  [ack.ended_line, *(line for line, _ in timers if line is not None)])
@@ -193,9 +192,9 @@ def the_timer_had_doubled(stall: Stall) -> Found | None:
 def an_acknowledgement_was_lost(stall: Stall) -> Found | None:
     """The segment at una came, but an acknowledgement of it was dropped, and without that the span would
     have been half as long or short enough; no timer that ended in it had been doubled."""
-    if not has_lost_acknowledgement(stall) or doubled_timers(stall):
-        return None
     ack = lost_acknowledgement(stall)
+    if ack is None or not has_lost_acknowledgement(stall) or doubled_timers(stall):
+        return None
     words = f'acknowledgement {ack.number} was dropped ({ack.fate})'
     if stall.timers:
         words += f', and the timer ended after {seconds(stall.timers[0].value)}'
@@ -229,9 +228,9 @@ def fast_retransmit_took_a_round_trip(stall: Stall) -> Found | None:
                  'went by after it', [lost.ended_line, again.line])
 
 
-def the_way_is_longer(stall: Stall) -> Found | None:
-    """Nothing was lost and no delayed answer made it too long: the way there and back, with the waits
-    in all queues on it, takes longer than that."""
+def the_round_trip_took_longer(stall: Stall) -> Found | None:
+    """Nothing was lost and no delayed answer made it too long: the round trip, with the waits in all queues
+    on it, takes longer than that."""
     if not is_unharmed(stall) or is_delayed(stall):
         return None
     segment = stall.copies[-1] if stall.ack is None else stall.ack.of
@@ -241,7 +240,7 @@ def the_way_is_longer(stall: Stall) -> Found | None:
 
 CAUSES = (the_receive_window_was_full, its_packets_waited_in_one_queue, a_loss_was_left_to_the_timer,
           a_retransmission_was_lost, the_timer_had_doubled, an_acknowledgement_was_lost,
-          a_delayed_acknowledgement_was_waited_for, fast_retransmit_took_a_round_trip, the_way_is_longer)
+          a_delayed_acknowledgement_was_waited_for, fast_retransmit_took_a_round_trip, the_round_trip_took_longer)
 PARTITION = CAUSES[2:]      # of these exactly one holds of each stall
 
 
@@ -252,7 +251,7 @@ def name_of(cause: Cause) -> str:
 
 def rule_of(cause: Cause) -> str:
     """The rule of a cause, in words."""
-    return ' '.join(cause.__doc__.split())
+    return ' '.join((cause.__doc__ or '').split())
 
 
 def cause_of(stall: Stall) -> tuple[Cause, Found]:

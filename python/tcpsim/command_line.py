@@ -14,7 +14,7 @@ import sys
 import warnings
 from collections.abc import Callable
 from types import FrameType
-from typing import IO, Any
+from typing import IO, Any, NoReturn, TextIO, TypeVar
 
 from tcpsim import VERSIONS
 
@@ -53,9 +53,12 @@ class OutputClosed(Exception):
 
 # ---- words
 
-def as_type(read: Callable[[str], Any]) -> Callable[[str], Any]:
+T = TypeVar('T')
+
+
+def as_type(read: Callable[[str], T]) -> Callable[[str], T]:
     """A reader of words as argparse takes it."""
-    def read_word(word):
+    def read_word(word: str) -> T:
         try:
             return read(word)
         except Wrong as wrong:
@@ -66,7 +69,7 @@ def as_type(read: Callable[[str], Any]) -> Callable[[str], Any]:
 class SayVersions(argparse.Action):
     """The option --version: one line, however narrow the terminal is."""
 
-    def __call__(self, parser, namespace, values, option_string=None):
+    def __call__(self, parser: argparse.ArgumentParser, *_: object) -> None:
         write(f'{tool()} {VERSIONS}\n')
         parser.exit()
 
@@ -75,10 +78,10 @@ class Words(argparse.ArgumentParser):
     """A command line whose every fault is one sentence and status 2."""
 
     def __init__(self, **given: Any):
-        super().__init__(allow_abbrev=False, **{'prog': tool(), **given})
+        super().__init__(allow_abbrev=False, prog=given.pop('prog', tool()), **given)
         self.add_argument('--version', action=SayVersions, nargs=0, help='the version of the tools, and those of the formats')
 
-    def error(self, message: str) -> None:
+    def error(self, message: str) -> NoReturn:
         """Raises what is wrong as `Wrong`."""
         raise Wrong(message)
 
@@ -188,8 +191,9 @@ def nothing(_number: int, _frame: FrameType | None) -> None:
 
 def end_later(unraisable: sys.UnraisableHookArgs) -> None:
     """Where a signal came while a destructor ran, nobody could take what it raised: it is raised again."""
-    if isinstance(unraisable.exc_value, Ended):
-        signal.signal(signal.SIGALRM, lambda *_: end(unraisable.exc_value.number, None))
+    if isinstance(wrong := unraisable.exc_value, Ended):
+        number = wrong.number
+        signal.signal(signal.SIGALRM, lambda *_: end(number, None))
         signal.setitimer(signal.ITIMER_REAL, AGAIN)
     else:
         sys.__unraisablehook__(unraisable)
@@ -207,13 +211,13 @@ def status_after(main: Callable[[], object]) -> int:
     except Ended as wrong:
         return 128 + wrong.number
     except SystemExit as done:          # of --help and --version
-        return done.code or 0
+        return int(done.code or 0)
     except OutputClosed as wrong:
         return wrong.status
     except Refused as wrong:
         return refuse(wrong, wrong.status)
     except OSError as wrong:
-        return refuse(sentence(wrong))
+        return refuse(sentence(wrong), Wrong.status if isinstance(wrong, FileNotFoundError) else Refused.status)
     except MemoryError:
         return refuse('there is not enough memory for this run')
     return 0
@@ -237,7 +241,8 @@ def note(text: str, end: str = '\n') -> None:
             print(text, end=end, file=sys.stderr, flush=True)
 
 
-def say_warning(message: Warning | str, *_where: object) -> None:
+def say_warning(message: Warning | str, category: type[Warning], filename: str, lineno: int, file: TextIO | None = None,
+                line: str | None = None) -> None:
     """Says a warning as a tool says its sentences."""
     note(f'{tool()}: {message}')
 

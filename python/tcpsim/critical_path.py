@@ -26,7 +26,7 @@ from __future__ import annotations
 from array import array
 from bisect import bisect_left
 from collections import Counter, namedtuple
-from collections.abc import Iterable, Iterator
+from collections.abc import Iterable, Iterator, Sequence
 
 from tcpsim.causes import PARTITION, is_dropped, is_lost, lost_acknowledgement, name_of
 from tcpsim.lives import ACK, AFTER_TIMEOUT, ALARM, DATA, TIMEOUT, FlowState, Packet, Port, Watch
@@ -72,11 +72,15 @@ class Recorded(Sendings):
     """What is known of a flow whose path is asked for. `timer` is the record of the event that set its timer, `last` that of
     its last new acknowledgement up to the one that acknowledges the byte `to`."""
 
+    walk: CriticalPaths
+
     def __init__(self, walk: CriticalPaths, flow: FlowState):
         super().__init__(walk, flow)
         self.flow, self.begins, self.flows = flow.number, walk.begins, walk.senders
         self.to = flow.total - 1
-        self.first = self.last = self.timer = None
+        self.first: int | None = None
+        self.last: int | None = None
+        self.timer = -1
         self.timer_sets = self.doubled = 0
 
     def began(self, packet: Packet, port: Port) -> None:
@@ -97,20 +101,22 @@ class CriticalPaths(Spans):
     acknowledgement of this byte, else of all bytes."""
 
     kind = Recorded
+    watched: Sequence[Recorded]
 
     def __init__(self, scenario: Scenario, wanted: Iterable[int] | None = None, to: int | None = None):
         # of each record: line, time, kind, the cause's record, the packet's number, its link and the line where that
         # began to send it, and at a sender the phase
         self.lines, self.times, self.causes, self.numbers, self.sent_lines = (array('q') for _ in range(5))
         self.kinds, self.phases, self.links = bytearray(), bytearray(), array('H')
-        self.timeouts = {}              # of each record of `rto` its Timeout
+        self.timeouts: dict[int, Timeout] = {}      # of each record of `rto` its Timeout
         # of each link, when it began to send each packet, and of which flow
         self.begins, self.senders = [array('q') for _ in scenario.links], [array('H') for _ in scenario.links]
         super().__init__(scenario)
         self.wanted = set(range(len(self.flows)) if wanted is None else wanted)
-        for number in self.wanted if to is not None else ():
-            check_byte(scenario, number, to)
-            self.watched[number].to = to
+        if to is not None:
+            for number in self.wanted:
+                check_byte(scenario, number, to)
+                self.watched[number].to = to
         self.others = {flow.number: Others(self, flow) for flow in self.flows if flow.number not in self.wanted}
         self.open_flows = len(self.wanted)      # those that have not acknowledged the byte
 
@@ -143,18 +149,19 @@ class CriticalPaths(Spans):
         super().born(packet)
         packet.cause = len(self.kinds) - 1
 
-    def _expired(self, flow):
+    def _expired(self, flow: FlowState) -> None:
         watched = self.watched[flow.number]
         watched.doubled = watched.doubled + 1 if self.expired[1] else 0
         set_by = watched.timer
-        stall = Stall(self, flow, watched, None)
+        assert watched.span is not None     # a timer runs where something is not acknowledged
+        stall = Stall(self, flow, watched, watched.span, None)
         stall.rto, stall.doubled = self.expired     # those of the timer that ends, not of the next
         cause, found = next((cause, found) for cause in PARTITION if (found := cause(stall)) is not None)
         record = self.record(RTO, set_by)
         self.timeouts[record] = Timeout(self.line, self.times[set_by], self.time, self.lines[set_by], watched.doubled, loss_of(stall),
                                         name_of(cause), found.words)
 
-    def at_sender(self, flow: FlowState, kind: str, packet: Packet, before: int) -> None:
+    def at_sender(self, flow: FlowState, kind: str, packet: Packet | None, before: int) -> None:
         """Notes the phase, and whether the event set the timer or acknowledged something."""
         if flow.number not in self.wanted:
             return
@@ -175,7 +182,8 @@ class CriticalPaths(Spans):
 
     def waits(self, link: int, since: int, until: int) -> list[tuple[int, int, int]]:
         """Of a wait at a link which flows' packets it sent meanwhile, and from when to when, in order."""
-        begins, flows, found = self.begins[link], self.senders[link], []
+        begins, flows = self.begins[link], self.senders[link]
+        found: list[tuple[int, int, int]] = []
         at = bisect_left(begins, until)
         while until > since:
             at -= 1
@@ -201,19 +209,22 @@ class Path:
         self.name, self.number = flow.flow.name, flow.number
         self.hops = {(hop.port.number, hop.kind): hop for hop in flow.hops()}
         self.is_whole = flow.una > watched.to
-        self.events, self.timeouts, self.trips = [], [], Counter()
+        self.events: list[Event] = []
+        self.timeouts: list[Timeout] = []
+        self.trips: Counter[str] = Counter()
         self.acknowledged = 0
         self._phase, self._again = 0, False     # of the sender's last event; whether the segment was sent again since the timer ended
-        chain, at = [], watched.first if watched.last is None else watched.last
+        chain: list[int] = []
+        at = watched.first if watched.last is None else watched.last
         while at is not None:
             chain.append(at)
             at = walk.causes[at] if walk.kinds[at] != START else None
-        for cause, record in zip([None, *chain[:0:-1]], chain[::-1]):
+        for cause, record in zip([-1, *chain[:0:-1]], chain[::-1]):
             self._add(walk, flow, cause, record)
         self.begin = self.events[0].time if self.events else None
         self.end = self.events[-1].time if self.events else None
 
-    def _add(self, walk, flow, cause, record):
+    def _add(self, walk: CriticalPaths, flow: FlowState, cause: int, record: int) -> None:
         """Adds an event, and before it the one at which the link began to send the packet."""
         line, time, kind, number = walk.lines[record], walk.times[record], walk.kinds[record], walk.numbers[record]
         nodes, word = walk.scenario.nodes, KINDS[kind]
@@ -226,7 +237,7 @@ class Path:
                 self._phase, self.acknowledged = walk.phases[record], number
             return
         at = nodes[flow.flow.receiver if kind == DELACK else flow.flow.sender].name
-        spans = ()
+        spans: tuple[Span, ...] = ()
         if kind == RTO:
             self.timeouts.append(walk.timeouts[record])
             spans = Span(Part(TIMER, at, doubled=walk.timeouts[record].doubled), walk.times[cause], time),
@@ -236,7 +247,7 @@ class Path:
             self._phase = walk.phases[record]
         self.events.append(Event(line, time, word, number, at, spans))
 
-    def _add_arrival(self, walk, cause, record, word):
+    def _add_arrival(self, walk: CriticalPaths, cause: int, record: int, word: str) -> None:
         hop = self.hops[walk.links[record], word]
         port, time, number = hop.port, walk.times[record], walk.numbers[record]
         link, sent, began = port.link, walk.sent_lines[record], time - port.delay - hop.span
@@ -258,10 +269,10 @@ class Path:
 
     def parts(self) -> dict[Part, int]:
         """How long each part took, the greatest first."""
-        sums = Counter()
+        sums: Counter[Part] = Counter()
         for part, begin, end in self.spans():
             sums[part] += end - begin
-        return dict(sorted(sums.items(), key=lambda entry: -entry[1]))
+        return dict(sums.most_common())
 
 
 def loss_of(stall: Stall) -> Loss | None:
@@ -288,13 +299,13 @@ def awaited(walk: CriticalPaths, flow: FlowState) -> str:
         packet, where = min(acks, key=lambda found: found[0].line)
         return f'acknowledgement {packet.number}, {where}'
     if flow.waits is not None and flow.next > flow.una:
-        return f'the delayed acknowledgement, due at {flow.due("delack") / 1e9:.9f} s'
+        return f'the delayed acknowledgement, due at {(flow.due("delack") or 0) / 1e9:.9f} s'
     copies = [found for found in packets if found[0].sort == DATA and found[0].number == flow.una]
     if copies:
         packet, where = min(copies, key=lambda found: found[0].line)
         return f'segment {packet.number}, {where}'
     more = f', or for duplicates; packets in the net: {len(packets)}' if packets else ''
-    return f'its retransmission timer, due at {flow.deadline / 1e9:.9f} s{more}'
+    return f'its retransmission timer, due at {(flow.deadline or 0) / 1e9:.9f} s{more}'
 
 
 def critical_paths(scenario: Scenario, lines: Iterable[str], wanted: Iterable[int] | None = None, to: int | None = None,

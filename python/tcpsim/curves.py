@@ -5,7 +5,7 @@ from __future__ import annotations
 
 from array import array
 from collections import Counter
-from collections.abc import Iterable
+from collections.abc import Iterable, Sequence
 
 from tcpsim.scenario.text import Flow, Link, Scenario
 from tcpsim.scenario.units import BITS_NS
@@ -26,8 +26,8 @@ class FlowRun(FlowState):
         self.again_times, self.again = array('q'), array('q')   # segments sent again
         self.by_fast_retransmit = self.by_timeout = 0
         self.timeouts = array('q')
-        self.recoveries = []            # [begin, end or None]
-        self.drops = []                 # (time, link, reason, DATA or ACK, number)
+        self.recoveries: list[list[int | None]] = []                # [begin, end or None]
+        self.drops: list[tuple[int, int, str, int, int]] = []       # (time, link, reason, DATA or ACK, number)
 
     def on_window(self, time: int, cwnd: str, ssthresh: str, flight: int) -> None:
         """Keeps the windows, in bytes."""
@@ -76,9 +76,9 @@ class FlowRun(FlowState):
         else:
             self.recoveries[-1][1] = time
 
-    def on_drop(self, *drop: object) -> None:
+    def on_drop(self, time: int, link: int, reason: str, sort: int, number: int) -> None:
         """Keeps a packet that was dropped."""
-        self.drops.append(drop)
+        self.drops.append((time, link, reason, sort, number))
 
 
 class LinkRun(LinkState):
@@ -90,8 +90,8 @@ class LinkRun(LinkState):
         self.wait_times, self.waits = array('q'), array('q')    # of each packet sent: when it began, its wait
         self.taken_of = array('q')      # of each packet sent: its flow
         self.busy_from, self.busy_to = array('q'), array('q')
-        self.drops = []                 # (time, reason, flow, DATA or ACK, number)
-        self.bytes_of = Counter()       # bytes sent of each flow
+        self.drops: list[tuple[int, str, int, int, int]] = []   # (time, reason, flow, DATA or ACK, number)
+        self.bytes_of: Counter[int] = Counter()                 # bytes sent of each flow
 
     def on_taken(self, time: int, stream: Stream, entered: int) -> None:
         """Keeps how long a packet waited, and for how long the link is busy with it."""
@@ -109,14 +109,17 @@ class LinkRun(LinkState):
             self.queue_times.append(time)
             self.queue.append(length)
 
-    def on_drop(self, *drop: object) -> None:
+    def on_drop(self, time: int, reason: str, flow: int, sort: int, number: int) -> None:
         """Keeps a packet that was dropped."""
-        self.drops.append(drop)
+        self.drops.append((time, reason, flow, sort, number))
 
 
 class Run(Reader):
     """A scenario's run as its trace tells it, with all its curves: `flows`, `links`, `last` (the last line's
     time), `whole` (the trace has its line `end N`) and `lines`."""
+
+    flows: Sequence[FlowRun]
+    links: Sequence[LinkRun]
 
     def __init__(self, scenario: Scenario, lines: Iterable[str]):
         super().__init__(scenario, FlowRun, LinkRun)

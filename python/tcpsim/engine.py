@@ -7,7 +7,9 @@ from __future__ import annotations
 
 import functools
 import itertools
-from collections.abc import Callable
+import operator
+import re
+from collections.abc import Callable, Iterable, Sequence
 
 from tcpsim.command_line import MODEL
 from tcpsim.program import find_program
@@ -17,6 +19,7 @@ from tcpsim.whole_trace import BLOCK, ProgramFailed, Running, naming, running, s
 
 LONGEST_TABLE = 1 << 26         # bytes
 HEADING = 'what,number,figure,unit,value'
+HEADING_BY_TIME = b'time,what,number,figure,unit,value\n'
 BUSY, WAITED = ('busy', 'ns'), ('waited', 'packet-ns')
 LAST_ROW = 'run,,end,ns,'
 PORTIONS = 30           # of a run's span, for each of which it is told what each flow delivered
@@ -39,86 +42,122 @@ def table_of(source: bytes, path: str) -> str:
     """The table of a scenario's bytes, as the program of this path writes it."""
     try:
         with running([path, 'figures'], source) as process:
-            return written_table(process)
+            return written_table(process.read_all(LONGEST_TABLE))
     except ProgramFailed as wrong:
         if wrong.ended == 2:
             raise Unreadable(f'{path} has no subcommand `figures`: it is older than this script') from wrong
         raise
 
 
-def written_table(process: Running) -> str:
-    """The table that a program writes that runs."""
-    blocks, size = [], 0
-    while block := process.read(BLOCK):
-        blocks.append(block)
-        size += len(block)
-        if size > LONGEST_TABLE:
-            raise Unreadable(f'the program wrote no table of figures: more than {LONGEST_TABLE:,} bytes')
-    process.check()
-    if not blocks:
+def written_table(written: bytes) -> str:
+    """The table of what a program wrote."""
+    if not written:
         raise Unreadable('the program wrote nothing: no table of figures')
-    return b''.join(blocks).decode('ascii', 'replace')
+    return written.decode('ascii', 'replace')
 
 
 def portions_of(path: str, source: bytes, first: Callable[[], None] | None, run: EngineRun) -> list[list[int]]:
     """What each flow delivers in each of the PORTIONS of a run's span, of a further run by the program of this path, whose process
     does `first` before; none where the program is older than its option, or the span too short."""
-    step, found = (run.end - run.begin) // PORTIONS, [[0] * len(run.flows) for _ in range(PORTIONS)]
+    step = (run.end - run.begin) // PORTIONS
     if not step:
         return []
     try:
         with running([path, 'figures', f'--from={run.begin}', f'--every={step}', '--series'], source, first) as process:
-            rest = b''
-            while block := process.read(BLOCK):
-                *lines, rest = (rest + block).split(b'\n')
-                for time, _, number, _, _, value in (line.split(b',') for line in lines if b',delivered,' in line):
-                    found[min((int(time) - run.begin) // step, PORTIONS - 1)][int(number)] += int(value)
-            process.check()
+            return portions_in(iter(lambda: process.read(BLOCK), b''), run.begin, step, len(run.flows), process.check)
     except ProgramFailed:
         return []
+
+
+def portions_in(blocks: Iterable[bytes], begin: int, step: int, flows: int, ended: Callable[[], None] = lambda: None) -> list[list[int]]:
+    """What each of so many flows delivered in each portion, of the rows by time of these blocks. `ended` raises where what wrote them
+    failed."""
+    found, rest = [[0] * flows for _ in range(PORTIONS)], b''
+    for block in blocks:
+        *lines, rest = (rest + block).split(b'\n')
+        for time, _, number, _, _, value in (line.split(b',') for line in lines if b',delivered,' in line):
+            found[min((int(time) - begin) // step, PORTIONS - 1)][int(number)] += int(value)
+    ended()
     return found
 
 
-@functools.lru_cache(maxsize=1)
-def places_of(names: tuple[str, ...]) -> dict:
-    """Which line has a figure, by what and number, and then by figure and unit; ValueError with a line that has none. All
-    tables of a scenario have the same lines, but for their values."""
-    places = {}
-    for at, name in enumerate(names):
-        words = name.split(',')
-        of = places.setdefault(tuple(words[:2]), {})
-        if len(words) != 4 or tuple(words[2:]) in of:
-            raise ValueError(at)
-        of[tuple(words[2:])] = at
-    return places
+class Layout:
+    """What stands where in the tables of a scenario. All have the same lines but for their values, so what a table lacks is found out
+    once for a sweep of thousands."""
+
+    def __init__(self, table: str):
+        heading, *lines = table.splitlines() or ['']
+        self._places: dict[tuple[str, str], dict[tuple[str, str], int]] = {}       # which value each figure is, by what and number
+        for at, line in enumerate(lines):
+            what, number, figure, unit = (*line.split(','), '', '', '', '')[:4]
+            of = self._places.setdefault((what, number), {})
+            if not re.fullmatch('([^,]*,){4}(-|[0-9]+)', line) or (figure, unit) in of:
+                heading = line
+                break
+            of[figure, unit] = at
+        if heading != HEADING or not lines:
+            raise Unreadable(f'the program wrote no table of figures: {heading[:100]}')
+        if not lines[-1].startswith(LAST_ROW) or not table.endswith('\n'):
+            raise Unreadable(f'the table of figures is cut: it ends with {lines[-1][:100]}')
+        names = [line[:line.rindex(',') + 1] for line in lines]
+        self._lengths = list(map(len, names))
+        self._text = '%s\n'.join([HEADING + '\n' + names[0].replace('%', '%%'), *(name.replace('%', '%%') for name in names[1:]), ''])
+        self._sorts: dict[tuple, tuple] = {}
+
+    def values(self, table: str) -> list[int | None] | None:
+        """Those of a table with these lines, None where there is none; None of another one."""
+        words = [line[length:] for line, length in zip(table[len(HEADING) + 1:].split('\n'), self._lengths)]
+        try:
+            found = [None if word == '-' else int(word) for word in words] if self._text % (*words,) == table else None
+        except (TypeError, ValueError):         # fewer lines, or words that are no numbers
+            return None
+        every = ''.join(words)      # of digits and nothing else, while int takes signs, spaces and _ too
+        return found if found and every.count('-') == found.count(None) and every.replace('-', '').isdecimal() else None
+
+    def parts(self, values: list[int | None], flows: int, links: int) -> list[dict]:
+        """The values by figure and unit: of each flow, of each link, and of the run."""
+        if (flows, links) not in self._sorts:
+            self._sorts[flows, links] = self._sorted(flows, links)
+        must, parts = self._sorts[flows, links]
+        if None in must[0](values):
+            at = next(at for at in must[1] if values[at] is None)
+            of, figure = next((of, figure) for of, its in self._places.items() for figure, place in its.items() if place == at)
+            raise lacking(of, figure)
+        return [dict(zip(figures, read(values))) for figures, read in parts]
+
+    def _sorted(self, flows: int, links: int) -> tuple[tuple[operator.itemgetter, list[int]], list[tuple[list, operator.itemgetter]]]:
+        """What reads the values that there have to be, with their places, and of each part its figures and what reads them."""
+        wanted = {**{('flow', str(n)): OF_A_FLOW for n in range(flows)}, **{('link', str(n)): OF_A_LINK for n in range(links)},
+                  ('run', ''): OF_THE_RUN}
+        must, parts = [], []
+        for of, its in wanted.items():
+            there = self._places.get(of, {})
+            for figure, may_lack in its.items():
+                if figure not in there:
+                    raise lacking(of, figure)
+                must += [] if may_lack else [there[figure]]
+            parts.append((list(there), operator.itemgetter(*there.values())))
+        if len(self._places) != len(wanted):
+            raise Unreadable('the table of figures is that of another scenario')
+        return (operator.itemgetter(*must), must), parts
 
 
-def read_table(table: str) -> dict:
-    """The values of a whole table, by what and number, and then by figure and unit; None where there is none."""
-    heading, *lines = table.splitlines() or ['']
-    split, values = [line.rpartition(',') for line in lines], []
-    try:
-        for _, _, value in split:
-            values.append(None if value == '-' else int(value))
-        places = places_of(tuple(name for name, _, _ in split))
-    except ValueError as wrong:
-        heading = lines[wrong.args[0] if len(values) == len(lines) else len(values)]
-    if heading != HEADING or not lines:
-        raise Unreadable(f'the program wrote no table of figures: {heading[:100]}')
-    if not lines[-1].startswith(LAST_ROW) or not table.endswith('\n'):
-        raise Unreadable(f'the table of figures is cut: it ends with {lines[-1][:100]}')
-    return {whose: {figure: values[at] for figure, at in of.items()} for whose, of in places.items()}
+def lacking(of: tuple[str, str], figure: tuple[str, str]) -> Unreadable:
+    """What a table is refused for that has no value for a figure."""
+    return Unreadable(f'the table of figures lacks {" ".join(filter(None, of))}: {" ".join(figure)}')
 
 
-def figures_of(values: dict[tuple, dict], of: tuple[str, str], wanted: dict[tuple, bool]) -> dict:
-    """The figures of a flow, a link or the run, which the table has to have."""
-    there = values.get(of, {})
-    if wanted.keys() <= there.keys() and None not in there.values():
-        return there
-    for figure, may_lack in wanted.items():
-        if figure not in there or there[figure] is None and not may_lack:
-            raise Unreadable(f'the table of figures lacks {" ".join(filter(None, of))}: {" ".join(figure)}')
-    return there
+LAYOUTS: list[Layout] = []      # that of the last table
+
+
+def read_table(table: str, flows: int, links: int) -> list[dict]:
+    """The values of a whole table by figure and unit, None where there is none: of each flow, of each link, and of the run."""
+    for layout in LAYOUTS:
+        values = layout.values(table)
+        if values is not None:
+            return layout.parts(values, flows, links)
+    LAYOUTS[:] = layout, = Layout(table),
+    return layout.parts(layout.values(table) or [], flows, links)
 
 
 class EngineRun:
@@ -126,14 +165,11 @@ class EngineRun:
     The span is that of figures.py: from the first flow's start to the last event where every flow is complete, else to
     the scenario's end."""
 
-    def __init__(self, scenario: Scenario, table: str, portions: Callable[[EngineRun], list[list[int]]] | list[list[int]] = ()):
+    def __init__(self, scenario: Scenario, table: str, portions: Callable[[EngineRun], Sequence[list[int]]] | Sequence[list[int]] = ()):
         self._portions = portions
-        values = read_table(table)
-        self.flows = [figures_of(values, ('flow', str(n)), OF_A_FLOW) for n in range(len(scenario.flows))]
-        self.links = [figures_of(values, ('link', str(n)), OF_A_LINK) for n in range(len(scenario.links))]
-        if len(values) != len(self.flows) + len(self.links) + 1:
-            raise Unreadable('the table of figures is that of another scenario')
-        run = figures_of(values, ('run', ''), OF_THE_RUN)
+        count, links = len(scenario.flows), len(scenario.links)
+        *parts, run = read_table(table, count, links)
+        self.flows, self.links = parts[:count], parts[count:]
         self.last, self.events = run['end', 'ns'], run['events', 'events']
         done = all(flow['completed', 'ns'] is not None for flow in self.flows)
         self.scenario = scenario
@@ -152,13 +188,13 @@ class EngineRun:
         """When a flow was complete; None where it was not."""
         return self.flows[number]['completed', 'ns']
 
-    def portions(self) -> list[list[int]]:
+    def portions(self) -> Sequence[list[int]]:
         """What each flow delivered in each of the span's PORTIONS; none where it is not told."""
         return self._portions(self) if callable(self._portions) else self._portions
 
     def dropped(self, number: int) -> int:
         """Packets that a link dropped."""
-        return sum(value for (figure, _), value in self.links[number].items() if figure.startswith('dropped '))
+        return sum(self.links[number][reason, 'packets'] for reason in REASONS)
 
     def data_dropped(self) -> int | None:
         """Segments that were dropped at any link; None where a link dropped something to which acknowledgements come too."""

@@ -5,7 +5,7 @@ is between 0.85 and 1.4 times what they have. Nothing but Python's standard libr
 """
 from __future__ import annotations
 
-from tcpsim.scenario.text import Scenario, Unreadable
+from tcpsim.scenario.text import Flow, Scenario, Unreadable
 from tcpsim.scenario.units import BITS_NS, HEADER_BYTES
 
 
@@ -38,12 +38,12 @@ def events(scenario: Scenario) -> float:
                for count, flow, (there, back) in zip(segments, scenario.flows, scenario.ways))
 
 
-def _span(scenario, flow):
+def _span(scenario: Scenario, flow: Flow) -> int:
     """Nanoseconds from a flow's start to the end."""
     return max(0, scenario.end - flow.start)
 
 
-def _segments(scenario, flow, there, back):
+def _segments(scenario: Scenario, flow: Flow, there: list[int], back: list[int]) -> float:
     """How many segments a flow can send if it has each link for itself."""
     links = scenario.links
     least_trip = (sum(links[n].delay + (HEADER_BYTES + flow.mss) * BITS_NS // links[n].rate for n in there)

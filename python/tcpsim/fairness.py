@@ -61,7 +61,7 @@ def compared(run: Goodputs, chosen: Sequence[int] | None = None) -> Compared:
 
 def index(run: Goodputs, chosen: Sequence[int] | None = None) -> float | None:
     """Jain's index of the goodputs of the flows that are compared."""
-    return jain([run.goodput(number) for number in compared(run, chosen).flows])
+    return jain([run.goodput(number) or 0 for number in compared(run, chosen).flows])
 
 
 def in_words(counts: Sequence[int]) -> str:
@@ -69,7 +69,9 @@ def in_words(counts: Sequence[int]) -> str:
     flows, *others = counts
     left = [f'{count} {what}' for count, what in zip(others, ('mice', 'limited by their window', 'that ended')) if count]
     every = f'{sum(counts)} flow{"s" * (sum(counts) != 1)}'
-    return f'of {flows or "none"} of {every} (without {", ".join(left)})' if left else f'of {every}'
+    if not flows:
+        return f'as none of {every} is compared ({", ".join(left)})' if left else f'as there is none of {every}'
+    return f'of {flows} of {every} (without {", ".join(left)})' if left else f'of {every}'
 
 
 def can_fill(scenario: Scenario, flows: Iterable[int]) -> list[int]:
@@ -78,11 +80,20 @@ def can_fill(scenario: Scenario, flows: Iterable[int]) -> list[int]:
     Shares are max-min fair: the rates of all flows rise together, until each flow has what it asks for, or a link on its way to
     the receiver is full.
     """
+    flows = tuple(flows)
+    if flows not in scenario.kept:
+        scenario.kept[flows] = stopped_by_links(scenario, flows)
+    return list(scenario.kept[flows])
+
+
+def stopped_by_links(scenario: Scenario, flows: Iterable[int]) -> list[int]:
+    """Those whose rates rise until a full link stops them."""
     left = [link.rate for link in scenario.links]
     asks = {number: asked(scenario, number) for number in flows}
-    rising, full = set(asks), []
+    rising = set(asks)
+    full: list[int] = []
     while rising:
-        over = {}
+        over: dict[int, list[int]] = {}
         for number in rising:
             for link in scenario.ways[number][0]:
                 over.setdefault(link, []).append(number)

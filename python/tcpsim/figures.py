@@ -39,23 +39,23 @@ class FlowFigures(FlowState):
         """Counts from here on."""
         self.expected_before, self.high_before = self.expected, self.high
         self.by_fast_retransmit = self.by_timeout = self.timeouts = 0
-        self.drops = Counter()          # of each reason, sort and link
-        self.flights = []               # bytes in flight at each timeout
+        self.drops: Counter[tuple[str, int, int]] = Counter()       # of each reason, sort and link
+        self.flights: list[int] = []    # bytes in flight at each timeout
         del self.round_trips[:]
 
-    def on_again(self, _time: int, _number: int, by_dups: bool) -> None:
+    def on_again(self, time: int, number: int, by_dups: bool) -> None:
         """Counts a segment that was sent again."""
         if by_dups:
             self.by_fast_retransmit += 1
         else:
             self.by_timeout += 1
 
-    def on_timeout(self, _time: int) -> None:
+    def on_timeout(self, time: int) -> None:
         """Counts a timeout, and keeps what was in flight."""
         self.timeouts += 1
         self.flights.append(self.nxt - self.last_una)
 
-    def on_drop(self, _time: int, link: int, reason: str, sort: int, _number: int) -> None:
+    def on_drop(self, time: int, link: int, reason: str, sort: int, number: int) -> None:
         """Counts a packet that was dropped."""
         self.drops[reason, sort, link] += 1
 
@@ -81,14 +81,15 @@ class LinkFigures(LinkState):
 
     def __init__(self, link: Link, number: int, kind: str):
         super().__init__(link, number, kind)
-        self.waits = array('q')
-        self.began, self.last = 0, None     # when it began the last packet, and which
+        self.waits: array[int] = array('q')
+        self.began = 0                      # when it began the last packet
+        self.last: Stream | None = None     # and which
         self.begin(0)
 
     def begin(self, time: int) -> None:
         """Counts from this moment on."""
         self.overhang = 0 if self.last is None else max(0, self.began + self.duration(self.last) - time)
-        self.count = defaultdict(int)       # packets sent of each stream
+        self.count: defaultdict[Stream, int] = defaultdict(int)     # packets sent of each stream
         self.drops, self.greatest, self.before = 0, len(self.waiting), self.summed(time)
         self.last = None
         self.longest_wait = 0               # ns, of the packets that it began to send
@@ -111,7 +112,7 @@ class LinkFigures(LinkState):
             self.longest_wait = wait
         self.began, self.last = time, stream
 
-    def on_drop(self, *_: object) -> None:
+    def on_drop(self, time: int, reason: str, flow: int, sort: int, number: int) -> None:
         """Counts a packet that was dropped."""
         self.drops += 1
 
@@ -140,7 +141,9 @@ class LinkFigures(LinkState):
 class Figures(Reader):
     """A trace's figures from `begin` (else the first flow's start) to `end`, read as they come."""
 
-    kinds = FlowFigures, LinkFigures
+    flows: Sequence[FlowFigures]
+    links: Sequence[LinkFigures]
+    kinds: tuple[type[FlowFigures], type[LinkFigures]] = (FlowFigures, LinkFigures)
 
     def __init__(self, scenario: Scenario, lines: Iterable[str], begin: int | None = None, end: int | None = None):
         super().__init__(scenario, *self.kinds)
@@ -152,17 +155,18 @@ class Figures(Reader):
         for link, sample in zip(self.links, self.waits):
             link.waits = sample.recent
         self.first = min(flow.start for flow in scenario.flows)
-        self.begin, self.end = self.first if begin is None else begin, end
-        self._stop = NEVER if end is None else end
-        self._due, self._started = self.begin, False
+        self.begin = self.first if begin is None else begin
+        self.end = self._stop = NEVER if end is None else end
+        self._started = False
+        self._due: int | None = self.begin
         self._delivered: list[list[int]] = []       # by each flow, up to the end of each portion but the last
         self._read_all(lines)
 
-    def _read_all(self, lines):
+    def _read_all(self, lines: Iterable[str]) -> None:
         lines, before = iter(lines), -PORTION
         while self.lines - before == PORTION:
             before = self.lines
-            self.read(islice(lines, PORTION), self._due)
+            self.read(islice(lines, PORTION), NEVER if self._due is None else self._due)
             samples = self.trips + self.waits
             if sum(len(sample.recent) for sample in samples) > HELD:
                 for sample in samples:
@@ -175,7 +179,7 @@ class Figures(Reader):
             raise Unreadable(f'the run ends at {self.end / S:g} s: nothing of it is at or after {self.begin / S:g} s')
         self.end = max(self.end, self.begin + 1)
 
-    def _run_end(self):
+    def _run_end(self) -> int:
         """Where the span ends if no `end` is before that."""
         done = all(flow.completed is not None for flow in self.flows)
         return self.last if done or not self.whole else self.scenario.end
@@ -191,7 +195,7 @@ class Figures(Reader):
                 self._due = self._passed(self._due)
         return self._due
 
-    def _passed(self, _moment):
+    def _passed(self, _moment: int) -> int:
         """Begins the span, or ends a portion; answers the next moment."""
         if self._started:
             self._delivered.append([flow.delivered() for flow in self.flows])
@@ -200,7 +204,7 @@ class Figures(Reader):
         ended = len(self._delivered) + 1
         return self._stop if ended == PORTIONS else min(self._stop, self.begin + ended * (self._last_moment() - self.begin) // PORTIONS)
 
-    def _last_moment(self):
+    def _last_moment(self) -> int:
         """The span's end where flows go on to it."""
         return min(self._stop, self.scenario.end)
 
@@ -219,7 +223,7 @@ class Figures(Reader):
         """When a flow was complete; None where it was not by the span's end."""
         return self.flows[number].completed
 
-    def _start(self):
+    def _start(self) -> None:
         self._started = True
         for flow in self.flows:
             flow.begin()
@@ -247,7 +251,8 @@ def flow_figures(run: Figures, number: int, used: Sequence[float]) -> list[tuple
     link = run.links[busiest]
     carried = sum(n * stream.size for stream, n in link.count.items())
     lost = sum(n for (_, sort, _), n in flow.drops.items() if sort == DATA)
-    rows = [('delivered', 'bytes', flow.delivered()),
+    rows: list[tuple] = [
+            ('delivered', 'bytes', flow.delivered()),
             ('goodput', 'bit/s', flow.goodput(run.begin, run.end)),
             ('bottleneck', 'link', link.link.name),
             ('share of the bottleneck', 'part', link.bytes_of(number) / (carried or 1)),
@@ -296,7 +301,7 @@ def figures(run: Figures, only_busy: bool = False, chosen: Sequence[int] | None 
     return rows
 
 
-def flow_rows(run: Goodputs, figures_of: Callable, used: Sequence[float], chosen: Sequence[int] | None) -> list[tuple]:
+def flow_rows(run: Goodputs, figures_of: Callable, used: Sequence[float | None], chosen: Sequence[int] | None) -> list[tuple]:
     """The figures of the flows, or of those that are chosen, and whether they are compared."""
     flows = compared(run, chosen)
     return [('flow', run.scenario.flows[number].name, *row) for number in (range(len(run.scenario.flows)) if chosen is None else chosen)
@@ -306,7 +311,7 @@ def flow_rows(run: Goodputs, figures_of: Callable, used: Sequence[float], chosen
 def index_figures(run: Goodputs, chosen: Sequence[int] | None = None) -> list[tuple]:
     """Jain's index, of how many flows it is, and which flows it leaves out."""
     flows = compared(run, chosen)
-    return [('run', '', 'Jain\'s index of goodput', 'part', jain([run.goodput(number) for number in flows.flows])),
+    return [('run', '', 'Jain\'s index of goodput', 'part', jain([run.goodput(number) or 0 for number in flows.flows])),
             *(('run', '', title, 'flows', len(numbers)) for title, numbers in zip(COMPARED, flows))]
 
 
@@ -319,10 +324,10 @@ TIMED = (('least timed round trip', 'least round trip'), ('median timed round tr
          *((f'{n}th percentile of timed round trips', f'{n}th percentile of round trips') for n in (95, 99)))
 
 
-def engine_flow_figures(run: EngineRun, number: int, used: Sequence[float]) -> list[tuple]:
+def engine_flow_figures(run: EngineRun, number: int, used: Sequence[float | None]) -> list[tuple]:
     """The figures of a flow, from the program's table."""
     values, way = run.flows[number], run.scenario.ways[number][0]
-    busiest = max(way, key=lambda link: -1 if used[link] is None else used[link])       # the first where equal
+    busiest = max(way, key=lambda link: -1. if (part := used[link]) is None else part)     # the first where equal
     return [('delivered', 'bytes', values['delivered', 'bytes']),
             ('goodput', 'bit/s', run.goodput(number)),
             ('bottleneck', 'link', None if used[busiest] is None else run.scenario.links[busiest].name),
@@ -334,7 +339,7 @@ def engine_flow_figures(run: EngineRun, number: int, used: Sequence[float]) -> l
             ('completed', 'ns', values['completed', 'ns'])]
 
 
-def engine_link_figures(run: EngineRun, number: int, used: Sequence[float]) -> list[tuple]:
+def engine_link_figures(run: EngineRun, number: int, used: Sequence[float | None]) -> list[tuple]:
     """The figures of a link, from the program's table."""
     values, drops = run.links[number], run.dropped(number)
     sent = values['sent packets', 'packets']

@@ -38,8 +38,11 @@ class Row:
 class Life(Watch):
     """A followed packet: its name, its rows, and the states that it was in."""
 
-    def __init__(self, walk: Walk, name: str):
-        self.walk, self.name, self.rows, self.states, self.wait = walk, name, [], [], None
+    def __init__(self, walk: Follow, name: str):
+        self.walk, self.name = walk, name
+        self.rows: list[Row] = []
+        self.states: list[State] = []
+        self.wait = Row(0, 0, (0, 0, 0), name, '', '', '', None, None)     # the last of a wait
 
     def row(self, event: str, at: str, words: str, span: int | None = None, behind: int | None = None) -> Row:
         """Keeps a moment of its life."""
@@ -101,7 +104,7 @@ class Life(Watch):
 class Request(Watch):
     """An acknowledgement that asks for a followed segment: that it was dropped can be why it was not sent again."""
 
-    def __init__(self, walk: Walk, segment: Segment):
+    def __init__(self, walk: Follow, segment: Segment):
         self.walk, self.segment = walk, segment
 
     def dropped(self, packet: Packet, port: Port) -> None:
@@ -115,8 +118,14 @@ class Segment:
     were sent, rows of its own, and when it arrived, was in order, was answered, was acknowledged."""
 
     def __init__(self, number: int):
-        self.number, self.copies, self.acks, self.rows = number, [], [], []
-        self.arrived = self.passed = self.answered = self.done = None
+        self.number = number
+        self.copies: list[Packet] = []
+        self.acks: list[Packet] = []
+        self.rows: list[Row] = []
+        self.arrived: int | None = None
+        self.passed: int | None = None
+        self.answered: int | None = None
+        self.done: int | None = None
 
     def answers(self) -> list[Packet]:
         """The acknowledgements up to the first that was not dropped: it comes before all later ones."""
@@ -127,7 +136,7 @@ class Segment:
 
     def table(self) -> list[Row]:
         """Its rows, in the order of time."""
-        rows = self.rows + [row for packet in self.copies + self.answers() for row in packet.watch.rows]
+        rows = self.rows + [row for packet in self.copies + self.answers() if isinstance(packet.watch, Life) for row in packet.watch.rows]
         return sorted(rows, key=lambda row: row.order)
 
     def stands(self, time: int) -> str:
@@ -147,7 +156,8 @@ class Follow(Walk):
     def __init__(self, scenario: Scenario, flow: int, only: int | None = None):
         super().__init__(scenario)
         self.target, self.only = self.flows[flow], only
-        self.segments, self.open = {}, {}       # by number: all, and those not yet acknowledged
+        self.segments: dict[int, Segment] = {}      # by number: all, and those not yet acknowledged
+        self.open: dict[int, Segment] = {}
         self.made = 0                           # how many rows were made
 
     def name_of(self, node: int) -> str:
@@ -174,7 +184,7 @@ class Follow(Walk):
         elif self.only is None or packet.number == self.only:
             self._sent(packet)
 
-    def _sent(self, packet):
+    def _sent(self, packet: Packet) -> None:
         segment = self.segments.get(packet.number)
         if segment is None:
             segment = self.segments[packet.number] = self.open[packet.number] = Segment(packet.number)
@@ -186,9 +196,9 @@ class Follow(Walk):
             life.row('sent', sender, 'offered for the first time')
         else:
             after = f' after {seconds(self.expired[0])}' if packet.why is TIMEOUT else ''
-            life.row('sent again', sender, f'offered again: {WHY_AGAIN[packet.why]}{after}')
+            life.row('sent again', sender, f'offered again: {WHY_AGAIN[packet.why or ""]}{after}')
 
-    def _answers(self, packet):
+    def _answers(self, packet: Packet) -> None:
         below = [segment for number, segment in self.open.items() if number < packet.number]
         if not below:
             if packet.number in self.open:
@@ -205,18 +215,18 @@ class Follow(Walk):
         life = packet.watch = Life(self, f'ack {packet.number}')
         life.row('answered', self.name_of(self.target.flow.receiver), words, span)
 
-    def at_receiver(self, flow: FlowState, packet: Packet, answer: Packet | None, before: int) -> None:
+    def at_receiver(self, flow: FlowState, packet: Packet | None, answer: Packet | None, before: int) -> None:
         """What the receiver makes of it."""
         if flow is not self.target:
             return
-        if packet is not None and packet.watch is not None:
+        if packet is not None and isinstance(packet.watch, Life):
             self._arrived(self.segments[packet.number], packet.watch, answer)
         if flow.next != before:
             for number, segment in self.open.items():
                 if segment.passed is None and number < flow.next:
                     segment.passed = self.time
 
-    def _arrived(self, segment, life, answer):
+    def _arrived(self, segment: Segment, life: Life, answer: Packet | None) -> None:
         at, flow = self.name_of(self.target.flow.receiver), self.target
         if segment.arrived is not None:
             life.row('not new', at, 'the receiver has it already')
@@ -227,7 +237,7 @@ class Follow(Walk):
         elif answer is None:
             life.row('answer waits', at, f'for the alarm in {seconds(flow.flow.delack)}, or for another segment')
 
-    def at_sender(self, flow: FlowState, kind: str, packet: Packet, before: int) -> None:
+    def at_sender(self, flow: FlowState, kind: str, packet: Packet | None, before: int) -> None:
         """What the sender makes of an acknowledgement."""
         if flow is not self.target or packet is None:
             return
@@ -253,11 +263,11 @@ class Follow(Walk):
         begin, end = segment.copies[0].offered, self.end_of(segment)
         states = [(rank, state.name, state.begin, end if state.end is None else min(state.end, end))
                   for rank, packet in enumerate(segment.answers() + segment.copies)
-                  for state in packet.watch.states if state.begin < end]
-        edges = {begin, end, *(edge for _, _, since, to in states for edge in (since, to)),
+                  if isinstance(packet.watch, Life) for state in packet.watch.states if state.begin < end]
+        at = {begin, end, *(edge for _, _, since, to in states for edge in (since, to)),
                  *(edge for edge in (segment.arrived, segment.passed, segment.answered) if edge is not None and edge < end)}
-        edges = sorted(edges)
-        parts, reasons = dict.fromkeys((WAITED, SERIALIZED, UNDER_WAY, STOOD), 0), {}
+        edges, parts = sorted(at), dict.fromkeys((WAITED, SERIALIZED, UNDER_WAY, STOOD), 0)
+        reasons: dict[str, int] = {}
         for since, to in zip(edges, edges[1:]):
             there = min((state for state in states if state[2] <= since and to <= state[3]), default=None)
             parts[STOOD if there is None else there[1]] += to - since

@@ -5,10 +5,14 @@ from __future__ import annotations
 
 from collections import deque
 from collections.abc import Iterator
+from typing import TYPE_CHECKING
 
 from tcpsim.scenario.text import Flow, Link, WrongScenario
 from tcpsim.scenario.units import BITS_NS, HEADER_BYTES
 from tcpsim.trace import ACK, DATA
+
+if TYPE_CHECKING:
+    from tcpsim.stalls import Place
 
 SECOND = 10**9
 LEAST_RTO, MOST_RTO = SECOND, 60 * SECOND
@@ -46,18 +50,23 @@ class Packet:
     """A segment or an acknowledgement on its way."""
     __slots__ = ('flow', 'sort', 'number', 'word', 'text', 'offered', 'line', 'why', 'of', 'since', 'hop',
                  'due', 'count', 'fate', 'ended', 'ended_line', 'waited', 'asked', 'watch', 'cause', 'sent_line')
+    of: Packet              # an acknowledgement's: the segment that it answers
+    due: int                # when it arrives over the link, once that sends it
+    count: str              # which of those that the link sent it is
+    cause: int              # for a watch that keeps records: that of the event that offered it
+    sent_line: int          # and the line in which its link began to send it
 
     def __init__(self, flow: FlowState, sort: int, number: int, offered: int, line: int, why: str | None):
         self.flow, self.sort, self.number = flow, sort, number  # the flow's state; DATA or ACK
         self.word = str(number)
         self.text = flow.begin + self.word                      # as an act of the trace names it
         self.offered, self.line, self.why = offered, line, why  # by its end: when, in which line, why
-        self.of = self.since = None     # an acknowledgement's: the segment answered, since when it waits
-        self.hop = flow.ways[sort]      # where it is; None at its end
-        self.fate = None                # `CAME` to its end or why it was dropped; None in the net
+        self.since: int | None = None   # an acknowledgement's: since when the segment that it answers waited
+        self.hop = flow.ways[sort]      # where it is
+        self.fate: str | None = None    # `CAME` to its end or why it was dropped; None in the net
         self.waited = False             # whether it was dropped out of a queue
-        self.asked = None               # a segment's: what the receiver asked for when it came, its next byte
-        self.watch = None
+        self.asked: int | None = None   # a segment's: what the receiver asked for when it came, its next byte
+        self.watch: Watch | None = None
 
     def end(self, fate: str, time: int, line: int) -> None:
         """Its life ends: how, when, and in which line."""
@@ -69,8 +78,10 @@ class Hop:
     arrival, and the next hop. `place` is for a watch that keeps account of the flow's packets at the link."""
     __slots__ = ('port', 'span', 'kind', 'flow', 'next', 'place')
 
-    def __init__(self, port: Port, span: int, kind: str, flow: FlowState, following: Hop | None):
-        self.port, self.span, self.kind, self.flow, self.next, self.place = port, span, kind, flow, following, None
+    place: Place
+
+    def __init__(self, port: Port, span: int, kind: str, flow: str, following: Hop | None):
+        self.port, self.span, self.kind, self.flow, self.next = port, span, kind, flow, following
 
 
 class Port:
@@ -82,8 +93,10 @@ class Port:
         self.node, self.alarm = str(link.source), str(3 + place)    # in the key of a line `free l`
         self.acts = 7 + STATE_WORDS[kind]               # where they begin in a line `free l`
         self.to, self.source = str(link.to), str(number + 1)    # in the key of an arrival
-        self.waiting, self.flight = deque(), deque()
-        self.sending, self.free_at, self.sent = None, None, 0
+        self.waiting: deque[Packet] = deque()
+        self.flight: deque[Packet] = deque()
+        self.sending: Packet | None = None
+        self.free_at, self.sent = -1, 0                 # when it becomes free that sends, how many it sent
 
 
 class FlowState:
@@ -99,20 +112,25 @@ class FlowState:
         self.alarms = {'start': [sender, '0', '0'], 'rto': [sender, '0', '1'], 'delack': [receiver, '0', '2']}
         # the sender
         self.una = self.nxt = self.high = self.dups = 0
-        self.recovering, self.phase = False, None   # `phase`: the word of the sender's last line
-        self.recover = None             # NewReno's: the greatest nxt when it last noticed a loss; None before
+        self.recovering, self.phase = False, ''     # `phase`: the word of the sender's last line
+        self.recover: int | None = None     # NewReno's: the greatest nxt when it last noticed a loss; None before
         self.partial = False            # this recovery had a partial acknowledgement
-        self.timing = self.srtt = self.deadline = None
+        self.timing: tuple[int, int] | None = None      # (the acknowledgement that ends it, when it began)
+        self.srtt: int | None = None
+        self.deadline: int | None = None
         self.rttvar, self.rto = 0, SECOND
         self.doubled = False            # the timer was doubled and not measured since
         self.timer_sets = 0             # how often the timer was set, at first or anew
         # the receiver
-        self.next, self.above = 0, set()
-        self.waits = self.waits_since = None    # the segment whose answer waits, since when
+        self.next = 0
+        self.above: set[int] = set()
+        self.waits: Packet | None = None        # the segment whose answer waits
+        self.waits_since: int | None = None     # since when
 
     def hops(self) -> Iterator[Hop]:
         """All hops, of both ways."""
-        for hop in self.ways.values():
+        for first in self.ways.values():
+            hop: Hop | None = first
             while hop is not None:
                 yield hop
                 hop = hop.next
@@ -120,7 +138,7 @@ class FlowState:
     def due(self, kind: str) -> int | None:
         """When an alarm is to come, or None."""
         if kind == 'delack':
-            return None if self.waits is None else self.waits_since + self.flow.delack
+            return None if self.waits_since is None else self.waits_since + self.flow.delack
         return self.flow.start if kind == 'start' else self.deadline
 
     def acknowledge(self, ack: int, time: int, partial: bool) -> None:
@@ -159,7 +177,7 @@ class FlowState:
         """The receiver gets a segment; answers whether it makes its answer wait."""
         number, above = packet.number, self.above
         in_order = number == self.next
-        waits = in_order and self.waits is None and self.flow.delack and not above
+        waits = bool(in_order and self.waits is None and self.flow.delack and not above)
         if waits:
             self.waits, self.waits_since = packet, time
         if in_order:
@@ -188,11 +206,11 @@ def after_sample(srtt: int | None, rttvar: int, trip: int) -> tuple[int, int, in
     return srtt, rttvar, min(max(srtt + max(1, 4 * rttvar), LEAST_RTO), MOST_RTO)
 
 
-def way(ports: list[Port], size: int, kind: str, flow: FlowState) -> Hop:
+def way(ports: list[Port], size: int, kind: str, flow: str) -> Hop:
     """The first hop of a way over these ports, for packets of this size."""
-    if not ports:
-        raise WrongScenario('the scenario has a flow from a node to itself')
     hop = None
     for port in reversed(ports):
         hop = Hop(port, -(-size * BITS_NS // port.link.rate), kind, flow, hop)
+    if hop is None:
+        raise WrongScenario('the scenario has a flow from a node to itself')
     return hop

@@ -16,8 +16,8 @@ TIMEOUT = '#D6005A'                                                         # no
 # Why packets are dropped: a picture's marker, its colour, and the words of keys.
 DROPS = {'full': ('x', RED, 'dropped: queue full'), 'codel': ('v', PURPLE, 'dropped by CoDel'),
          'lost': ('+', '#000000', 'lost by the scenario\'s list')}
-# What else is marked or shaded, in the words of keys.
-MARKS = {'timeout': 'timeout', 'recovery': 'recovery', 'stall': 'stall', 'again': 'sent again'}
+# What else is marked or shaded, in the words of keys; a stall with how long it is at least.
+MARKS = {'timeout': 'timeout', 'recovery': 'recovery', 'stall': 'no new ack for over {}', 'again': 'sent again'}
 # What panels show, in the words of titles.
 PANELS = {'window': 'congestion window', 'queue': 'packets that wait in the queue', 'delay': 'delay in the queue of each packet sent', 'sequence': 'sequence numbers',
           'progress': 'bytes acknowledged of each flow'}

@@ -14,6 +14,7 @@ import stat
 import sys
 import tempfile
 from collections.abc import Iterable, Iterator, Sequence
+from typing import IO
 
 from tcpsim.command_line import ENDS, OutputClosed, Wrong
 
@@ -96,7 +97,7 @@ def is_same(path: str, other: str | None) -> bool:
 
 # ---- a plain file
 
-def _can_be_replaced(path):
+def _can_be_replaced(path: str) -> bool:
     """Whether another file can take the place of this one without anything but the contents being lost."""
     try:
         old = os.lstat(path)
@@ -112,7 +113,7 @@ def _can_be_replaced(path):
 
 
 @contextlib.contextmanager
-def _replaced(path):
+def _replaced(path: str) -> Iterator[Output]:
     beside = os.path.join(os.path.dirname(path), f'.tcpsim-{secrets.token_hex(8)}.part')
     try:
         with named(path):
@@ -134,7 +135,7 @@ def _replaced(path):
             os.unlink(beside)
 
 
-def _take_after(number, path):
+def _take_after(number: int, path: str) -> None:
     """Gives a new file the owner and the mode of the old one, if there is one."""
     with contextlib.suppress(FileNotFoundError):
         old, mine = os.lstat(path), os.fstat(number)
@@ -146,7 +147,7 @@ def _take_after(number, path):
 # ---- what is no plain file, or is another's
 
 @contextlib.contextmanager
-def _written_into(path):
+def _written_into(path: str) -> Iterator[Output]:
     with named(path):
         number = _opened_for_writing(path)
     try:
@@ -165,7 +166,7 @@ def _written_into(path):
         os.close(number)
 
 
-def _opened_for_writing(path):
+def _opened_for_writing(path: str) -> int:
     """A descriptor of what stands at a path, or of a link's target that is not there yet."""
     try:
         if os.path.samestat(os.stat(path), os.fstat(1)):
@@ -175,7 +176,7 @@ def _opened_for_writing(path):
         return os.open(path, os.O_WRONLY | os.O_CREAT | FLAGS, 0o666)
 
 
-def _copy(kept, number):
+def _copy(kept: IO[bytes], number: int) -> None:
     """Puts a file's bytes in the place of another's. Room for them is asked for first, so that on a full disk the old
     ones stay."""
     size, old = kept.seek(0, os.SEEK_END), os.fstat(number).st_size

@@ -3,7 +3,12 @@ or waits, by words of its own, and give its packets in any order. Of packets of 
 """
 from __future__ import annotations
 
+from abc import ABC, abstractmethod
 from collections import deque
+from typing import TYPE_CHECKING
+
+if TYPE_CHECKING:
+    from tcpsim.trace import LinkState, Stream
 
 LOST = 'lost'           # what a scenario's `lose` drops, and no queue
 
@@ -16,15 +21,24 @@ def dropped_by(act: str) -> tuple[str, str] | None:
     return None if word == LOST else (word, packet)
 
 
-def place_of(waiting: deque[tuple], text: str) -> int | None:
+def place_of(waiting: deque[tuple[str, Stream, int]], text: str) -> int | None:
     """The place of the first packet of this text among those that wait."""
     return next((place for place, packet in enumerate(waiting) if packet[0] == text), None)
 
 
-class OwnQueues:
+class OwnQueues(ABC):
     """The part of `trace.Reader` that reads such queues."""
 
-    def _offer_own(self, link, text, stream, words, at, time):
+    @staticmethod
+    @abstractmethod
+    def _begin(link: LinkState, text: str, stream: Stream, time: int, entered: int) -> None:
+        """The link begins to send a packet."""
+
+    @abstractmethod
+    def _drop(self, link: LinkState, text: str, stream: Stream, reason: str, time: int) -> None:
+        """A packet is dropped."""
+
+    def _offer_own(self, link: LinkState, text: str, stream: Stream, words: list[str], at: int, time: int) -> int:
         """To a class of Python's, which can drop this packet or others. What an idle link sends at once has not waited."""
         link.waiting.append((text, stream, time))
         link.waited -= time
@@ -34,7 +48,7 @@ class OwnQueues:
         link.greatest = max(link.greatest, len(link.waiting))
         return at
 
-    def _drop_own(self, link, words, at, time):
+    def _drop_own(self, link: LinkState, words: list[str], at: int, time: int) -> int:
         """The drops of packets that wait."""
         while at < len(words) and (found := dropped_by(words[at])):
             reason, text = found
@@ -48,7 +62,7 @@ class OwnQueues:
             at += 1
         return at
 
-    def _take_own(self, link, words, at, time):
+    def _take_own(self, link: LinkState, words: list[str], at: int, time: int) -> int:
         """What a class of Python's drops and gives."""
         at = self._drop_own(link, words, at, time)
         if not link.waiting:

@@ -4,6 +4,7 @@ one that is built in the clone, else the model, which gives the same bytes, slow
 from __future__ import annotations
 
 import functools
+import hashlib
 import os
 import re
 import shutil
@@ -21,6 +22,7 @@ BUILT = os.path.join(TOP, 'crates', NAME, 'out', NAME)
 # Events a second: 445,000 took 2.97 s of a processor at 2.5 GHz, with Python 3.11.
 MODEL_SPEED = 150_000
 UNASKED = 60                    # seconds for which the model runs unasked
+DIGITS = 16                     # of a SHA-256, in hexadecimal
 
 
 class NoProgram(Refused):
@@ -56,7 +58,7 @@ def beside(name: str) -> list[str]:
 
 def found() -> str:
     """The path of the program where none is named; the clone's where there is none at all."""
-    return next(filter(is_program, beside(NAME)), None) or shutil.which(NAME) or BUILT
+    return next(filter(is_program, beside(NAME)), '') or shutil.which(NAME) or BUILT
 
 
 def model() -> str:
@@ -104,3 +106,35 @@ def check_time(texts: Iterable[str], until: int | None = None) -> None:
         size, unit = next(each for each in ((3600, 'hours'), (60, 'minutes'), (1, 'seconds')) if seconds >= 2 * each[0])
         raise NoProgram(f'some {events:,.0f} events would take the model {seconds / size:,.0f} {unit}: build the program '
                         'with `make run`, or say --model')
+
+
+@functools.lru_cache(maxsize=None)
+def version_of(program: str) -> str:
+    """What a program says of its version; it is asked once."""
+    try:
+        done = subprocess.run([program, '--version'], stdin=subprocess.DEVNULL, capture_output=True, timeout=60, check=False)
+    except (OSError, subprocess.TimeoutExpired):
+        return ''
+    return done.stdout.decode('utf-8', 'replace').strip().partition('\n')[0]
+
+
+@functools.lru_cache(maxsize=None)
+def digest_of(program: str) -> str:
+    """The first digits of the SHA-256 of a program's file; of the model, which has many, with its version."""
+    try:
+        with open(program, 'rb') as file:
+            contents = file.read()
+    except OSError:
+        return ''
+    return digest(contents + version_of(program).encode() if is_model(program) else contents)
+
+
+def format_of(program: str) -> int:
+    """The number of the format of a program's figures; 1 where it says none."""
+    found = re.search(r'\bfigures (\d{1,6})\b', version_of(program))
+    return int(found[1]) if found else 1
+
+
+def digest(contents: bytes) -> str:
+    """The first digits of a SHA-256."""
+    return hashlib.sha256(contents).hexdigest()[:DIGITS]

@@ -48,7 +48,8 @@ class Prompt:
                 [*words, f'/proc/self/fd/{scenario.fileno()}'], stdin=subprocess.PIPE, stdout=subprocess.PIPE,
                 stderr=subprocess.PIPE, bufsize=0, pass_fds=(scenario.fileno(),), start_new_session=True,
                 preexec_fn=ends_with_parent())
-        self._out, self._err = self.process.stdout, self.process.stderr
+        assert self.process.stdin and self.process.stdout and self.process.stderr
+        self._in, self._out, self._err = self.process.stdin, self.process.stdout, self.process.stderr
         self._selector = selectors.DefaultSelector()
         for end in (self._out, self._err):
             os.set_blocking(end.fileno(), False)
@@ -73,7 +74,7 @@ class Prompt:
     def end(self) -> None:
         """Ends the process, whatever it does, and what it started."""
         with contextlib.suppress(OSError):
-            self.process.stdin.close()
+            self._in.close()
         if self.process.poll() is None:
             self.kill()
         self.process.wait()
@@ -87,20 +88,21 @@ class Prompt:
             with contextlib.suppress(ProcessLookupError):
                 os.killpg(self.process.pid, signal.SIGKILL)
 
-    def _type(self, line):
+    def _type(self, line: str) -> None:
         with contextlib.suppress(BrokenPipeError):      # it has ended, which its outputs say
-            self.process.stdin.write(line.encode('utf-8', 'surrogateescape') + b'\n')
+            self._in.write(line.encode('utf-8', 'surrogateescape') + b'\n')
 
-    def _read(self, prompts=1):
+    def _read(self, prompts: int = 1) -> Answer:
         """What is written up to the next prompt, or up to a further one. No note has a prompt in it: none of its words has
         a space."""
         out, err = bytearray(), bytearray()
         while err.count(PROMPT) < prompts:
             for key, _ in self._selector.select():
-                block = key.fileobj.read(BLOCK)
+                end = self._out if key.fileobj is self._out else self._err
+                block = end.read(BLOCK)
                 if block:
-                    (out if key.fileobj is self._out else err).extend(block)
-                elif block == b'' and key.fileobj is self._err:
+                    (out if end is self._out else err).extend(block)
+                elif block == b'' and end is self._err:
                     out += self._out.read() or b''
                     raise PromptEnded(self.process.wait(PATIENCE), answer_of(out, err))
         while block := self._out.read(BLOCK):           # the answer was written before the prompt
@@ -116,11 +118,12 @@ def answer_of(out: bytes, err: bytes) -> Answer:
 def ends_with_parent(number: int = signal.SIGKILL) -> Callable[[], None] | None:
     """What a process does before it becomes the program: it asks for a signal when this process ends, however that ends.
     None in a thread, with which it would end, and where the system has no such request."""
-    parent, prctl = os.getpid(), getattr(ctypes.CDLL(None), 'prctl', None)
-    if prctl is None or threading.current_thread() is not threading.main_thread():
+    parent, found = os.getpid(), getattr(ctypes.CDLL(None), 'prctl', None)
+    if found is None or threading.current_thread() is not threading.main_thread():
         return None
+    prctl: Callable[[int, int], int] = found
 
-    def ask():
+    def ask() -> None:
         prctl(SET_PARENT_DEATH_SIGNAL, number)
         if os.getppid() != parent:
             os.kill(os.getpid(), signal.SIGKILL)

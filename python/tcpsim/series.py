@@ -6,7 +6,7 @@ A step's figures stand in a file, so that no run has too many steps for the memo
 from __future__ import annotations
 
 import tempfile
-from collections.abc import Iterable, Iterator
+from collections.abc import Iterable, Iterator, Sequence
 from dataclasses import dataclass
 from operator import sub
 
@@ -32,13 +32,14 @@ LINK_FIGURES = (BUSY, ('sent packets', 'packets'), ('sent bytes', 'bytes'), ('dr
 class FlowSeries(FlowFigures):
     """A flow's counts, and its window."""
 
-    cwnd = in_flight = None     # bytes, after the sender's last event
+    cwnd: int | None = None     # bytes, after the sender's last event
+    in_flight: int | None = None
     area = height = 0           # the window summed over the time up to a moment t is `area + height * t`
 
-    def on_window(self, time: int, cwnd: str, _ssthresh: str, flight: int) -> None:
+    def on_window(self, time: int, cwnd: str, ssthresh: str, flight: int) -> None:
         """Notes the window, and sums it over the time to the flow's completion."""
         self.cwnd, self.in_flight = int(cwnd), flight
-        height = self.cwnd if self.completed is None else 0
+        height = int(cwnd) if self.completed is None else 0
         self.area += (self.height - height) * time
         self.height = height
 
@@ -71,9 +72,9 @@ class LinkSeries(LinkFigures):
         self.bytes += stream.size
         self.delays.add(time - entered)
 
-    def on_drop(self, time: int, reason: str, *packet: int) -> None:
+    def on_drop(self, time: int, reason: str, flow: int, sort: int, number: int) -> None:
         """Counts a packet that was dropped."""
-        super().on_drop(time, reason, *packet)
+        super().on_drop(time, reason, flow, sort, number)
         if reason in self.by_reason:
             self.by_reason[reason] += 1
 
@@ -102,17 +103,20 @@ class Step:
 class Series(Figures):
     """The steps of a trace's span. The last can be shorter."""
 
+    flows: Sequence[FlowSeries]
+    links: Sequence[LinkSeries]
     kinds = FlowSeries, LinkSeries
     most, too_many = STEPS, f'{STEPS:,} steps: take a longer step'
 
     def __init__(self, scenario: Scenario, lines: Iterable[str], step: int, begin: int | None = None, end: int | None = None):
         self._step, self._steps = step, tempfile.TemporaryFile()
-        self._step_begin, self._before = 0, ()
+        self._step_begin = 0
+        self._before: tuple[list[tuple[int, ...]], list[tuple[int, ...]], list[int]] = ([], [], [])
         super().__init__(scenario, lines, begin, end)
         self.reached(self.end - 1)
         self._write(self.end)
 
-    def columns(self) -> list[tuple]:
+    def columns(self) -> list[tuple[str, int, str, str]]:
         """What each value of a step is: (what, number, figure, unit)."""
         return [*(('flow', flow.number, *figure) for flow in self.flows for figure in FLOW_FIGURES),
                 *(('link', link.number, *figure) for link in self.links for figure in LINK_FIGURES)]
@@ -133,34 +137,34 @@ class Series(Figures):
             raise Unreadable(f'the series has more than {self.too_many}')
         return super().reached(time)
 
-    def _passed(self, moment):
+    def _passed(self, moment: int) -> int:
         if self._started:
             self._write(moment)
         else:
             super()._passed(moment)
         return min(self._stop, self._step_begin + self._step)
 
-    def _start(self):
+    def _start(self) -> None:
         super()._start()
         self._begin_step(self.begin)
 
-    def _begin_step(self, time):
+    def _begin_step(self, time: int) -> None:
         self._step_begin = time
         self._before = ([flow.counts() for flow in self.flows], [link.counts(time) for link in self.links],
                         [flow.summed(time) for flow in self.flows])
         for link in self.links:
             link.begin_step()
 
-    def _write(self, end):
+    def _write(self, end: int) -> None:
         """Puts the step that ends here into the file. It has no length where the last event is where it begins."""
         flows, links, windows = self._before
-        values = [self._step_begin, end]
+        values: list[int | None] = [self._step_begin, end]
         for flow, before in zip(self.flows, flows):
             values += [*map(sub, flow.counts(), before), flow.cwnd, flow.in_flight]
         for link, before in zip(self.links, links):
             values += [*map(sub, link.counts(end), before), link.greatest, link.delays.percentile(50)]
-        for flow, before in zip(self.flows, windows):
-            values += [flow.summed(end) - before, flow.under_way(self._step_begin, end)]
+        for flow, area in zip(self.flows, windows):
+            values += [flow.summed(end) - area, flow.under_way(self._step_begin, end)]
         line = ' '.join('-' if value is None else str(value) for value in values) + '\n'
         with output.named(tempfile.gettempdir()):
             self._steps.write(line.encode())
@@ -177,6 +181,6 @@ class Rows(Series):
         self.most = ROWS // (len(FLOW_FIGURES) * len(scenario.flows) + len(LINK_FIGURES) * len(scenario.links))
         super().__init__(scenario, lines, step, begin or 0, end)
 
-    def _run_end(self):
+    def _run_end(self) -> int:
         still_sends = self.whole and any(link.busy for link in self.links)
         return self.scenario.end if still_sends else super()._run_end()

@@ -6,13 +6,14 @@ from __future__ import annotations
 
 import statistics
 from collections.abc import Sequence
+from typing import NamedTuple
 
 from tcpsim.engine import PORTIONS, EngineRun
 from tcpsim.fairness import compared, least_trip, window
 from tcpsim.figures import Figures
+from tcpsim.samples import student
 from tcpsim.scenario.text import Scenario
 from tcpsim.scenario.units import BITS_NS, HEADER_BYTES, spelled_time
-from tcpsim.sweeps.means import student
 
 LEAST = .02             # a difference of less than this part of the goodput is none
 TEETH = 6               # so many make a mean: two for each third
@@ -42,8 +43,11 @@ def tooth(scenario: Scenario, number: int, flows: Sequence[int]) -> float:
 
 def longest_tooth(scenario: Scenario, flows: Sequence[int], chosen: Sequence[int] | None = None) -> tuple[float, str]:
     """The longest tooth of these flows, or of those that were chosen of them, and whose it is."""
-    return max(((tooth(scenario, number, flows), scenario.flows[number].name) for number in flows
-                if chosen is None or number in chosen), default=(0, ''))
+    key = (*flows, chosen and (*chosen,), *(link[5:] for link in scenario.links), *(scenario.flows[number].delack for number in flows), *scenario.own)
+    if key not in scenario.kept:
+        scenario.kept[key] = max(((tooth(scenario, number, flows), scenario.flows[number].name) for number in flows
+                                  if chosen is None or number in chosen), default=(0, ''))
+    return scenario.kept[key]
 
 
 def up_to_two_digits(time: float) -> int:
@@ -71,9 +75,27 @@ def has_long_tooth(scenario: Scenario, begin: int, end: int, flows: Sequence[int
     return f'Too short: a tooth of {name}\'s sawtooth takes about {rounded(length)}, and figures are of {spelled_time(end - begin)}.'
 
 
-def has_changed(run: Figures | EngineRun, flows: Sequence[int]) -> str | None:
-    """A sentence on the goodput of these flows, where that of the span's last third differs from the first's by more than the 95 %
-    interval of the difference."""
+class Thirds(NamedTuple):
+    """The goodput of flows in the first third of a span and in the last, bit/s, and the half width of the 95 % interval of the
+    difference; whether that is less than the difference."""
+
+    before: float
+    after: float
+    half: float
+    changed: bool
+
+    @property
+    def part(self) -> float:
+        """The difference beside the goodput."""
+        return abs(self.after - self.before) / (self.before + self.after)
+
+    def __str__(self) -> str:
+        return (f'Not settled: goodput is {self.before / 1e6:.3f} Mbit/s in the first third and {self.after / 1e6:.3f} in the last, '
+                f'±{self.half / 1e6:.3f}.')
+
+
+def thirds(run: Figures | EngineRun, flows: Sequence[int]) -> Thirds | None:
+    """The thirds of a run, of these flows together; None where it has no portions."""
     span, portions = run.end - run.begin, run.portions() if flows else ()
     if len(portions) < PORTIONS:
         return None
@@ -81,9 +103,7 @@ def has_changed(run: Figures | EngineRun, flows: Sequence[int]) -> str | None:
     first, last = goodputs[:THIRD], goodputs[-THIRD:]
     before, after = statistics.fmean(first), statistics.fmean(last)
     half = student(2 * THIRD - 2) * ((statistics.variance(first) + statistics.variance(last)) / THIRD)**.5
-    if abs(after - before) <= max(half, LEAST * statistics.fmean(goodputs)):
-        return None
-    return f'Not settled: goodput is {before / 1e6:.3f} Mbit/s in the first third and {after / 1e6:.3f} in the last, ±{half / 1e6:.3f}.'
+    return Thirds(before, after, half, abs(after - before) > max(half, LEAST * statistics.fmean(goodputs)))
 
 
 def advice(scenario: Scenario, begin: int, end: int, flows: Sequence[int], chosen: Sequence[int] | None = None,
@@ -102,7 +122,8 @@ def advice(scenario: Scenario, begin: int, end: int, flows: Sequence[int], chose
 def too_short(run: Figures | EngineRun, chosen: Sequence[int] | None = None) -> list[str]:
     """Sentences that say why a run is too short for its figures, or for those of the flows that were chosen, and what would do; none
     where it is not. A flow that was chosen has teeth where it can fill its share."""
-    span, flows = (run.scenario, run.begin, run.end), compared(run).flows
-    tooth_in_words, change = has_long_tooth(*span, flows, chosen), has_changed(run, compared(run, chosen).flows)
-    found = [*filter(None, (tooth_in_words, change))]
-    return [*found[:-1], f'{found[-1]} {advice(*span, flows, chosen, bool(change))}'] if found else []
+    flows = compared(run).flows
+    tooth_in_words, goodputs = has_long_tooth(run.scenario, run.begin, run.end, flows, chosen), thirds(run, compared(run, chosen).flows)
+    changed = goodputs is not None and goodputs.changed
+    found = [*([tooth_in_words] if tooth_in_words else []), *([str(goodputs)] if changed else [])]
+    return [*found[:-1], f'{found[-1]} {advice(run.scenario, run.begin, run.end, flows, chosen, changed)}'] if found else []

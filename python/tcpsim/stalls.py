@@ -4,7 +4,7 @@ new acknowledgement and ends at the next one, or where the run ends. Times are n
 from __future__ import annotations
 
 from collections import namedtuple
-from collections.abc import Iterable
+from collections.abc import Iterable, Sequence
 
 from tcpsim.causes import cause_of, name_of
 from tcpsim.cycle import Cycle, cycle_of
@@ -34,10 +34,15 @@ class Sendings(Watch):
     """What is known of a flow: its segments from una on, its acknowledgements that were dropped, and the present
     span (None before the start and after the end). `queued` is that of `Watched`."""
 
+    walk: Walk
+
     def __init__(self, walk: Walk, _flow: FlowState):
-        self.walk, self.copies, self.acks_dropped, self.span = walk, {}, [], None
-        self.flights = []       # bytes in flight at each first timeout of a span
-        self.queued = {}
+        self.walk = walk
+        self.copies: dict[int, list[Packet]] = {}       # by their numbers
+        self.acks_dropped: list[Packet] = []
+        self.span: Span | None = None
+        self.flights: list[int] = []    # bytes in flight at each first timeout of a span
+        self.queued: dict[Port, tuple[int, int, int]] = {}
 
     def sent(self, packet: Packet) -> None:
         """A segment is sent, or sent again."""
@@ -48,7 +53,7 @@ class Sendings(Watch):
         if packet.sort == ACK:
             self.acks_dropped.append(packet)
 
-    def begin(self, span: Span) -> None:
+    def begin(self, span: Span | None) -> None:
         """A span begins, or none."""
         self.span = span
 
@@ -67,11 +72,13 @@ class Watched(Sendings):
 
     def __init__(self, walk: Walk, flow: FlowState):
         super().__init__(walk, flow)
-        places = {}
+        places: dict[Port, Place] = {}
         for hop in flow.hops():
             hop.place = places.setdefault(hop.port, Place(flow, hop.port))
-        self.places, self.flying = set(), 0         # where some of its packets are; how many are under way
-        self.at, self.since, self.line = None, 0, 0     # the place where all wait, since when
+        self.places: set[Place] = set()     # where some of its packets are
+        self.flying = 0                     # how many are under way
+        self.at: Place | None = None        # the place where all wait
+        self.since, self.line = 0, 0        # since when, in which line
 
     def entered(self, packet: Packet, port: Port) -> None:
         """A packet waits."""
@@ -131,10 +138,11 @@ class Watched(Sendings):
         if self.at is not None:
             port, waited = self.at.port, walk.time - self.since
             total, longest, line = self.queued.get(port, (0, -1, 0))
-            self.queued[port] = (total + waited, *max((longest, line), (waited, self.line)))
+            longest, line = max((longest, line), (waited, self.line))
+            self.queued[port] = total + waited, longest, line
         self.since, self.line = walk.time, walk.line
 
-    def begin(self, span: Span) -> None:
+    def begin(self, span: Span | None) -> None:
         """A span begins, or none: what came before it doesn't count."""
         super().begin(span)
         self.since, self.line, self.queued = self.walk.time, self.walk.line, {}
@@ -145,7 +153,8 @@ class Span:
 
     def __init__(self, flow: FlowState, begin: int, line: int):
         self.begin, self.line, self.una, self.nxt = begin, line, flow.una, flow.nxt
-        self.full, self.timers, self.duplicates, self.recover = is_full(flow), [], 0, flow.recover
+        self.full, self.duplicates, self.recover = is_full(flow), 0, flow.recover
+        self.timers: list[Timer] = []
 
 
 def is_again(packet: Packet, span: Span) -> bool:
@@ -166,8 +175,7 @@ class Stall:
     `acks_dropped` are acknowledgements of una or above; `ack` is the one that ended the span, or None;
     `waits_since` says since when an answer waits that the run's end cut off; `queued` is that of `Watched`."""
 
-    def __init__(self, walk: Walk, flow: FlowState, watched: Watched, ack: Packet | None):
-        span = watched.span
+    def __init__(self, walk: Spans, flow: FlowState, watched: Sendings, span: Span, ack: Packet | None):
         self.flow, self.una, self.nxt, self.full = flow, span.una, span.nxt, span.full
         self.begin, self.begin_line, self.end, self.end_line = span.begin, span.line, walk.time, walk.line
         self.length, self.longer, self.ack = self.end - self.begin, walk.longer, ack
@@ -190,11 +198,12 @@ class Spans(Walk):
     """Goes by spans through a run: at each new acknowledgement of a flow one ends and the next begins. `watched` has what is
     known of each flow; spans that are no longer than `longer` are of no interest."""
 
-    kind, longer = Sendings, 0
+    kind: type[Sendings] = Sendings
+    longer = 0
 
     def __init__(self, scenario: Scenario):
         super().__init__(scenario)
-        self.watched = [self.kind(self, flow) for flow in self.flows]
+        self.watched: Sequence[Sendings] = [self.kind(self, flow) for flow in self.flows]
 
     def born(self, packet: Packet) -> None:
         """Watches a packet."""
@@ -202,7 +211,7 @@ class Spans(Walk):
         if packet.sort == DATA:
             watched.sent(packet)
 
-    def at_sender(self, flow: FlowState, kind: str, packet: Packet, before: int) -> None:
+    def at_sender(self, flow: FlowState, kind: str, packet: Packet | None, before: int) -> None:
         """Ends a span at a new acknowledgement, and begins the next."""
         watched = self.watched[flow.number]
         span = watched.span
@@ -230,20 +239,28 @@ class Spans(Walk):
 
 
 class Stalls(Spans):
-    """Finds the stalls of a run while it is read; `rows` has them in the order in which they ended."""
+    """Finds the stalls of a run while it is read; `rows` has them in the order in which they ended, `others` the flow and moment of
+    each timeout in a span that is no stall."""
 
     kind = Watched
+    watched: Sequence[Watched]
 
     def __init__(self, scenario: Scenario, longer: int):
         super().__init__(scenario)
-        self.longer, self.rows = longer, []
+        self.longer = longer
+        self.rows: list[Row] = []
+        self.others: list[tuple[str, int]] = []
 
     def close(self, flow: FlowState, ack: Packet | None) -> None:
         """Ends a span, and keeps it where it was longer than asked for."""
         watched = self.watched[flow.number]
-        if watched.span is not None and self.time - watched.span.begin > self.longer:
+        if watched.span is None:
+            return
+        if self.time - watched.span.begin > self.longer:
             watched.settle()
-            self.rows.append(self.row(Stall(self, flow, watched, ack)))
+            self.rows.append(self.row(Stall(self, flow, watched, watched.span, ack)))
+        else:
+            self.others += [(flow.flow.name, timer.time) for timer in watched.span.timers]
 
     def row(self, stall: Stall) -> Row:
         """A stall's row, made at its end: later its packets can be dropped too."""
@@ -251,15 +268,15 @@ class Stalls(Spans):
         return Row(stall.flow.flow.name, stall.begin, stall.end, stall.length, name_of(cause), found.words,
                    sorted({stall.begin_line, *found.lines, stall.end_line}))
 
-    def finish(self) -> list[Row]:
-        """The run is over: open spans end with it, or with the last line of a trace without `end`. All
-        rows, by flow and then by their beginnings."""
+    def finish(self) -> None:
+        """The run is over: open spans end with it, or with the last line of a trace without `end`. Then
+        the rows are in order, by flow and then by their beginnings."""
         if self.ended:
             self.time = self.scenario.end
         for flow in self.flows:
             self.close(flow, None)
         order = {flow.flow.name: flow.number for flow in self.flows}
-        return sorted(self.rows, key=lambda row: (order[row.flow], row.begin))
+        self.rows.sort(key=lambda row: (order[row.flow], row.begin))
 
     def cycles(self) -> list[Cycle]:
         """The flows that are in a cycle of timeouts; a timeout that follows another with nothing acknowledged is none more."""
@@ -269,11 +286,12 @@ class Stalls(Spans):
 
 def stalls_of(scenario: Scenario, lines: Iterable[str], longer: int = LONGER) -> list[Row]:
     """The rows of all stalls of a run."""
-    return stalls_and_cycles(scenario, lines, longer)[0]
+    return walk_of(scenario, lines, longer).rows
 
 
-def stalls_and_cycles(scenario: Scenario, lines: Iterable[str], longer: int = LONGER) -> tuple[list[Row], list[Cycle]]:
-    """The rows of all stalls of a run, and its cycles of timeouts."""
+def walk_of(scenario: Scenario, lines: Iterable[str], longer: int = LONGER) -> Stalls:
+    """The walk through a whole run."""
     walk = Stalls(scenario, longer)
     walk.read(lines)
-    return walk.finish(), walk.cycles()
+    walk.finish()
+    return walk

@@ -5,6 +5,7 @@ It is made of rows of figures, (what, name, figure, unit, value), as `figures` h
 from __future__ import annotations
 
 from collections.abc import Iterable, Mapping, Sequence
+from typing import Any
 
 from tcpsim.fairness import jain
 from tcpsim.scenario.units import BITS_NS
@@ -13,12 +14,12 @@ TITLES = ('bottleneck', 'used %', 'wait ms: median', '99th', 'loss %', 'flows', 
 LITTLE = .1             # of what the busiest link is used: whose part is less, and which dropped nothing, carried little
 FEW = 4                 # so many links that carried little are shown
 
-Figures = Mapping[str, object]      # of a flow, a link or the run, by name
+Figures = Mapping[str, Any]     # of a flow, a link or the run, by name: numbers and words
 
 
-def by_name(rows: Iterable[tuple], what: str) -> dict[str, dict[str, object]]:
+def by_name(rows: Iterable[tuple], what: str) -> dict[str, dict[str, Any]]:
     """The figures of each flow or each link, or those of the run, whose name is empty."""
-    found = {}
+    found: dict[str, dict[str, Any]] = {}
     for kind, name, figure, _, value in rows:
         if kind == what:
             found.setdefault(name, {})[figure] = value
@@ -33,7 +34,8 @@ def shown(value: float | None, form: str, scale: float = 1) -> str:
 def opening(rows: Sequence[tuple]) -> list[list[str]]:
     """A row for the flows of each bottleneck, the busiest first, and one for its mice."""
     flows, links, (of_run,) = by_name(rows, 'flow'), by_name(rows, 'link'), by_name(rows, 'run').values()
-    lines, at = [list(TITLES)], {}
+    lines = [list(TITLES)]
+    at: dict[str, list[Figures]] = {}
     for flow in flows.values():
         at.setdefault(flow['bottleneck'], []).append(flow)
     for name in sorted(at, key=lambda name: -used(links.get(name))):

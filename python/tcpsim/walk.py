@@ -28,7 +28,7 @@ class Walk:
     def __init__(self, scenario: Scenario):
         self.scenario = scenario
         self.time, self.line, self.ended = 0, 0, False
-        self.expired = None         # of the last timer that ended: how long it ran, whether it had been doubled
+        self.expired = 0, False     # of the last timer that ended: how long it ran, whether it had been doubled
         places = {link: place for links in scenario.leaves for place, link in enumerate(links)}
         self.ports = [Port(number, link, places[number], scenario.nodes[link.source].kind)
                       for number, link in enumerate(scenario.links)]
@@ -43,7 +43,7 @@ class Walk:
     def born(self, packet: Packet) -> None:
         """The packet's end is about to offer it; here it can get its watch."""
 
-    def at_sender(self, flow: FlowState, kind: str, packet: Packet, before: int) -> None:
+    def at_sender(self, flow: FlowState, kind: str, packet: Packet | None, before: int) -> None:
         """After a sender's line: `packet` is the acknowledgement that came or None, `before` is una
         before the line."""
 
@@ -55,7 +55,7 @@ class Walk:
 
     def read(self, lines: Iterable[str]) -> None:
         """Reads all lines; whatever is wrong with one becomes an `Unreadable` with its number."""
-        numbered, line, words, last, end = enumerate(lines, 1), '', [], -1, self.scenario.end
+        numbered, line, words, last, end = enumerate(lines, 1), '', [''], -1, self.scenario.end
         try:
             for self.line, line in numbered:
                 before, words = words, line.split(' ')
@@ -85,7 +85,7 @@ class Walk:
         if self.ended:
             self.line -= 1
 
-    def _end(self, words):
+    def _end(self, words: list[str]) -> None:
         """The line `end N`, or one whose number is another."""
         if words[0] != 'end':
             raise ValueError('its number is out of order')
@@ -95,26 +95,26 @@ class Walk:
             raise ValueError('the run goes on')
         self.ended = True
 
-    def _next_due(self):
+    def _next_due(self) -> int:
         """When the next event is; the run's end where none is before it."""
         due = [port.free_at for port in self.ports if port.sending is not None]
         due += [port.flight[0].due for port in self.ports if port.flight]
-        due += [flow.due('delack') for flow in self.flows if flow.waits is not None]
         due += [flow.flow.start for flow in self.flows if not flow.high]
-        due += [flow.deadline for flow in self.flows if flow.deadline is not None]
+        due += [at for flow in self.flows for at in (flow.due('delack'), flow.deadline) if at is not None]
         return min(due, default=self.scenario.end)
 
-    def _free(self, words):
+    def _free(self, words: list[str]) -> int:
         port = self._port[words[6]]
-        if self.time != port.free_at or words[4] != port.alarm or words[2] != port.node or words[3] != '0':
+        packet = port.sending
+        if packet is None or self.time != port.free_at or words[4] != port.alarm or words[2] != port.node or words[3] != '0':
             raise ValueError('that link does not become free now')
-        packet, port.sending = port.sending, None
+        port.sending = None
         port.flight.append(packet)
         if packet.watch is not None:
             packet.watch.left(packet, port)
         return self._take(port, words, port.acts) if port.waiting else port.acts
 
-    def _arrival(self, words):
+    def _arrival(self, words: list[str]) -> int:
         port = self._arrives[words[3]]
         if not port.flight:
             raise ValueError('nothing is under way on that link')
@@ -125,13 +125,13 @@ class Walk:
             raise ValueError('another packet, or another moment, is the next to arrive')
         if packet.watch is not None:
             packet.watch.came(packet, port)
-        packet.hop = hop.next
-        if packet.hop is not None:
+        if hop.next is not None:
+            packet.hop = hop.next
             return self._offer(packet, words, 8)
         packet.end(CAME, self.time, self.line)
         return (self._receiver if packet.sort == DATA else self._sender)(packet.flow, words[5], packet, words, 8)
 
-    def _alarm(self, words, kind):
+    def _alarm(self, words: list[str], kind: str) -> int:
         flow = self._flow[words[6]]
         if words[2:5] != flow.alarms[kind] or self.time != flow.due(kind):
             raise ValueError('that node has no such alarm now')
@@ -139,7 +139,7 @@ class Walk:
 
     # ---- offering to a link and taking from its queue; `words[at]` is the first act that is not yet used
 
-    def _offer(self, packet, words, at):
+    def _offer(self, packet: Packet, words: list[str], at: int) -> int:
         port = packet.hop.port
         if port.number in self.scenario.own:
             return self._offer_own(port, packet, words, at)
@@ -158,7 +158,7 @@ class Walk:
         port.waiting.append(packet)
         return at
 
-    def _offer_own(self, port, packet, words, at):
+    def _offer_own(self, port: Port, packet: Packet, words: list[str], at: int) -> int:
         """To a class of Python's, which can drop this packet or others."""
         if at < len(words) and words[at] == f'drop={LOST}:{packet.text}':
             self._drop(port, packet, LOST)
@@ -169,7 +169,7 @@ class Walk:
         at = self._drop_own(port, words, at)
         return self._take_own(port, words, at) if port.sending is None and port.waiting else at
 
-    def _refuses(self, port, packet, act):
+    def _refuses(self, port: Port, packet: Packet, act: str) -> bool:
         """Whether the act says that the packet does not enter the queue."""
         if act != 'drop=lost:' + packet.text and act != 'drop=full:' + packet.text:
             return False
@@ -178,7 +178,7 @@ class Walk:
         self._drop(port, packet, act[5:9])
         return True
 
-    def _take(self, port, words, at):
+    def _take(self, port: Port, words: list[str], at: int) -> int:
         """The link that became free takes from its queue, which is not empty."""
         if port.number in self.scenario.own:
             return self._take_own(port, words, at)
@@ -194,7 +194,7 @@ class Walk:
         self._begin(port, packet)
         return at + 1
 
-    def _begin(self, port, packet):
+    def _begin(self, port: Port, packet: Packet) -> None:
         port.sending = packet
         port.free_at = self.time + packet.hop.span
         packet.due = port.free_at + port.delay
@@ -203,7 +203,7 @@ class Walk:
         if packet.watch is not None:
             packet.watch.began(packet, port)
 
-    def _drop_own(self, port, words, at):
+    def _drop_own(self, port: Port, words: list[str], at: int) -> int:
         """What a class of Python's drops of the packets that wait."""
         while at < len(words) and (found := dropped_by(words[at])):
             packet = next((packet for packet in port.waiting if packet.text == found[1]), None)
@@ -214,7 +214,7 @@ class Walk:
             at += 1
         return at
 
-    def _take_own(self, port, words, at):
+    def _take_own(self, port: Port, words: list[str], at: int) -> int:
         """What a class of Python's drops and gives."""
         at = self._drop_own(port, words, at)
         if not port.waiting:
@@ -226,7 +226,7 @@ class Walk:
         self._begin(port, packet)
         return at + 1
 
-    def _codel(self, port, words, at):
+    def _codel(self, port: Port, words: list[str], at: int) -> int:
         """What CoDel drops at the head of the queue."""
         while at < len(words) and words[at].startswith('drop=codel:'):
             if port.link.queue != CODEL or not port.waiting or words[at][11:] != port.waiting[0].text:
@@ -235,7 +235,7 @@ class Walk:
             at += 1
         return at
 
-    def _drop(self, port, packet, fate, waited=False):
+    def _drop(self, port: Port, packet: Packet, fate: str, waited: bool = False) -> None:
         packet.waited = waited
         packet.end(fate, self.time, self.line)
         if packet.watch is not None:
@@ -243,7 +243,7 @@ class Walk:
 
     # ---- the ends
 
-    def _sender(self, flow, kind, packet, words, at):
+    def _sender(self, flow: FlowState, kind: str, packet: Packet | None, words: list[str], at: int) -> int:
         before = flow.una
         una, nxt, recovering = int(words[at][4:]), int(words[at + 1][4:]), PHASES[words[at + 4]]
         if una != (before if packet is None else max(before, packet.number)) \
@@ -257,7 +257,7 @@ class Walk:
         self.at_sender(flow, kind, packet, before)
         return at
 
-    def _sends(self, flow, kind, packet, una, nxt, recovering):
+    def _sends(self, flow: FlowState, kind: str, packet: Packet | None, una: int, nxt: int, recovering: bool) -> tuple[Iterable[int], str]:
         """The segments that a sender's line sends, and why."""
         if una > flow.una:
             partial = recovering and flow.recovering
@@ -276,13 +276,13 @@ class Walk:
         return range(flow.nxt, nxt, flow.mss), FIRST
 
     @staticmethod
-    def _partly(flow, una, nxt):
+    def _partly(flow: FlowState, una: int, nxt: int) -> tuple[int, ...]:
         """What a partial acknowledgement sends: the next hole again, and at most one new segment."""
         if not flow.flow.newreno or nxt not in (flow.nxt, flow.nxt + flow.mss):
             raise ValueError('a recovery goes on as that of no NewReno sender')
         return (una,) if nxt == flow.nxt else (una, flow.nxt)
 
-    def _segment(self, flow, number, why):
+    def _segment(self, flow: FlowState, number: int, why: str) -> Packet:
         """A segment that the sender sends now."""
         if number < flow.high:
             flow.timing = None
@@ -299,9 +299,9 @@ class Walk:
         self.born(packet)
         return packet
 
-    def _receiver(self, flow, kind, packet, words, at):
+    def _receiver(self, flow: FlowState, kind: str, packet: Packet | None, words: list[str], at: int) -> int:
         before, answer = flow.next, None
-        waits = kind == 'data' and flow.receive(packet, self.time)
+        waits = packet is not None and flow.receive(packet, self.time)
         if words[at] != f'next={flow.next}':
             raise ValueError('the receiver\'s next byte is another')
         at += 1
@@ -311,10 +311,13 @@ class Walk:
         self.at_receiver(flow, packet, answer, before)
         return at
 
-    def _answer(self, flow, segment):
+    def _answer(self, flow: FlowState, segment: Packet | None) -> Packet:
         """The acknowledgement that the receiver sends now: to a segment, or at its alarm."""
         answer = Packet(flow, ACK, flow.next, self.time, self.line, ALARM if segment is None else AT_ONCE)
-        answer.of, answer.since = segment or flow.waits, flow.waits_since
+        of = segment or flow.waits
+        if of is None:
+            raise ValueError('no answer waits')
+        answer.of, answer.since = of, flow.waits_since
         flow.waits = flow.waits_since = None
         self.born(answer)
         return answer
@@ -353,12 +356,18 @@ def begins_as_image(path: str) -> bool:
         return file.read(len(IMAGE_BEGINS)) == IMAGE_BEGINS
 
 
+class NoFlow(Unreadable):
+    """A word of a command line names a flow that is not there."""
+
+    status = 2
+
+
 def flow_named(scenario: Scenario, word: str) -> int:
     """The number of the flow with this name, or with this number."""
     for number, flow in enumerate(scenario.flows):
         if word in (flow.name, str(number)):
             return number
-    raise Unreadable(f'the scenario has no flow {word}; it has ' + ', '.join(flow.name for flow in scenario.flows))
+    raise NoFlow(f'the scenario has no flow {word}; it has ' + ', '.join(flow.name for flow in scenario.flows))
 
 
 def check_byte(scenario: Scenario, flow: int, byte: int) -> None:

@@ -17,10 +17,10 @@ import signal
 import subprocess
 import sys
 import tempfile
-from collections.abc import Callable, Iterator
-from typing import BinaryIO
+from collections.abc import Callable, Iterator, Mapping, Sequence
+from typing import IO, TypeVar
 
-from tcpsim.command_line import MODEL
+from tcpsim.command_line import ENDS, MODEL
 from tcpsim.output import named
 from tcpsim.program import find_program, found
 from tcpsim.scenario.text import Scenario, Unreadable, WrongScenario, WrongTrace
@@ -31,9 +31,10 @@ LONGEST_SCENARIO = 1 << 26      # bytes
 IMAGE_BEGINS = b'TCB'
 # How captures begin: pcap of either byte order, in microseconds and in nanoseconds, and pcapng.
 CAPTURES = b'\xd4\xc3\xb2\xa1', b'\xa1\xb2\xc3\xd4', b'\x4d\x3c\xb2\xa1', b'\xa1\xb2\x3c\x4d', b'\x0a\x0d\x0d\x0a'
+NOTED = 1 << 16                 # bytes of a program's notes that are read
 PATIENCE = 10                   # seconds in which a program ends that has closed its output
 S = 10**9
-PROGRAMS = []                   # those that run
+PROGRAMS: list[Piped | subprocess.Popen[bytes] | Spawned] = []    # those that run
 SOON = 0.5                      # seconds in which a program ends whose output is refused, if it ends by itself
 
 
@@ -94,7 +95,12 @@ def meant(path: str, source: bytes, note: str) -> str:
     first, *shown = done.stderr.decode('utf-8', 'replace').splitlines() or ['']
     if first != note or not shown:
         return ''
-    return shown[2] if shown[1:2] and not shown[1].strip('^ ') else shown[-1]
+    if not shown[1:2] or shown[1].strip('^ '):
+        return shown[-1]
+    at = shown[1].index('^')
+    word = shown[0][at:at + shown[1].count('^')]
+    grouped = re.fullmatch(r"[0-9]{1,3}(?:([,_'])[0-9]{3}(?:\1[0-9]{3})*)", word) and ': write ' not in shown[2]
+    return shown[2] + f': write {re.sub("[^0-9]", "", word)}' * bool(grouped)
 
 
 class Rest:
@@ -174,7 +180,7 @@ def blocks(read: Callable[[int], bytes], name: str, scenario: Scenario, partial:
         raise Unreadable(cut(name, count, last, scenario, rest))
 
 
-def texts(read: Callable[[int], bytes], name: str) -> Iterator[list[str]]:
+def texts(read: Callable[[int], bytes], name: str) -> Iterator[str]:
     """The text of each block, from the beginning of the line that the block before it ended in."""
     decoder, held, size, line = codecs.getincrementaldecoder('ascii')(), [], 0, 1
     while block := read(BLOCK):
@@ -214,8 +220,10 @@ def seconds(time: int) -> str:
 class Running:
     """A program that runs: what it writes, and how it ended."""
 
-    def __init__(self, process: subprocess.Popen, note: BinaryIO):
-        self._process, self._note, self.read = process, note, process.stdout.read
+    def __init__(self, process: Piped | subprocess.Popen[bytes], path: str, note: IO[bytes]):
+        assert process.stdout
+        self._process, self._path, self._note = process, path, note
+        self.read: Callable[[int], bytes] = process.stdout.read
 
     def check(self) -> None:
         """Raises where the program that has closed its output did not end well."""
@@ -229,25 +237,43 @@ class Running:
         status = self._process.wait(patience)
         if status:
             self._note.seek(0)
-            raise ProgramFailed(status, self._note.read(1 << 16), self._process.args[0])
+            raise ProgramFailed(status, self._note.read(NOTED), self._path)
+
+    def read_all(self, most: int) -> bytes:
+        """All that it writes once it has ended well; Unreadable where that is more than so many bytes."""
+        found, size = [], 0
+        while block := self.read(BLOCK):
+            found.append(block)
+            size += len(block)
+            if size > most:
+                raise too_long(most)
+        self.check()
+        return b''.join(found)
+
+
+Own = TypeVar('Own', bound='Spawned')
 
 
 class Spawned:
-    """A program's process, with what `Running` wants of it. It costs a third of subprocess.Popen, which counts where a sweep has thousands
-    of runs of some ms: it is spawned, and its end is waited for by a descriptor."""
+    """A program's process with these descriptors. It costs a third of subprocess.Popen, which counts where a sweep has thousands of runs
+    of some ms: it is spawned, and its end is waited for by a descriptor. What asks to end comes once it is known which process runs."""
 
-    def __init__(self, words: list[str], given: BinaryIO, note: BinaryIO):
-        self.args, self.returncode = words, None
-        read, write = os.pipe()
+    def __init__(self, words: list[str], files: Sequence[int], environment: Mapping[bytes, bytes] = os.environb):
+        self.args = words
+        self.returncode: int | None = None
+        before = signal.pthread_sigmask(signal.SIG_BLOCK, ENDS)
         try:
-            files = [(os.POSIX_SPAWN_DUP2, number, to) for to, number in enumerate((given.fileno(), write, note.fileno()))]
-            self.pid = os.posix_spawn(words[0], words, os.environ, file_actions=files, setsigmask=(), setsigdef=(signal.SIGPIPE, signal.SIGXFSZ))
+            self.pid = os.posix_spawn(words[0], words, environment, file_actions=[
+                (os.POSIX_SPAWN_DUP2, number, to) for to, number in enumerate(files)], setsigmask=(), setsigdef=(signal.SIGPIPE, signal.SIGXFSZ))
         except BaseException:
-            os.close(read)
+            signal.pthread_sigmask(signal.SIG_SETMASK, before)
             raise
-        finally:
-            os.close(write)
-        self.stdout = open(read, 'rb', 0)
+        try:
+            signal.pthread_sigmask(signal.SIG_SETMASK, before)
+        except BaseException:
+            self.kill()
+            self.wait()
+            raise
 
     def wait(self, patience: float | None = None) -> int:
         """The status once it has ended; subprocess.TimeoutExpired where it does not within so many seconds."""
@@ -267,14 +293,34 @@ class Spawned:
         if self.returncode is None:
             os.kill(self.pid, signal.SIGKILL)
 
-    def __enter__(self) -> Spawned:
+    def __enter__(self: Own) -> Own:
         return self
 
-    def __exit__(self, *_) -> None:
+    def __exit__(self, *_: object) -> None:
         self.wait()
 
 
+class Piped(Spawned):
+    """One whose output is read as it comes, with what `Running` wants of it."""
+
+    def __init__(self, words: list[str], given: IO[bytes], note: IO[bytes]):
+        read, write = os.pipe()
+        self.stdout = open(read, 'rb', 0)
+        try:
+            super().__init__(words, (given.fileno(), write, note.fileno()))
+        except BaseException:
+            self.stdout.close()
+            raise
+        finally:
+            os.close(write)
+
+
 SPAWNS = all(hasattr(os, name) for name in ('pidfd_open', 'posix_spawn'))
+
+
+def too_long(most: int) -> Unreadable:
+    """What a program is refused for that writes more."""
+    return Unreadable(f'the program wrote no table of figures: more than {most:,} bytes')
 
 
 @contextlib.contextmanager
@@ -285,10 +331,11 @@ def running(words: list[str], source: bytes, first: Callable[[], None] | None = 
         with named(tempfile.gettempdir()):
             given.write(source)
             given.seek(0)
-        with (Spawned(words, given, note) if SPAWNS and not first else
-              subprocess.Popen(words, stdin=given, stdout=subprocess.PIPE, stderr=note, bufsize=0, preexec_fn=first)) as process:
+        started: Piped | subprocess.Popen[bytes] = Piped(words, given, note) if SPAWNS and not first else subprocess.Popen(
+            words, stdin=given, stdout=subprocess.PIPE, stderr=note, bufsize=0, preexec_fn=first)
+        with started as process:
             PROGRAMS.append(process)
-            program = Running(process, note)
+            program = Running(process, words[0], note)
             try:
                 yield program
             except Unreadable:          # a program that ended, and not well, says better than its output what is wrong
@@ -296,12 +343,13 @@ def running(words: list[str], source: bytes, first: Callable[[], None] | None = 
                     program.check_status(SOON)
                 raise
             finally:
-                process.stdout.close()
+                if process.stdout:
+                    process.stdout.close()
                 process.kill()
                 PROGRAMS.remove(process)
 
 
-def unnamed() -> BinaryIO:
+def unnamed() -> IO[bytes]:
     """A new file without a name: in memory, which costs least, where the system has such files."""
     return open(os.memfd_create('tcpsim'), 'w+b') if hasattr(os, 'memfd_create') else tempfile.TemporaryFile()
 

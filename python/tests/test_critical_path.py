@@ -202,7 +202,7 @@ def test_nothing_is_lost_where_the_way_is_longer_than_the_timer():
     """It takes 1.4 s there and back, and the timer 1 s. The first sending is acknowledged: no timer is on the path."""
     walk, _ = run_with(NET.format(capacity=10, segments=1, delack=0, variant='').replace(' 5000000 ', ' 700000000 '))
     assert walk.path(0).timeouts == [] and [timeout.loss for timeout in walk.timeouts.values()] == [None]
-    assert [timeout.cause for timeout in walk.timeouts.values()] == ['the way is longer']
+    assert [timeout.cause for timeout in walk.timeouts.values()] == ['the round trip took longer']
 
 
 def test_the_timer_is_set_by_the_event_that_the_tables_name_at_equal_times():

@@ -14,13 +14,11 @@ import pytest
 
 pexpect = pytest.importorskip('pexpect', reason='no pexpect: apt-get install python3-pexpect')
 
-from clone import BIN, EXAMPLES, MODEL, PROGRAM, TOP, of_model, read, read_text, tool  # noqa: E402
+from clone import BIN, EXAMPLES, PROGRAM, TOP, of_model, read, read_text, tool  # noqa: E402
 from tcpsim.console import keyboard, times  # noqa: E402
 from tcpsim.console.completion import Completion  # noqa: E402
 from tcpsim.prompt import Prompt  # noqa: E402
-from tcpsim_model import image  # noqa: E402
-from tcpsim_model.command_line import read as scenario_in  # noqa: E402
-from typed_lines import Session  # noqa: E402
+from typed_lines import Session, unnamed  # noqa: E402
 
 TWO = os.path.join(EXAMPLES, 'two_timeouts_in_a_row.txt')
 FAIR = os.path.join(EXAMPLES, 'two_flows_share_fairly.txt')
@@ -480,7 +478,7 @@ def test_a_file_that_is_not_there(terminal):
     session.child.expect_exact('tcpsim-debug: /not/there: No such file or directory')
     session.child.expect_exact(pexpect.EOF)
     session.child.close()
-    assert session.child.exitstatus == 1
+    assert session.child.exitstatus == 2
 
 
 # ---- without a terminal
@@ -510,37 +508,25 @@ def test_output_that_is_no_terminal(tmp_path):
 
 @pytest.fixture(scope='module')
 def completion():
-    """Of a prompt that has numbers alone, with the first nine steps of its grammar."""
-    return Completion(Session(FAIR, 9).ask)
+    return Completion(Session(FAIR).ask)
 
 
-COMMANDS = ['step', 'back', 'run', 'reverse', 'until', 'goto', 'where', 'state', 'break', 'breaks', 'delete', 'clear', 'lines', 'why', 'help', 'quit']
+COMMANDS = ['step', 'back', 'run', 'reverse', 'until', 'goto', 'where', 'state', 'break', 'breaks', 'delete', 'clear', 'lines', 'display', 'undisplay', 'why',
+            'stalls', 'names', 'help', 'quit']
 SORTS = ['node', 'flow', 'kind', 'drop', 'link', 'byte']
+VALUES = ['cwnd', 'flight', 'ssthresh', 'una', 'nxt', 'rto', 'dups', 'phase', 'next', 'queue', 'wait', 'count', 'time', 'change']
+CHANGES = ['cwnd', 'flight', 'ssthresh', 'una', 'nxt', 'rto', 'dups', 'next']
+LINKS = ['pq', 'qp', 'sap', 'psa', 'qra', 'raq', 'sbp', 'psb', 'qrb', 'rbq']
 
 
 @pytest.mark.parametrize('before, words', [
     ('', COMMANDS), ('  ', COMMANDS), ('state ', ['node', 'link', 'flow']), ('sta ', ['node', 'link', 'flow']),
-    ('state node ', list('012345')), ('state flow ', list('01')), ('state node 1 ', []), ('break ', [*SORTS, 'stall']),
-    ('br drop ', [it for it in SORTS if it != 'drop']), ('break flow 1 kind rto ', ['node', 'drop', 'link', 'byte']),
+    ('state node ', ['p', 'q', 'sa', 'ra', 'sb', 'rb']), ('state flow ', ['fa', 'fb']), ('state node 1 ', []),
+    ('br drop ', [*(it for it in SORTS if it != 'drop'), *VALUES]), ('break flow 1 kind rto ', ['node', 'drop', 'link', 'byte', *VALUES]),
     ('break kind ', ['start', 'rto', 'delack', 'free', 'data', 'ack']), ('break drop kind ', ['start', 'rto', 'delack', 'free', 'data', 'ack']),
-    ('break flow ', list('01')), ('break stall ', list('01')), ('break stall 1 ', []), ('break byte ', []), ('why ', list('01')),
-    ('delete ', list('12')), ('help ', ['numbers', 'trace', 'kinds', 'stall', *COMMANDS]), ('step ', []), ('run ', []), ('until ', []),
-    ('goto ', []), ('x ', [])])
-def test_words_that_fit(completion, before, words):
-    assert [word for word, _ in completion.words(before, {'breakpoint': ('drop', 'stall 1')})] == words
-
-
-@pytest.fixture(scope='module')
-def latest():
-    """The same of a prompt that has all steps, and names."""
-    return Completion(Session(FAIR, 14).ask)
-
-
-VALUES = ['cwnd', 'flight', 'ssthresh', 'una', 'nxt', 'rto', 'dups', 'phase', 'next', 'queue', 'wait', 'count', 'time', 'change']
-CHANGES = ['cwnd', 'flight', 'ssthresh', 'una', 'nxt', 'rto', 'dups', 'next']
-
-
-@pytest.mark.parametrize('before, words', [
+    ('break drop link ', LINKS), ('break flow ', ['fa', 'fb']),
+    ('break stall ', ['fa', 'fb']), ('break stall 1 ', []), ('break byte ', []), ('why ', ['fa', 'fb']), ('why fa ', []), ('names ', []), ('delete ', ['1', '2']),
+    ('help ', ['numbers', 'trace', 'kinds', 'stall', 'values', *COMMANDS]), ('step ', []), ('run ', []), ('until ', []), ('x ', []),
     ('break ', [*SORTS, *VALUES, 'stall']), ('break change ', CHANGES), ('break change cwnd ', ['fa', 'fb']), ('break change rto ', ['fa', 'fb']),
     ('break change cwnd fa ', [*SORTS, *VALUES[:-1]]), ('break phase ', ['ss', 'ca', 'fr']),
     ('break phase fr ', [*SORTS, *(it for it in VALUES if it != 'phase')]), ('break drop phase ', ['ss', 'ca', 'fr']),
@@ -548,40 +534,37 @@ CHANGES = ['cwnd', 'flight', 'ssthresh', 'una', 'nxt', 'rto', 'dups', 'next']
     *((f'break {value} ', [*SORTS, *VALUES[1:]]) for value in ('cwnd<3000', 'cwnd <3000', 'cwnd< 3000', 'cwnd < 3000', 'cwnd>=3000')),
     ('break queue pq>50 ', [*SORTS, *(it for it in VALUES if it != 'queue')]), ('break time>=5s flow ', ['fa', 'fb']),
     ('break flow fa cwnd<3000 change cwnd fa kind rto ', ['node', 'drop', 'link', 'byte', *VALUES[1:-1]]), ('break stall fa ', []),
-    ('break drop x ', []), ('goto ', []), ('display phase ', ['fa', 'fb']), ('display phase fa ', [])])
-def test_values_that_fit(latest, before, words):
-    assert [word for word, _ in latest.words(before)] == words
+    ('break drop x ', []), ('goto ', []), ('display ', ['flow', 'link', *VALUES[:-2]]),
+    ('display phase ', ['fa', 'fb']), ('display phase fa ', []), ('di flow ', ['fa', 'fb']), ('display queue ', LINKS), ('display queue pq ', []),
+    ('undisplay ', []), ('stalls ', [])])
+def test_words_that_fit(completion, before, words):
+    assert [word for word, _ in completion.words(before, {'breakpoint': ('drop', 'stall fb')})] == words
 
 
-def test_values_have_their_meaning(latest):
-    told = dict(latest.words('break '))
+def test_values_have_their_meaning(completion):
+    told = dict(completion.words('break '))
     assert told['rto'] == 'at a sender: how long its retransmission timer runs' and all(told[it] for it in VALUES)
-    assert dict(latest.words('break phase ')) == {'ss': 'slow start', 'ca': 'congestion avoidance', 'fr': 'fast recovery'}
-    assert dict(latest.words('break change ')) == {it: told[it] for it in CHANGES}
-    assert dict(latest.words('display '))['flight'] == 'a value of flow F: bytes in flight'
+    assert told['flight'] == 'at a sender, of its state: bytes in flight' and told['time'] == 'the moment'
+    assert told['wait'] == 'an event that changes link L: how long the first of them has waited'
+    assert dict(completion.words('break phase ')) == {'ss': 'slow start', 'ca': 'congestion avoidance', 'fr': 'fast recovery'}
+    assert dict(completion.words('break change ')) == {it: told[it] for it in CHANGES}
+    told = dict(completion.words('display '))
+    assert told['flight'] == 'a value of flow F: bytes in flight' and told['queue'] == 'a value of link L: how many packets wait there'
 
 
 def test_words_have_their_meaning(completion):
     assert dict(completion.words(''))['why'] == 'tell what flow F waits for'
     assert dict(completion.words('break '))['drop'] == 'a packet is dropped'
     assert dict(completion.words('break kind '))['rto'] == 'the retransmission timer of flow F ends'
-    assert completion.words('delete ', {'breakpoint': ('drop', 'stall 1'), 'display': ('flow fa',)}) == [('1', 'drop'), ('2', 'stall 1')]
-
-
-@pytest.mark.parametrize('before, words', [
-    ('state node ', ['p', 'q', 'sa', 'ra', 'sb', 'rb']), ('break flow ', ['fa', 'fb']),
-    ('break drop link ', ['pq', 'qp', 'sap', 'psa', 'qra', 'raq', 'sbp', 'psb', 'qrb', 'rbq']), ('break stall ', ['fa', 'fb']),
-    ('why ', ['fa', 'fb']), ('why fa ', []), ('names ', []), ('break byte ', [])])
-def test_names_that_fit(before, words):
-    found = Completion(Session(FAIR, 10).ask).words(before)
-    assert [word for word, _ in found] == words
-    assert {what.split()[0] for _, what in found} <= {'node', 'link', 'flow'}
+    counted = {'breakpoint': ('drop', 'stall fb'), 'display': ('flow fa',)}
+    assert completion.words('delete ', counted) == [('1', 'drop'), ('2', 'stall fb')] and completion.words('undisplay ', counted) == [('1', 'flow fa')]
+    assert completion.words('why ') == [('fa', 'flow 0'), ('fb', 'flow 1')] and completion.words('break link ')[0] == ('pq', 'link 0')
 
 
 def test_an_image_has_numbers_that_fit():
-    completion = Completion(Session(scenario_in(image.save(scenario_in(read(FAIR)))), 10).ask)
+    completion = Completion(Session(unnamed(FAIR)).ask)
     assert completion.words('why ') == [('0', ''), ('1', '')]
-    assert [word for word, _ in completion.words('')][-5:] == ['lines', 'why', 'names', 'help', 'quit']
+    assert [word for word, _ in completion.words('')] == COMMANDS
 
 
 def test_every_word_that_fits_is_taken():

@@ -293,7 +293,7 @@ def test_closed_standard_error(tool, place):
 @pytest.mark.parametrize('tool', TOOLS)
 def test_folder_that_is_not_there(tool, place):
     path = place / 'nowhere' / target(place, tool).name
-    is_told(run(tool, *words(tool), '-o', path, cwd=place), failed(tool), f'{path}: No such file or directory')
+    is_told(run(tool, *words(tool), '-o', path, cwd=place), 2, f'{path}: No such file or directory')
 
 
 # ---- signals
@@ -529,7 +529,7 @@ def test_files_that_are_none(tool, place):
                         (words(tool, 'itself'), 'itself' if tool in ('stalls', 'time', 'follow') else 'line '),
                         ([*words(tool, trace=None), '--program', 'out'], 'no program'),
                         ([*words(tool, '01', None), '--program', PROGRAM], 'refused E4 line')):
-        is_told(run(tool, *given, '-o', target(place, tool), cwd=place), 1, says)
+        is_told(run(tool, *given, '-o', target(place, tool), cwd=place), 2 if says == 'No such file' else 1, says)
     assert os.listdir(place / 'out') == []
 
 

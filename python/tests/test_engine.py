@@ -4,6 +4,7 @@ import csv
 import glob
 import os
 import random
+import re
 import stat
 
 import pytest
@@ -148,7 +149,8 @@ class TestCommand(Files):
         assert lines[1].split() == 'f 10,000 0.027 a 17 2 0 7 3.080 3.080 3.080 3.080 3.015440 3.015440'.split()
         assert lines[3].split()[-7:] == 'dropped as lost as full by CoDel loss %'.split()[-7:]
         assert lines[4].split() == 'a 0.4 3 0.00 1.049 3.120 3.120 5 5 0 0 29.41'.split()
-        assert lines[-2:] == ['Jain\'s index of goodput: -, of none of 1 flow (without 1 that ended)', 'span: 3.017520 s']
+        assert lines[-3:] == ['Jain\'s index of goodput: -, as none of 1 flow is compared (1 that ended)', 'span: 3.017520 s',
+                              'Timed round trips are few: 1 of f.']
 
     def test_texts_images_and_standard_input(self):
         with open(self.scenario, encoding='ascii') as file:
@@ -170,6 +172,7 @@ class TestCommand(Files):
 
     def test_words_that_are_refused(self):
         trace = self.scenario[:-3] + 'trace'
+        assert b'few' not in self.run_flows(self.scenario).stdout       # of a trace they are those of each segment
         for words, note in (((trace, '--engine'), 'TRACE'), (('--engine', '--from', '1s'), '--from'),
                             (('--engine', '--from', '0'), '--from'), (('--engine', '--to', '2s'), '--to'),
                             (('--engine', '--series', '1s'), '--series'), (('--eng',), '--eng')):
@@ -188,8 +191,17 @@ class TestCommand(Files):
                 (self.scenario, full, 'status 4: count full'), (self.scenario, '/nowhere', '/nowhere'),
                 (self.scenario, self.put('true', '#!/bin/sh\n', stat.S_IRWXU), 'no table of figures')):
             done = self.run_flows(scenario, '--engine', program=program)
-            assert (done.returncode, done.stdout, done.stderr.count(b'\n')) == (1, b'', 1), done.stderr
+            status = 2 if scenario == 'nothing' else 1
+            assert (done.returncode, done.stdout, done.stderr.count(b'\n')) == (status, b'', 1), done.stderr
             assert done.stderr.startswith(b'tcpsim-flows: ') and note.encode() in done.stderr, done.stderr
+
+    def test_signs_between_digits(self):
+        """What is to be written instead of a number with signs for people, and no more of one that is another."""
+        text = clone.read_text('examples/bufferbloat.txt')
+        rate = re.search('^link .*? .*? .*? ([0-9]+)', text, re.M)[1]
+        for word, told in (('8,000,000', ': write 8000000\n'), ('8_000', ': write 8000\n'), ("8'000", ': write 8000\n'), ('1.5', '\n'), ('8,00', '\n')):
+            done = self.run_flows(self.put('signs', text.replace(f' {rate} ', f' {word} ', 1)), '--engine')
+            assert done.stderr.decode().endswith('RATE is a whole number of bits per second, 1000 to 1000000000000' + told), word
 
     def test_what_is_no_table_is_refused(self):
         with open(self.scenario, encoding='ascii') as file:

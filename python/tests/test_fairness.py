@@ -91,7 +91,7 @@ def test_all_have_ended():
 
 @pytest.mark.parametrize('counts, words', [
     ((4, 0, 0, 0), 'of 4 flows'), ((1, 0, 0, 0), 'of 1 flow'), ((4, 20, 0, 0), 'of 4 of 24 flows (without 20 mice)'),
-    ((0, 0, 0, 2), 'of none of 2 flows (without 2 that ended)'),
+    ((0, 0, 0, 2), 'as none of 2 flows is compared (2 that ended)'),
     ((3, 1, 2, 1), 'of 3 of 7 flows (without 1 mice, 2 limited by their window, 1 that ended)')])
 def test_how_many_it_is_of(counts, words):
     assert in_words(counts) == words

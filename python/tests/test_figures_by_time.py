@@ -244,6 +244,15 @@ def test_words_that_are_mistaken(answer, words):
     assert (status, out) == (2, b'') and note not in (NO_MOMENT, NO_STEP, TOO_MANY)
 
 
+@pytest.mark.parametrize('words, option', [('--every -1s', '-1'), ('--from -s', '-s'), ('--zz', '--zz'), ('-z', '-z'), ('--zz=1', '--zz')])
+def test_an_option_that_there_is_not(answer, words, option):
+    """Also where a time should be, as it begins with a sign."""
+    status, note, out = answer(['figures', *words.split()], BY_HAND.encode())
+    assert (status, out) == (2, b'') and note.decode() == (
+        f"error: unexpected argument '{option}' found\n\n  tip: to pass '{option}' as a value, use '-- {option}'\n\n"
+        "Usage: tcpsim figures [OPTIONS] [FILE]\n\nFor more information, try '--help'.\n")
+
+
 # ---- the pages
 
 def test_sweeps_has_an_example(tmp_path):

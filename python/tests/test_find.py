@@ -98,9 +98,9 @@ def by_trying_all(net, vary, words, which, best):
     return (rows[-1 if which == 'greatest' else 0] if rows else {}).get(key)
 
 
-def test_drawn_questions():
+def test_drawn_questions(request):
     """The answer is that of trying every value."""
-    for number, (net, vary, words, which, best) in enumerate(questions(20, 4)):
+    for number, (net, vary, words, which, best) in enumerate(questions(request.config.option.questions, 4)):
         is_best = which in ('min', 'max')
         key, _, values = vary.partition('=')
         found = tcpsim.find(net, {key: values}, words, which='least' if is_best else which, best=f'{which} {best}' if is_best else None,
@@ -194,11 +194,13 @@ def test_each_choice_has_its_answer(put):
 
 def test_values_of_conditions():
     assert [percent(word) for word in ('95%', '0.95', '1', '0', '0.5%')] == [95, 95, 100, 0, .5]
-    for word, why in (('95', 'write 95% or 0.95'), ('x%', 'is no number'), ('', 'is no number'), ('1e3', 'is no number')):
+    for word, why in (('95', 'write 95% or 0.95'), ('95ms', "'95ms' is no number of percent: write 95% or 0.95"), ('x%', 'is no number'), ('', 'is no number'), ('1e3', 'is no number')):
         with pytest.raises(Wrong, match=why):
             percent(word)
     assert decimal('1.5') == 1.5
     pattern = Pattern(TWO)
+    with pytest.raises(Wrong, match="'5ms' is no number: f0.timeouts is in times, so write one without a unit"):
+        conditions_of(['f0.timeouts < 5ms'], pattern)
     found = conditions_of(['f0.goodput >= 1M and pq.wait95<20ms', 'run.jain > 0.9 and *.timeouts <= 3'], pattern)
     assert [(each.column.name, each.sign, each.value) for each in found] == [
         ('f0.goodput', '>=', 10**6), ('pq.wait95', '<', 20 * 10**6), ('run.jain', '>', .9), ('f0.timeouts', '<=', 3), ('f1.timeouts', '<=', 3)]

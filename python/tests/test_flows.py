@@ -213,7 +213,7 @@ class TestChosenFlows(Files):
         series = self.lines(self.path, '--series', '1s', '--flows', 'f2', '--program', PROGRAM)
         assert {line.split(',')[2] for line in series if ',flow,' in line} == {'2'}
         done = self.run_flows(self.path, '--flows', 'f0,g', '--program', PROGRAM)
-        assert (done.returncode, b'the scenario has no flow g; it has f0, f1' in done.stderr) == (1, True)
+        assert (done.returncode, b'the scenario has no flow g; it has f0, f1' in done.stderr) == (2, True)
 
 
 class TestCommands(Files):

@@ -405,7 +405,7 @@ class TestRefusals(Files):
         assert (text.count('\n'), text.startswith('tcpsim-follow: ')) == (1, True), text
 
     def test_flows_and_bytes_that_are_none(self):
-        self.refused('no flow g; it has f', self.scenario, self.trace, '--flow', 'g', '--byte', '0')
+        self.refused('no flow g; it has f', self.scenario, self.trace, '--flow', 'g', '--byte', '0', status=2)
         self.refused('has the bytes 0 to 9999, and not 10000', self.scenario, self.trace, '--flow', 'f', '--byte', '10000')
         for byte in ('-1', 'x', '1e3', '', '4_000', '²'):
             self.refused('is no whole number', self.scenario, self.trace, '--flow', 'f', f'--byte={byte}', status=2)

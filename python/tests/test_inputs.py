@@ -18,6 +18,7 @@ from hypothesis import HealthCheck, given, settings, strategies as st  # noqa: E
 from clone import PROGRAM  # noqa: E402
 from seven_tools import EXAMPLE, MODULES, OLD, READERS, is_told, place, run, target, to_private, words  # noqa: E402
 from tcpsim import command_line  # noqa: E402
+from tcpsim.scenario.text import Scenario, WrongScenario  # noqa: E402
 
 __all__ = ['place']
 NAMES = sorted(path.stem for path in EXAMPLE.parent.glob('*.trace') if path.stat().st_size < 60_000)
@@ -193,3 +194,10 @@ def test_scenarios_by_a_process(scenario, data, place):
         assert table.count('\n') == 3 if tool == 'sweep' else table
         (place / 'out' / 'a.csv').unlink()
     assert os.listdir(place / 'out') == []
+
+
+@pytest.mark.parametrize('word', ['sim', 'node', 'link', 'flow', 'route', 'lose'])
+def test_a_statement_of_one_word(word):
+    """As it stands at the end of a scenario that is cut."""
+    with pytest.raises(WrongScenario, match=f'^the scenario, line 2: {word}$'):
+        Scenario(f'sim 1\n{word}')

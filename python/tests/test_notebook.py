@@ -3,6 +3,7 @@
 kept without outputs. Usage: python/tests/test_notebook.py, or pytest."""
 import json
 import os
+import re
 import shutil
 import subprocess
 import sys
@@ -44,7 +45,16 @@ def executed(notebook, **environment):
                            notebook.name], cwd=folder, capture_output=True, text=True, check=False,
                           env={**os.environ, **environment})
     assert done.returncode == 0, done.stderr
-    return cells(folder / 'ran.ipynb')
+    ran = cells(folder / 'ran.ipynb')
+    for cell in ran:
+        cell['outputs'] = [it for it in cell['outputs'] if not is_taken_back(it)]
+    return ran
+
+
+def is_taken_back(output):
+    """Whether an output is a line of progress, which a slow machine shows after 2 s, and blanks in its place at the end."""
+    text = ''.join(output.get('text', ''))
+    return output.get('name') == 'stderr' and re.fullmatch(r'[^\n]*?\s*\r', text) is not None and not text.strip('\r').rpartition('\r')[2].strip()
 
 
 def shown(cell):

@@ -200,7 +200,7 @@ class TestWhatIsShown(Drawn):
                 (2, '1,000,000', ('--to', '9999999s')), (1, 'no flow is named x', ('--flow', 'x')),
                 (2, 'named twice', ('--flow', 'f,f')), (2, 'no panel', ('--panels', 'delay,cwnd')),
                 (2, 'write --beside again', ('--beside', 'a', 'b', 'c')), (2, '2, and there are 1', ('--names', 'a,b')),
-                (1, 'no such', ('--beside', 'no such')),
+                (2, 'no such', ('--beside', 'no such')),
                 (1, 'no program', ('--beside', self.hand[0], '--program', '/nowhere/tcpsim'))):
             self.refused(status, note, *self.hand, *words)
 

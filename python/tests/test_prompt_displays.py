@@ -1,5 +1,5 @@
 #!/usr/bin/env python3
-"""Tests of displays and of the list of stalls at the model's prompt, since its thirteenth step: by hand, beside dumps of the states and
+"""Tests of displays and of the list of stalls at the model's prompt: by hand, beside dumps of the states and
 the runs' traces, from which each value and each stall is found by other means. Usage: python/tests/test_prompt_displays.py, or pytest."""
 import os
 import random
@@ -8,11 +8,9 @@ import sys
 
 import pytest
 
-from clone import TOP, paths, read
-from tcpsim.console.completion import Completion
-from tcpsim_model import image
+from clone import TOP, paths
 from tcpsim_model.command_line import read as scenario_in
-from typed_lines import Session, at, refuses, time_of, trace_of
+from typed_lines import Session, at, refuses, time_of, trace_of, unnamed
 
 TWO, STALLS, CODEL, FAIR, ONE = (paths(name)[0] for name in (
     'two_timeouts_in_a_row', 'two_stalls_of_different_causes', 'codel_enters_drop_state', 'two_flows_share_fairly', 'one_segment'))
@@ -33,7 +31,7 @@ def shown(session, *lines):
 # ---- by hand
 
 def test_a_value():
-    session = Session(TWO, 13)
+    session = Session(TWO)
     assert session('display') == session('disp') == 'no display\n'
     assert session('display cwnd f') == session('display') == session('di cwnd 0') == 'display 1: cwnd f = 4000\n'
     # Four segments fit the window; the first acknowledgement, in line 6, widens it by one segment.
@@ -53,7 +51,7 @@ def test_a_value():
 
 
 def test_a_flow():
-    session = Session(TWO, 13)
+    session = Session(TWO)
     assert session('display flow f') == ('display 1: flow f: cwnd = 4000, flight = 0, ssthresh = 64000, una = 0, nxt = 0, rto = 1000000000ns, '
                                          'dups = 0, phase = ss, next = 0\n')
     # Of ten segments four are there, six under way or lost, and two of these made duplicates.
@@ -66,7 +64,7 @@ def test_a_flow():
 
 
 def test_a_link():
-    session = Session(TWO, 13)
+    session = Session(TWO)
     assert session('display link a') == 'display 1: link a: queue = 0, wait = -, count = -\n'
     # Three segments wait behind the first, since 0; the link takes the next at 1.04 ms.
     assert shown(session, 'step') == ['display 1: link a: queue = 3 (was 0), wait = 0ns (was -), count = -']
@@ -75,13 +73,13 @@ def test_a_link():
     assert shown(session, 'step') == ['display 1: link a: queue = 2, wait = 2040000ns (was 1040000ns), count = -']
     assert shown(session, 'back 3') == ['display 1: link a: queue = 0 (was 2), wait = - (was 2040000ns), count = -']
     # CoDel drops its first packet in line 54.
-    session = Session(CODEL, 13)
+    session = Session(CODEL)
     assert shown(session, 'display count a', 'display queue a', 'goto 54') == ['display 1: count a = 1 (was 0)', 'display 2: queue a = 5 (was 0)']
     assert shown(session, 'display wait a', 'display count b') == ['display 4: count b = -']
 
 
 def test_undisplay():
-    session = Session(FAIR, 13)
+    session = Session(FAIR)
     session('display cwnd fa', 'display flow fb', 'display queue pq', 'step 7')
     assert session('undisplay 2') == 'undisplayed 2: flow fb\n'
     assert [line.split(' = ')[0] for line in shown(session, 'display')] == ['display 1: cwnd fa', 'display 2: queue pq']
@@ -94,7 +92,7 @@ def test_undisplay():
 
 
 def test_what_is_behind_all_else():
-    session, lines = Session(TWO, 13), trace_of(TWO)
+    session, lines = Session(TWO), trace_of(TWO)
     session('break stall', 'display una f')
     assert session('run') == '.. 15 more\n' + ''.join(lines[15:25]) + 'of node s, flow f\n' + at(lines, 25) + 'break 1: stall\n' \
         'display 1: una f = 4000 (was 0)\n'
@@ -104,7 +102,7 @@ def test_what_is_behind_all_else():
 
 
 def test_an_image():
-    session = Session(scenario_in(image.save(scenario_in(read(SIX)))), 13)
+    session = Session(unnamed(SIX))
     assert session('display cwnd 2', 'display queue 2', 'display link 0') == ('display 1: cwnd 2 = 4000\ndisplay 2: queue 2 = 0\n'
                                                                            'display 3: link 0: queue = 0, wait = -, count = -\n')
     assert 'display 4: flow 2: cwnd = 4000, ' in session('display flow 2')
@@ -142,7 +140,7 @@ def line_of(item, name, values, before):
 
 @pytest.mark.parametrize('path, flow, link', [(TWO, 'f', 'a'), (CODEL, 'f', 'a'), (FAIR, 'fb', 'pq'), (SIX, 'mail', 'bc'), (SIX, 'web', 'bc')])
 def test_values_beside_dumps(path, flow, link):
-    session, pick = Session(path, 13), random.Random(f'{os.path.basename(path)} {flow}')
+    session, pick = Session(path), random.Random(f'{os.path.basename(path)} {flow}')
     numbers = {name: int(number) for _, number, name in map(str.split, session('names').splitlines())}
     items = [('flow', flow), ('link', link), *((name, flow) for name in OF_FLOW), *((name, link) for name in OF_LINK)]
     pick.shuffle(items)
@@ -164,7 +162,7 @@ def test_values_beside_dumps(path, flow, link):
 # ---- refusals
 
 def test_what_is_refused():
-    session = Session(TWO, 13)
+    session = Session(TWO)
     refuses(session, 'B1', 'display foo', 'display foo f g', 'display node s', 'display kind', 'display time f', 'display change cwnd f', 'display cwn f',
             'display f', 'display cwnd=f', 'displays', 'undisplays 1', 'stallss', 'help displays', 'help stallss')
     refuses(session, 'B2', 'display cwnd', 'display cwnd f f', 'display flow', 'display link a b', 'undisplay', 'undisplay 1 2', 'stalls f', 'stalls 0',
@@ -172,18 +170,13 @@ def test_what_is_refused():
     refuses(session, 'B3', 'display cwnd a', 'display cwnd 1', 'display queue f', 'display queue 2', 'display flow 01', 'display link x', 'undisplay x',
             'undisplay 01', 'undisplay -1')
     refuses(session, 'B5', 'undisplay 0', 'undisplay 1', 'undisplay 99999999999999999999999')
-    assert session('display foo').endswith('tcpsim: displays are flow F, link L, cwnd F, flight F, ssthresh F, una F, nxt F, rto F, dups F, phase F, '
-                                           'next F, queue L, wait L, count L: see help display\n')
     assert session('display cwnd a').endswith('\ntcpsim: a is a link: see help numbers\n'
                                               'tcpsim: there are nodes 0 to 1, links 0 to 1, flows 0 to 0: see help numbers\n')
     assert session('display') == 'no display\n'
-    assert session('print cwnd').endswith('\ntcpsim: display shows a value after each move, state flow F all of a flow, state link L of a link: '
-                                          'see help display\n')
-    refuses(Session(TWO, 12), 'B1', 'display', 'display cwnd f', 'undisplay 1', 'stalls', 'stal', 'help stalls', 'help cwnd')
 
 
 def test_a_65th_is_refused():
-    session = Session(SIX, 13)
+    session = Session(SIX)
     items = [f'{name} {flow}' for name in OF_FLOW for flow in range(6)] + [f'link {link}' for link in range(10)]
     for item in items:
         session(f'display {item}')
@@ -198,10 +191,10 @@ def test_a_65th_is_refused():
 # ---- stalls
 
 def test_stalls():
-    assert Session(TWO, 13)('stalls') == 'goto 25: flow f is stalled at 9280000 ns\n'
-    assert Session(STALLS, 13)('stalls') == 'goto 7: flow f is stalled at 4120000 ns\ngoto 10: flow f is stalled at 1006160000 ns\n'
-    assert Session(SIX, 13)('stal') == 'goto 657: flow mail is stalled at 327772800 ns\n'
-    assert Session(ONE, 13)('stalls') == 'no stall\n'
+    assert Session(TWO)('stalls') == 'goto 25: flow f is stalled at 9280000 ns\n'
+    assert Session(STALLS)('stalls') == 'goto 7: flow f is stalled at 4120000 ns\ngoto 10: flow f is stalled at 1006160000 ns\n'
+    assert Session(SIX)('stal') == 'goto 657: flow mail is stalled at 327772800 ns\n'
+    assert Session(ONE)('stalls') == 'no stall\n'
 
 
 # Three flows of links of their own. The one segment of f1 is lost at once and that of f0 7 ns later; that of f2 arrives.
@@ -211,13 +204,13 @@ AT_ONCE = b'sim 5000000000\n' + b''.join(
 
 
 def test_stalls_of_several_flows():
-    session = Session(scenario_in(AT_ONCE), 13)
+    session = Session(scenario_in(AT_ONCE))
     assert session('stalls') == 'goto 1: flow f1 is stalled at 0 ns\ngoto 3: flow f0 is stalled at 7 ns\n'
     assert session('break stall f0', 'run').endswith('of node s0, flow f0\nat 3 of the run, time 7 ns\nbreak 1: stall f0\n')
 
 
 def test_the_list_leaves_the_session_where_it_is():
-    session = Session(STALLS, 13)
+    session = Session(STALLS)
     session('break drop', 'display una f', 'step 4')
     before = session('where', 'breaks', 'display', 'state')
     assert session('stalls', 'stalls').count('\n') == 4
@@ -228,7 +221,7 @@ def test_the_list_leaves_the_session_where_it_is():
 @pytest.mark.parametrize('path', [TWO, STALLS, CODEL, SIX, *(paths(name)[0] for name in (
     'a_lost_retransmission', 'a_timer_that_stays_doubled', 'an_answer_that_waits_for_its_alarm', 'three_losses_in_a_window'))])
 def test_stalls_are_where_a_breakpoint_stops(path):
-    session, lines, found = Session(path, 13), trace_of(path), []
+    session, lines, found = Session(path), trace_of(path), []
     listed = re.findall(r'^goto (\d+): flow (\w+) is stalled at (\d+) ns$', session('stalls'), re.M)
     session('break stall')
     while '\nbreak 1: stall\n' in session('run'):
@@ -239,46 +232,14 @@ def test_stalls_are_where_a_breakpoint_stops(path):
     assert [int(time) for _, _, time in listed] == [time_of(lines[int(position) - 1]) for position, _, _ in listed]
 
 
-# ---- help, and what is completed
+# ---- help
 
 def test_help():
-    session = Session(TWO, 13)
-    rows = session('help').splitlines()
-    assert [row.split()[0] for row in rows[:-2]] == ['step', 'back', 'run', 'reverse', 'until', 'goto', 'where', 'state', 'break', 'breaks', 'delete',
-                                                     'clear', 'lines', 'display', 'undisplay', 'why', 'stalls', 'names', 'help', 'quit']
-    assert {row[12] for row in rows[:-2]} == {' '} and all(row[13] != ' ' for row in rows[:-2])
-    for name in ('display', 'undisplay', 'stalls', 'why', 'state', 'numbers', 'stall'):
-        page = session(f'help {name}').splitlines()
-        assert max(map(len, page)) <= 125, name
-        assert not session(page[-1]).startswith('refused ') or name == 'undisplay', name
+    session = Session(TWO)
     for word in ('cwnd', 'queue', 'change', 'time', 'next', 'values'):
         assert session(f'help {word}') == session('help values'), word
     refuses(session, 'B1', 'help cwn', 'help queues', 'help cwnd<3')
     assert 'first byte that is missing' in session('help why') and '4:d:7000@102299200' in session('help state')
-
-
-def test_short_words():
-    session = Session(TWO, 13).prompt
-    for word, name in {'d': 'delete', 'di': 'display', 'disp': 'display', 'u': 'until', 'un': 'until', 'und': 'undisplay', 's': 'step', 'st': 'step',
-                       'sta': 'state', 'stal': 'stalls', 'stall': 'stalls', 'n': 'names', 'w': 'why'}.items():
-        assert session.name_of(word.encode()).decode() == name, word
-    told = Session(TWO, 13)
-    for word, begin in {'d': 'delete I ', 'di': 'display [IT] ', 'u': 'until T ', 'und': 'undisplay I ', 's': 'step [K] ', 'stal': 'A flow is stalled',
-                        'stall': 'A flow is stalled', 'stalls': 'stalls '}.items():
-        assert told(f'help {word}').startswith(begin), word
-
-
-def test_words_that_fit():
-    completion = Completion(Session(FAIR, 13).ask)
-
-    def words(before, **counted):
-        return [word for word, _ in completion.words(before, counted)]
-    assert words('display ') == ['flow', 'link', *OF_FLOW, *OF_LINK] and words('display cwnd ') == words('di flow ') == ['fa', 'fb']
-    assert words('display queue ')[:3] == ['pq', 'qp', 'sap'] and words('display queue pq ') == words('stalls ') == []
-    assert words('undisplay ', display=['cwnd fa', 'link pq'], breakpoint=['drop']) == ['1', '2']
-    assert words('delete ', display=['cwnd fa', 'link pq'], breakpoint=['drop']) == ['1'] and words('undisplay ') == []
-    told = dict(completion.words('display '))
-    assert (told['queue'], told['cwnd']) == ('a value of link L: how many packets wait there', 'a value of flow F')
 
 
 if __name__ == '__main__':

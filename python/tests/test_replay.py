@@ -274,10 +274,10 @@ class TestRefusals(Files):
 
     def test_files_that_are_not_there(self):
         done = self.run_script('nothing.txt', 'nothing.trace')
-        assert (done.returncode, done.stderr.count('\n'), os.listdir(self.folder)) == (1, 1, [])
+        assert (done.returncode, done.stderr.count('\n'), os.listdir(self.folder)) == (2, 1, [])
         given, lines = self.path('a.txt', BY_HAND), self.path('a.trace', TRACE)
         done = self.run_script(given, lines, '-o', os.path.join(self.folder, 'no', 'a.html'))
-        assert (done.returncode, done.stderr.count('\n')) == (1, 1), done.stderr
+        assert (done.returncode, done.stderr.count('\n')) == (2, 1), done.stderr
         done = self.run_script(given, '--program', os.path.join(self.folder, 'no'))
         assert (done.returncode, done.stderr.count('\n')) == (1, 1), done.stderr
 
@@ -423,15 +423,6 @@ def collisions(seen, most=1):
     found += [f'{one["what"]} is cut' for one in seen['cut'] for whole, room in (one['wide'], one['tall'])
               if room and whole - room > most]
     return found
-
-
-def is_first_round_trip(scenario, name, begin, end):
-    """Whether a span is from a flow's start on and no more than 200 ms longer than its empty way there and back takes."""
-    number = [flow.name for flow in scenario.flows].index(name)
-    flow, ways = scenario.flows[number], scenario.ways[number]
-    empty = sum(scenario.links[link].delay + -(-(40 + mss) * 8 * 10**9 // scenario.links[link].rate)
-                for way, mss in zip(ways, (flow.mss, 0)) for link in way)
-    return begin == flow.start and end - begin <= 2 * 10**8 + empty
 
 
 PAGES = tempfile.TemporaryDirectory(prefix='replay')
@@ -588,7 +579,7 @@ class TestInBrowser(WithBrowser):
         run = read_run(*paths(name))
         self.browser.open(self.made(name))
         for number, flow in enumerate(run.flows):
-            curve = self.browser.json(f'page.record.curve(page.record.ofFlow({number}, CWND))')
+            curve = self.browser.json(f'(({{times, values}}) => ({{times: [...times], values: [...values]}}))(page.record.curve(page.record.ofFlow({number}, CWND)))')
             changes = [(time, now) for time, now, before in zip(flow.times, flow.cwnd, [4000, *flow.cwnd])
                        if now != before]
             assert list(zip(curve['times'], curve['values']))[1:] == changes
@@ -648,10 +639,9 @@ class TestInBrowser(WithBrowser):
             last = event
 
     def test_stalls_are_those_of_stalls_py(self):
-        """`s` visits the moments from which tcpsim-stalls says that a flow stood still, in every example, but for first
-        round trips that are no more than 200 ms longer than the empty way."""
+        """`s` visits the moments from which tcpsim-stalls says that a flow stood still, in every example."""
         for name in NAMES:
-            rows = [row for row in self.rows_of_stalls(name) if not is_first_round_trip(scenario_of(name), *row)]
+            rows = self.rows_of_stalls(name)
             self.browser.open(self.made(name))
             assert sorted(self.browser.json(STALLS)) == sorted(rows)
             # Where there is no stall `s` stays before the first event, at 0.
@@ -668,8 +658,7 @@ class TestInBrowser(WithBrowser):
         self.browser.open(self.made(name, '--from', '2s', '--to', '7s'))
         last = self.browser.value('page.record.times[page.record.count]')
         rows = [[flow, since, min(to, last)] for flow, since, to in self.rows_of_stalls(name)
-                if begin <= since < end and min(to, last) - since > 2 * 10**8
-                and not is_first_round_trip(scenario_of(name), flow, since, to)]
+                if begin <= since < end and min(to, last) - since > 2 * 10**8]
         assert len(rows) > 10
         assert sorted(self.browser.json(STALLS)) == sorted(rows)
 

@@ -128,16 +128,15 @@ def test_what_is_left_out_is_said(browser, made):
     assert 'what comes after 6.9' in told
 
 
-def test_a_starts_first_round_trip_is_no_stall(browser, made, tmp_path):
-    """Over a way of 207 ms there and back nothing is lost and nothing waits; over one of the same length whose first segment
-    is lost the second that the timer takes is a stall."""
-    text = ('node s sender\nnode r receiver\nlink a s r 100000000 103500000 droptail 100\n'
-            'link b r s 100000000 103500000 droptail 100\nflow f s r 1000 1 0 64000 0\nsim 5000000000\n')
-    for more, stalls in (('', []), ('lose a 1\n', [[0, 'f']])):
-        path = tmp_path / f'far{len(more)}.txt'
-        path.write_text(text + more, encoding='ascii')
+def test_a_starts_first_round_trip_is_a_stall_as_for_the_tool(browser, made, tmp_path):
+    """Over a way of 207 ms there and back nothing is lost and nothing waits; over one of 193 ms there is none."""
+    for delay, stalls in ((103500000, [[0, 'f']]), (96500000, [])):
+        path = tmp_path / f'far{delay}.txt'
+        path.write_text(f'node s sender\nnode r receiver\nlink a s r 100000000 {delay} droptail 100\n'
+                        f'link b r s 100000000 {delay} droptail 100\nflow f s r 1000 1 0 64000 0\nsim 5000000000\n', encoding='ascii')
         browser.open(made(str(path), '--program', MODEL)[0])
         assert browser.json('page.record.stalls.map(s => [s.from, page.facts.flows[s.flow].name])') == stalls
+        assert tool('stalls', str(path), '--csv', '--program', MODEL, text=True).stdout.count('\nf,') == len(stalls)
 
 
 # ---- large nets

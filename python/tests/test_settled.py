@@ -12,7 +12,7 @@ from tcpsim.engine import PORTIONS, EngineRun, portions_of
 from tcpsim.figures import Figures
 from tcpsim.scenario.text import Scenario
 from tcpsim.scenario.units import time
-from tcpsim.settled import advice, can_end, has_changed, has_long_tooth, rounded, too_short, tooth
+from tcpsim.settled import advice, can_end, has_long_tooth, rounded, thirds, too_short, tooth
 from tcpsim_model.figures import figures
 from tcpsim_model.simulate import trace
 from tcpsim_model.text import assemble
@@ -102,13 +102,13 @@ def test_the_last_third_beside_the_first():
     in the last third 0.49 more is within it, and 0.5 is beyond. Without variance a difference of 2 % is none."""
     first = [125_000, 250_000] * 5
     for more, changed in ((61_250, False), (62_500, True), (-62_500, True)):
-        said = has_changed(Told(*first, *first, *(count + more for count in first)), [0])
-        assert bool(said) == changed
-    assert said == 'Not settled: goodput is 1.500 Mbit/s in the first third and 1.000 in the last, ±0.495.'
+        said = thirds(Told(*first, *first, *(count + more for count in first)), [0])
+        assert said.changed == changed
+    assert str(said) == 'Not settled: goodput is 1.500 Mbit/s in the first third and 1.000 in the last, ±0.495.'
     for last, changed in ((101_000, False), (104_000, True)):
-        assert bool(has_changed(Told(*[100_000] * 20, *[last] * 10), [0])) == changed
-    assert has_changed(Told(*first), [0]) is None
-    assert has_changed(Told(*[1] * 20, *[9] * 10), []) is None
+        assert thirds(Told(*[100_000] * 20, *[last] * 10), [0]).changed == changed
+    assert thirds(Told(*first), [0]) is None
+    assert thirds(Told(*[1] * 20, *[9] * 10), []) is None
 
 
 def test_portions_of_traces_and_of_the_program(put):
@@ -130,9 +130,9 @@ def test_the_flows_that_were_chosen():
     """Of the last flow, which begins late, goodput changes, and of the first it does not."""
     net = tcpsim.dumbbell(flows=2, rate='2M', rtt='40ms', start=['0', '2.5s'], end='4s')
     run = Figures(net.parsed, ''.join(trace(assemble(net.text.encode()))).splitlines())
-    thirds = {number: [sum(portion[number] for portion in part) for part in (run.portions()[:10], run.portions()[-10:])] for number in (0, 1)}
+    both = {number: [sum(portion[number] for portion in part) for part in (run.portions()[:10], run.portions()[-10:])] for number in (0, 1)}
     for chosen in ([0], [1]):
-        first, last = ((8 * count / (4 / 3) / 1e6) for count in thirds[chosen[0]])
+        first, last = ((8 * count / (4 / 3) / 1e6) for count in both[chosen[0]])
         said = [words for words in too_short(run, chosen) if words.startswith('Not settled')]
         assert said[0].startswith(f'Not settled: goodput is {first:.3f} Mbit/s in the first third and {last:.3f} in the last')
 
@@ -227,6 +227,63 @@ def test_sweeps_say_it(short):
         assert last.startswith(LONG) and last.endswith('2 of 2 settings are too short, most of all pq.queue=droptail:BDP.')
     assert LONG not in tool('sweep', *words, '--csv').stdout.decode()
     assert LONG not in tool('sweep', *words, '--set', 'f0.segments=20').stdout.decode()
+
+
+def changes(lines):
+    """The sentences on goodput that changes."""
+    return [line for line in lines if line.startswith('Not settled: ')]
+
+
+def test_sweeps_that_are_asked_say_what_changes(tmp_path):
+    """The model's flow of 50 Mbit/s and 200 ms, in a minute: a sweep says of each setting what tcpsim-flows says of that run, and what
+    would do. Its rows are those of a sweep that is not asked."""
+    net = tcpsim.dumbbell(flows=1, rate='50M', rtt='200ms', queue='droptail:BDP', end='60s')
+    net.save(tmp_path / 'short.txt')
+    words = str(tmp_path / 'short.txt'), '--skip', '10s', '--program', PROGRAM
+    alone = tool('flows', words[0], '--from', '10s', *words[3:]).stdout.decode().splitlines()
+    for more in ((), ('--over', 'f0.start=0,100ms')):
+        lines = tool('sweep', *words, '--set', 'pq.queue=droptail:BDP', *more, '--settled').stdout.decode().splitlines()
+        assert changes(lines) == changes(alone) and lines[-1] == alone[-1] and sum(line.count(' an end of ') for line in lines) == 1
+        row, = (line for line in lines if line.startswith('droptail:BDP'))
+        assert row.endswith(' no')
+    asked = tool('sweep', *words, '--set', 'pq.queue=droptail:BDP,20', '--settled', '--csv', '-o', tmp_path / 's.csv').stdout.decode()
+    plain = tool('sweep', *words, '--set', 'pq.queue=droptail:BDP,20', '--csv').stdout.decode()
+    assert [line.rpartition(',')[::2] for line in asked.splitlines()] == list(zip(plain.splitlines(), ('settled', 'no', 'no')))
+    assert (tmp_path / 's.csv').read_text() == plain
+
+
+def test_what_has_settled_is_told_too(short, tmp_path):
+    """Of two settings one has settled. Of the first runs alone it is asked; a run that ends by itself has no thirds."""
+    path = short[1]
+    words = path, '--set', 'pq.rate=4M,200k', '--set', 'pq.queue=droptail:BDP', '--settled', '--program', PROGRAM
+    lines = tool('sweep', *words).stdout.decode().splitlines()
+    assert [line.split()[-1] for line in lines[1:4]] == ['settled', 'no', 'yes'] and lines[-1].endswith(
+        ' 1 of 2 settings have not settled, most of all pq.rate=4M pq.queue=droptail:BDP.')
+    rows = tool('sweep', *words, '--over', 'f0.start=0,1ms', '--csv').stdout.decode().splitlines()
+    assert [line.split(',')[-1] for line in rows] == ['settled', 'no', 'yes']
+    assert tool('sweep', path, '--set', 'f0.segments=9', '--settled', '--program', PROGRAM).stdout.decode().splitlines()[-1].endswith(' -')
+    for more in (('--print', str(tmp_path / 'jobs')), ()):
+        done = tool('sweep', *([path, '--set', 'end=1s'] if more else ['--gather', str(tmp_path)]), '--settled', *more)
+        assert done.returncode == 2 and b'--settled' in done.stderr
+
+
+def test_a_search_says_it_of_its_answers(short):
+    words = short[1], '--vary', 'pq.queue=droptail:29..33', '--least', '--so-that', 'f0.goodput >= 1M', '--program', PROGRAM
+    lines = tool('find', *words).stdout.decode().splitlines()
+    answer, = (line for line in lines if ' least' in line and not line.startswith('pq.queue'))
+    queue = answer.split()[0]
+    swept = tool('sweep', short[1], '--set', f'pq.queue={queue}', '--settled', '--program', PROGRAM).stdout.decode().splitlines()
+    assert changes(lines) == changes(swept) != []
+    found = tcpsim.find(short[0], {'pq.queue': 'droptail:29..33'}, 'f0.goodput >= 1M', engine=PROGRAM)
+    assert found.answer['settled'] is False and changes(repr(found).splitlines()) == changes(lines)
+    assert [row['settled'] for row in found.around if row['is'] != 'answer'] == [None] * (len(found.around) - 1)
+
+
+def test_python_asks_it(short):
+    settings = {'pq.queue': 'droptail:5,BDP'}
+    asked, plain = (tcpsim.sweep(short[0], settings, engine=PROGRAM, settled=each) for each in (True, False))
+    assert [row['settled'] for row in asked.rows] == [row['settled'] for row in asked.means] == [False, False]
+    assert 'settled' not in plain.rows[0] and not changes(repr(plain).splitlines()) and len(changes(repr(asked).splitlines())) == 1
 
 
 if __name__ == '__main__':

@@ -24,7 +24,7 @@ SHOWN = {
     'an acknowledgement was lost': 'a_lost_acknowledgement',
     'a delayed acknowledgement was waited for': 'an_answer_that_waits_for_its_alarm',
     'fast retransmit took a round trip': 'sawtooth_of_congestion_avoidance',
-    'the way is longer': 'parking_lot_of_three_routers',
+    'the round trip took longer': 'parking_lot_of_three_routers',
 }
 # A segment takes 1.04 ms, an acknowledgement 0.04 ms, each way 5 ms.
 NET = '''sim {end}
@@ -223,7 +223,7 @@ def test_losses_are_those_of_another_reading():
             again = any(fate in ('lost', 'full', 'codel') for time, fate in copies if row.begin < time < row.end)
             woken = woken_by(lines[first - 1:last - 1], flow)
             if not lost:
-                expected = {'the timer had doubled', 'an acknowledgement was lost', 'the way is longer',
+                expected = {'the timer had doubled', 'an acknowledgement was lost', 'the round trip took longer',
                             'a delayed acknowledgement was waited for'}
             else:
                 expected = {'a loss was left to the timer'} if woken != 'fr' else \
@@ -380,7 +380,22 @@ def test_spans_that_the_runs_end_cuts_off():
         0, 900 * MS, 'a loss was left to the timer',
         'segment 0 was dropped (lost) and 0 duplicates came: too few were behind it (0 segments)', [1]))
     check(net(end=11 * MS, segments=1), 10 * MS, (
-        0, 11 * MS, 'the way is longer', 'from segment 0 to its acknowledgement it takes 11 ms at least', [1, 4]))
+        0, 11 * MS, 'the round trip took longer', 'from segment 0 to its acknowledgement it takes 11 ms at least', [1, 4]))
+
+
+def test_timeouts_in_no_stall(tmp_path):
+    """Of twelve segments the first eight are lost, to a NewReno sender. The first partial acknowledgement, at 0.543 s, sets the timer
+    anew, to end a second later; further ones come each 181 ms until it ends. Where spans of 2 s count, timeouts of Reno are named too."""
+    losses = [f'a {number}' for number in range(1, 9)]
+    text = net(delay=90 * MS, segments=12, lose=losses).replace('64000 0', '64000 0 newreno iw10').replace('droptail 10', 'droptail 20')
+    walk = stalls.walk_of(Scenario(text), iter(run_by_program(text)))
+    assert [(row.begin, row.end) for row in walk.rows] == [(0, 543_240_000)]
+    assert walk.others == [('f', 1_543_240_000)]
+    (tmp_path / 'net.txt').write_text(text)
+    said = [tool('stalls', str(tmp_path / 'net.txt'), *more, text=True).stdout.splitlines()[-1] for more in ([], ['--longer', '100ms'])]
+    assert said == ['1 timeout is in no stall but in a shorter span: f at 1.543240000 s', '8 stalls longer than 100 ms']
+    reno, lines = example('two_timeouts_in_a_row')
+    assert len(stalls.walk_of(Scenario(reno), iter(lines), 10**11).others) == 2
 
 
 def test_a_trace_without_its_last_lines():
@@ -441,9 +456,9 @@ f          1.023200000       3.034280000     2.011080000  the timer had doubled
 
     def test_longer(self):
         lines = self.told(self.scenario, self.trace, '--longer', '1.5s').splitlines()
-        assert (len(lines), lines[-1]) == (5, '1 stall longer than 1.5 s')
+        assert (len(lines), lines[-2:]) == (6, ['1 stall longer than 1.5 s', '1 timeout is in no stall but in a shorter span: f at 1.000000000 s'])
         lines = self.told(self.scenario, self.trace, '--longer', '2011080us').splitlines()
-        assert lines[1:] == ['0 stalls longer than 2.01108 s']
+        assert lines[1:] == ['0 stalls longer than 2.01108 s', '2 timeouts are in no stall but in shorter spans: f at 1.000000000 s, f at 3.023200000 s']
 
     def test_csv(self):
         rows = list(csv.reader(io.StringIO(self.told(self.scenario, self.trace, '--csv'))))
@@ -528,8 +543,8 @@ class TestRefusals(Files):
         self.refused('not ASCII', self.scenario, image)
 
     def test_words_that_are_refused(self):
-        self.refused('no flow g; it has f', self.scenario, self.trace, '--flow', 'g')
-        self.refused('no flow 1', self.scenario, self.trace, '--flow', '1')
+        self.refused('no flow g; it has f', self.scenario, self.trace, '--flow', 'g', status=2)
+        self.refused('no flow 1', self.scenario, self.trace, '--flow', '1', status=2)
         for longer in ('200', 'x', '-1ms', '1e3ms', '0.1ns', ''):
             self.refused('is no time', self.scenario, self.trace, f'--longer={longer}', status=2)
         self.refused('SCENARIO is missing', status=2)

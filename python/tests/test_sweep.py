@@ -24,12 +24,13 @@ import pytest
 import clone
 from clone import BIN, PROGRAM, TOP, paths, read, read_text
 from tcpsim.cli import net as command
+from tcpsim.program import format_of
 from tcpsim.sweeps import pattern as sweep
 from tcpsim.sweeps import pool
 from tcpsim.sweeps.columns import FROM, columns_of
 from tcpsim.sweeps.files import FIRST_LINE
 from tcpsim.sweeps.look import look_of
-from tcpsim.sweeps.rows import AskedOfRun, Grid, format_of
+from tcpsim.sweeps.rows import AskedOfRun, Grid
 
 SWEEP = os.path.join(BIN, 'tcpsim-sweep')
 DIR = tempfile.TemporaryDirectory()
@@ -350,10 +351,11 @@ class TestWrongWords:
         'hand --set a.delay=1ms,1000us': (2, 'twice'), 'hand --set a.lose=5+5': (2, 'twice'),
         'hand --set a.lose=5,x': (2, "'x'"), 'hand --set f.lose=5': (2, "no link 'f'"), 'hand --set a.lose': (2, 'none,5,5+6'),
         'hand --set end=1s,': (2, "''"), 'hand --link s': (2, "'s'"),
-        'hand --skip 5': (2, '--skip'), 'hand -j 0': (2, '-j'), 'hand -j x': (2, 'x'), 'hand --foo': (2, '--foo'),
-        'hand --plot s.doc': (2, '.svg'), 'missing': (1, 'missing'), '.': (1, 'irectory'), 'empty': (2, 'no scenario'),
-        'picture': (2, 'no scenario'), 'hand -o /nowhere/s.csv': (1, '/nowhere/s.csv'), 'hand --print /dev/null/x': (1, 'x'),
-        'hand --print x -o y': (2, '--print'), '--gather .': (1, 'sweep.json'), '--gather . --set a.queue=droptail:5': (2, '--gather'),
+        'hand --skip 5': (2, '--skip'), 'hand --skip 12ms --set a.queue=droptail:1': (2, 'the scenario ends at 12ms, and nothing of it is later'),
+        'hand --settled --print x': (2, '--settled'), 'hand -j 0': (2, '-j'), 'hand -j x': (2, 'x'), 'hand --foo': (2, '--foo'),
+        'hand --plot s.doc': (2, '.svg'), 'missing': (2, 'missing'), '.': (1, 'irectory'), 'empty': (2, 'no scenario'),
+        'picture': (2, 'no scenario'), 'hand -o /nowhere/s.csv': (2, '/nowhere/s.csv'), 'hand --print /dev/null/x': (1, 'x'),
+        'hand --print x -o y': (2, '--print'), '--gather .': (2, 'sweep.json'), '--gather . --set a.queue=droptail:5': (2, '--gather'),
         'hand --gather .': (2, 'SCENARIO'),
     }
 
@@ -481,7 +483,9 @@ class TestPictures:
         assert [list(line.get_xdata()) for line in figure.axes[0].lines] == [[10, 20, 40]] * 2
         assert [(each.get_xscale(), each.get_yscale()) for each in figure.axes] == [('log', 'log')] * 2
         assert [text.get_text() for text in figure.legends[0].texts] == ['droptail:5', 'droptail:9']
-        assert figure.get_supxlabel() if hasattr(figure, 'get_supxlabel') else figure._supxlabel.get_text() == 'pq+qp.delay, ms'
+        assert figure._supxlabel.get_text() == 'pq+qp.delay, ms (logarithmic)' and figure._supylabel.get_text().endswith(' (logarithmic)')
+        _, figure = self.drawn(sets, {'x': 'pq.delay'})
+        assert figure._supxlabel.get_text() == 'pq+qp.delay, ms' and 'logarithmic' not in figure._supylabel.get_text()
 
     @pytest.mark.parametrize('kind', ['cdf', 'box'])
     def test_distributions_of_replicates(self, kind):
@@ -518,6 +522,8 @@ class TestPictures:
             assert (why if more else 'are of --plot') in done.stderr
 
     def test_letters_in_pdf_are_embedded(self):
+        tool(path('hand.txt', BY_HAND), '--set', 'a.queue=droptail:1,2', '--plot', path('s.png'), '--size', '85mm')
+        assert int.from_bytes(read(path('s.png'))[16:20], 'big') == int(85 / 25.4 * 300)        # the width that its header has
         tool(path('hand.txt', BY_HAND), '--set', 'a.queue=droptail:1,2', '--plot', path('s.pdf'), '--size', '85mm')
         assert b'/FontFile2' in read(path('s.pdf')) and b'/Type3' not in read(path('s.pdf'))
 
@@ -537,7 +543,7 @@ class TestPictures:
             assert done.returncode == 0, done.stderr
             assert read(path(name)).startswith(begins)
         done = tool(path('hand.txt', BY_HAND), '--plot', '/nowhere/s.svg')
-        assert done.returncode == 1
+        assert done.returncode == 2
         assert 'figures of link a' in done.stdout
         assert '/nowhere/s.svg' in done.stderr.splitlines()[-1]
         done = tool(path('hand.txt', BY_HAND), '--plot', path('s.svg'), '--set', 'a.queue=droptail:1,2', '--set',
@@ -602,7 +608,7 @@ def test_progress(monkeypatch, capsys):
     monkeypatch.setattr(pool.clock, 'monotonic', lambda: next(seconds))
     progress = pool.Progress(4)
     for status in ('done', 'refused E5 line 1', 'done', 'done'):
-        progress.note({'a.queue': '2'}, {'status': status})
+        progress.note([({'a.queue': '2'}, {'status': status})])
     assert capsys.readouterr().err.splitlines() == [
         '1 of 4 runs, 30 s, about 90 s left: a.queue=2', '2 of 4 runs, 1 without figures, 60 s, about 60 s left: a.queue=2: refused E5 line 1',
         '3 of 4 runs, 1 without figures, 90 s, about 30 s left: a.queue=2', '4 of 4 runs, 1 without figures, 120 s: a.queue=2']

@@ -3,8 +3,10 @@ are those of a sweep without them, none twice and none missing."""
 import contextlib
 import csv
 import functools
+import hashlib
 import io
 import os
+import re
 import signal
 import socket
 import subprocess
@@ -15,7 +17,8 @@ import time
 import pytest
 
 import tcpsim
-from clone import BIN, PATIENCE, PROGRAM, digest, ran
+from clone import BIN, PATIENCE, PROGRAM, digest, ran, tool_words
+from tcpsim.sweeps.jobs import job_folder
 
 SWEEP = os.path.join(BIN, 'tcpsim-sweep')
 SCENARIO = '''sim 12000000
@@ -115,6 +118,75 @@ def put(folder, name, text):
     return path
 
 
+FIND = 'hand.txt', '--vary', 'a.queue=droptail:1..30', '--over', 'f.start=0..1ms/1ms', '--least', '--so-that', 'a.dropped <= 0', '--program', PROGRAM
+
+
+def finds_the_same(folder, on, **more):
+    """Whether tcpsim-find by an engine has the answer and the rows of one without, and left nothing but them. With room for three
+    packets one is dropped, with four none."""
+    put(folder, 'hand.txt', SCENARIO)
+    tables, rows = [], []
+    for words in (), ('--on', on, '-j', '2'):
+        done = ran(*tool_words('find'), *FIND, '-o', 'rows.csv', *words, cwd=folder, encoding='utf-8', **more)
+        assert done.returncode == 0, done.stderr
+        tables.append(done.stdout)
+        with open(os.path.join(folder, 'rows.csv'), encoding='utf-8') as file:
+            rows.append(file.read())
+    assert tables[0] == tables[1] and rows[0] == rows[1]
+    assert re.findall(r'(\S+) .* least  +\d', tables[1]) == ['droptail:4'] and 10 < rows[1].count('\n') < 60
+    assert [name for name in os.listdir(folder) if name.startswith('tcpsim-sweep-')] == []
+
+
+# ---- the rows are those of single runs of the program
+
+SHOWN = {'f.goodput_bit_s': None, 'f.delivered_bytes': ('flow', 'delivered'), 'f.sent': ('flow', 'sent'), 'f.timeouts': ('flow', 'timeouts'),
+         'f.rtt50_ns': ('flow', 'median round trip'), 'a.wait95_ns': ('link', '95th percentile of delay in the queue'), 'a.sent': ('link', 'sent packets'),
+         'a.full': ('link', 'dropped as full'), 'a.queue_max': ('link', 'greatest queue'), 'run.events': ('run', 'events')}
+STARTS = 10
+
+
+def single_row(path, queue, start):
+    """The row of a run whose figures the program writes when it is called by itself."""
+    text = SCENARIO.replace('droptail 7', f'droptail {queue}').replace(' 0 64000', f' {start * 10**6} 64000')
+    path.write_text(text)
+    written = subprocess.check_output([PROGRAM, 'figures', path], stdin=subprocess.DEVNULL, encoding='ascii')
+    table = {(row['what'], row['figure']): row['value'].replace('-', '') for row in csv.DictReader(io.StringIO(written))
+             if row['number'] in ('', '0')}
+    end = int(table['flow', 'completed'] or 12_000_000)
+    table[None] = f'{int(table["flow", "delivered"]) * 8 * 10**9 / (end - start * 10**6):.6f}'
+    return [f'droptail:{queue}', queue, f'{start}ms' if start else '0', start * 10**6, 'done', *(table[each] for each in SHOWN.values()),
+            0, hashlib.sha256(text.encode()).hexdigest()[:16], '', digest(PROGRAM)]
+
+
+@pytest.fixture(scope='session')
+def singles(request, tmp_path_factory):
+    """So many runs, one after another, as the bytes of rows; and the words of the sweep."""
+    queues = max(1, request.config.option.runs // STARTS)
+    file, path = io.StringIO(), tmp_path_factory.mktemp('single') / 'one.txt'
+    out = csv.writer(file, lineterminator='\n')
+    out.writerow(['a.queue', 'a.queue_packets', 'f.start', 'f.start_ns', 'status', *SHOWN, 'from_ns', 'scenario_sha256', 'options', 'program_sha256'])
+    out.writerows(single_row(path, queue, start) for queue in range(1, queues + 1) for start in range(STARTS))
+    shown = ','.join(title.partition('_')[0] if title.count('_') and 'queue' not in title else title for title in SHOWN)
+    return file.getvalue(), ('--set', f'a.queue=droptail:1..{queues}', '--over', f'f.start=0..{STARTS - 1}ms/1ms', '--show', shown)
+
+
+def has_the_rows_of(singles, folder, *words, **more):
+    """Whether a sweep has, to the byte."""
+    text, grid = singles
+    with open(os.path.join(folder, 'one.txt'), 'w', encoding='ascii') as file:
+        file.write(SCENARIO)
+    done = ran(sys.executable, SWEEP, file.name, *grid, '--program', PROGRAM, '-o', 'rows.csv', *words, cwd=folder, encoding='utf-8',
+               **{'timeout': PATIENCE + text.count('\n'), **more})
+    assert done.returncode == 0, done.stderr
+    with open(os.path.join(folder, 'rows.csv'), encoding='utf-8') as file:
+        assert file.read() == text
+
+
+@pytest.mark.parametrize('jobs', ['1', '4'])
+def test_rows_of_single_runs_by_processes(singles, jobs, tmp_path):
+    has_the_rows_of(singles, tmp_path, '-j', jobs)
+
+
 # ---- Slurm
 
 CONF = '''ClusterName=here
@@ -188,6 +260,17 @@ def test_slurm(slurm, tmp_path):
 
 
 @needs_slurm
+def test_rows_of_single_runs_by_slurm(singles, slurm, tmp_path):
+    has_the_rows_of(singles, tmp_path, '--on', 'slurm', '-j', '4', env=slurm)
+
+
+@needs_slurm
+def test_find_by_slurm(slurm, tmp_path):
+    """A job array for each step of the search."""
+    finds_the_same(tmp_path, 'slurm', env=slurm)
+
+
+@needs_slurm
 def test_slurm_in_folders_that_look_like_patterns(slurm, tmp_path):
     """sbatch has % and a backslash in the names of its outputs mean something; here they are a folder's, or the current one's."""
     for name in ('100% a%b%j', 'a\\b', "'a\\%a"):
@@ -195,6 +278,19 @@ def test_slurm_in_folders_that_look_like_patterns(slurm, tmp_path):
         folder.mkdir()
         is_the_same(sweep_of(folder, '--on', 'slurm', '-o', 'rows.csv', '-j', '2', env=slurm), folder)
         is_the_same(sweep_of(tmp_path, '--on', 'slurm', '-o', 'rows.csv', '-j', '2', '--folder', folder, env=slurm), tmp_path)
+
+
+def test_a_job_that_writes_while_its_folder_is_taken_away(tmp_path, monkeypatch):
+    """As one of an array that is cancelled may: the folder is gone once it no longer writes."""
+    monkeypatch.chdir(tmp_path)
+    with job_folder(None) as place:
+        for number in range(2_000):
+            put(place, f'row{number}', '')
+        writes = subprocess.Popen([sys.executable, '-c', 'import sys, time\nbegan = time.monotonic()\nwhile time.monotonic() < began + 1:\n'
+                                   '    open(f"{sys.argv[1]}/{time.monotonic()}", "w").close()', place], stderr=subprocess.DEVNULL)
+        until(lambda: len(os.listdir(place)) > 2_000, 'nothing is written')
+    writes.wait()
+    assert os.listdir(tmp_path) == []
 
 
 @needs_slurm
@@ -244,6 +340,16 @@ def dask(started, tmp_path):
         until(lambda: (tmp_path / 'dask.log').read_text().count('Registered to') == 3, 'no workers')
         yield f'dask:127.0.0.1:{port}', workers
         started.end()
+
+
+@needs_dask
+def test_rows_of_single_runs_by_dask(singles, dask, tmp_path):
+    has_the_rows_of(singles, tmp_path, '--on', dask[0])
+
+
+@needs_dask
+def test_find_by_dask(dask, tmp_path):
+    finds_the_same(tmp_path, dask[0])
 
 
 @needs_dask

@@ -17,11 +17,13 @@ import tcpsim
 from clone import BIN, PROGRAM, TOP
 from tcpsim.cli import net
 from tcpsim.command_line import Wrong
+from tcpsim.program import format_of
 from tcpsim.sweeps.columns import FLOW, FROM, LINK, RUN, columns_of
 from tcpsim.sweeps.files import FIRST_LINE
 from tcpsim.sweeps.means import mean_of, student
 from tcpsim.sweeps.pattern import Pattern, settings_of
-from tcpsim.sweeps.rows import format_of
+from tcpsim.sweeps.rows import AskedOfRun, Bench, Grid
+from tcpsim.whole_trace import PROGRAMS
 
 SWEEP = os.path.join(BIN, 'tcpsim-sweep')
 # One flow of eight segments over 8 Mbit/s for 12 ms, seven of which come in order with a queue of three: the goodput is
@@ -328,11 +330,36 @@ def test_resume_of_another_sweep(hand, put, tmp_path):
     assert '10 of 15 runs have their row' in wider.stderr
 
 
+# Ends only where the queue is one of two.
+SLEEPS = f'''#!/bin/sh
+if grep -q "droptail 2" < /dev/stdin
+then exec "{PROGRAM}" "$@" < /dev/stdin
+else exec sleep 100
+fi
+'''
+
+
+def test_no_row_waits_for_a_run_behind_it(put, tmp_path):
+    """Of runs that a worker was given at once those that have ended have their rows while the next one runs; whoever wants no more
+    rows then has ended it."""
+    program = put('program', SLEEPS, stat.S_IRWXU)
+    settings = settings_of(['a.queue=droptail:2,3'], Pattern(BY_HAND), ['f.start=0..2ms/500us'])
+    ran = Grid(Pattern(BY_HAND), settings, AskedOfRun(program, None, 0, ())).run(range(2, 10), Bench())
+    rows = []
+    while len(rows) < 3:
+        rows += next(ran)
+    assert [(number, row['status']) for number, row in rows] == [(2, 'done'), (3, 'done'), (4, 'done')]
+    process, = PROGRAMS
+    assert process.returncode is None
+    ran.close()
+    assert process.returncode == -signal.SIGKILL and not PROGRAMS
+
+
 @pytest.mark.parametrize('jobs', ['1', '2'])
 def test_interrupted_and_resumed(jobs, hand, put, tmp_path):
-    """Ctrl-C leaves whole rows and nobody running; the same words with --resume go on with them."""
-    program = put('program', f'#!/bin/sh\ncat > "$0.$$"\nif grep -q "droptail 2" "$0.$$"\nthen exec "{PROGRAM}" "$@" < "$0.$$"\n'
-                  'else exec sleep 100\nfi\n', stat.S_IRWXU)
+    """Of ten runs, five of which end by themselves, Ctrl-C behind four leaves whole rows of those that have ended, and nobody running;
+    the same words with --resume go on with them."""
+    program = put('program', SLEEPS, stat.S_IRWXU)
     file = tmp_path / 'rows.csv'
     process = subprocess.Popen([sys.executable, SWEEP, hand, *STARTS, '-j', jobs, '-o', str(file), '--program', program],
                                stdout=subprocess.PIPE, stderr=subprocess.PIPE, text=True, start_new_session=True,

@@ -160,7 +160,7 @@ def test_alone_is_run_where_it_is_asked_for(tmp_path):
 def test_refusals():
     scenario, trace = paths('bufferbloat')
     other = paths('one_segment')[0]
-    assert refused(scenario, trace, '--flow', 'x') == (1, 'the scenario has no flow x; it has f, g')
+    assert refused(scenario, trace, '--flow', 'x') == (2, 'the scenario has no flow x; it has f, g')
     assert refused(scenario, trace, '--flow', 'g', '--to', '10000') == (1, 'flow g has the bytes 0 to 9999, and not 10000')
     assert refused(scenario, trace, '--to', '-1')[0] == 2
     assert refused(other, trace)[0] == 1 and refused(scenario, other)[0] == 1

@@ -328,7 +328,7 @@ class TestPictures(Folder):
                                             ('.png', ('--links', 'f'), 1, 'f'), ('.png', ('--panels', 'cwnd'), 2, 'cwnd'),
                                             ('.png', ('--from', '2s', '--to', '1s'), 1, 'time'),
                                             ('.png', ('--beside', 'a', 'b', 'c'), 2, '--beside'),
-                                            ('.png', ('--beside', 'no such'), 1, 'no such')):
+                                            ('.png', ('--beside', 'no such'), 2, 'no such')):
             done, path = self.draw(ending, *words)
             assert done.returncode == status, done.stderr
             assert note in done.stderr

@@ -29,7 +29,7 @@ class Move:
 
 def move_of(text: str, before: int, last: str, names: Names) -> Move:
     """The move that the prompt answered, from the position `before`; `last` is the line of the last event that was run."""
-    found = WHERE.search(text)
+    found = next(WHERE.finditer(text))
     position, time, where = found.groups()
     event = next(events_of([[last]], names)) if last else None
     matched = '\nbreak ' in text[found.start():]
@@ -111,26 +111,34 @@ class Why:
 REASONS = {'lost by name': 'lost', 'dropped (full)': 'full', 'dropped (codel)': 'codel'}
 
 
+def parts_of(pattern: str, text: str) -> tuple[str, ...]:
+    """The groups of a pattern, which a whole text has."""
+    found = re.fullmatch(pattern, text)
+    if found is None:
+        raise ValueError(f'{text!r} is no answer of the prompt')
+    return found.groups()
+
+
 def missing_of(line: str) -> Missing:
     """What the last line of an answer to `why` tells."""
     head, *drops = line.split(', ')
-    at, byte = re.fullmatch(r'missing at the (receiver|sender): .* (\d+)', head).groups()
-    found = (re.fullmatch(r'(\w+) (\d+) (.*) at link (\w+) in line (\d+)', drop).groups() for drop in drops)
+    at, byte = parts_of(r'missing at the (receiver|sender): .* (\d+)', head)
+    found = (parts_of(r'(\w+) (\d+) (.*) at link (\w+) in line (\d+)', drop) for drop in drops)
     return Missing(at, int(byte), tuple(PastDrop(kind, int(number), REASONS[reason], link, int(n))
                                         for kind, number, reason, link, n in found))
 
 
 def why_of(text: str) -> Why:
     """What `why` answered over a text, whose names it has."""
-    parts = {'waits': (), 'under way': (), 'alarms': ()}
+    parts: dict[str, tuple[str, ...]] = {'waits': (), 'under way': (), 'alarms': ()}
     first, *others = text.splitlines()
     missing = next((missing_of(line) for line in others if line.startswith('missing ')), None)
     for line in others:
         head, _, rest = line.partition(': ')
         parts[head] = tuple(rest.split(', '))
-    waits = (re.fullmatch(r'(\w+) (\d+) at place (\d+) of link (\w+)', word).groups() for word in parts['waits'])
-    ways = (re.fullmatch(r'(\w+) (\d+) to node (\w+) at (\d+) ns', word).groups() for word in parts['under way'])
-    alarms = (re.fullmatch(r'(\w+) at (\d+) ns', word).groups() for word in parts['alarms'])
+    waits = (parts_of(r'(\w+) (\d+) at place (\d+) of link (\w+)', word) for word in parts['waits'])
+    ways = (parts_of(r'(\w+) (\d+) to node (\w+) at (\d+) ns', word) for word in parts['under way'])
+    alarms = (parts_of(r'(\w+) at (\d+) ns', word) for word in parts['alarms'])
     _, flow, stands = first.split(' ', 2)
     return Why(flow, stands, tuple(WaitingPacket(kind, int(number), int(place), link) for kind, number, place, link in waits),
                tuple(PacketUnderWay(kind, int(number), node, int(time)) for kind, number, node, time in ways),
@@ -231,10 +239,11 @@ def none_or_int(word: str) -> int | None:
 
 def sender_of(of: dict[str, str]) -> SenderNow:
     """The sender of a dump's words."""
-    timing = None if of['timing'] == '-' else tuple(map(int, of['timing'].split('@')))
-    numbers = (int(of[name]) for name in ('una', 'nxt', 'high', 'cwnd', 'ssthresh', 'dups', 'lt'))
-    return SenderNow(*numbers, of['fr'] == '1', timing, none_or_int(of['srtt']), int(of['rttvar']), int(of['rto']),
-                     of['resent'] == '1')
+    acknowledged, _, sent = of['timing'].partition('@')
+    timing = None if of['timing'] == '-' else (int(acknowledged), int(sent))
+    una, nxt, high, cwnd, ssthresh, dups, lt = (int(of[name]) for name in ('una', 'nxt', 'high', 'cwnd', 'ssthresh', 'dups', 'lt'))
+    return SenderNow(una, nxt, high, cwnd, ssthresh, dups, lt, of['fr'] == '1', timing, none_or_int(of['srtt']), int(of['rttvar']),
+                     int(of['rto']), of['resent'] == '1')
 
 
 def queue_of(of: dict[str, str], names: Names) -> QueueNow:

@@ -4,6 +4,7 @@ from __future__ import annotations
 import contextlib
 import inspect
 from collections.abc import Callable, Iterator, Mapping
+from typing import cast
 
 from tcpsim.api.errors import Refused, WrongQueue
 from tcpsim.api.progress import EVENTS, Progress, Told
@@ -15,7 +16,7 @@ from tcpsim_model.figures import begun, csv_line, heading, rows
 from tcpsim_model.prompt import Prompt
 from tcpsim_model.reasons import reason
 from tcpsim_model.scenario import Refused as ModelRefused, Scenario as ModelScenario
-from tcpsim_model.simulate import trace
+from tcpsim_model.simulate import Network, trace
 from tcpsim_model.text import assemble
 
 METHODS = 'offer', 'take'
@@ -60,7 +61,8 @@ class OwnQueueRun:
     def table(self, start: int = 0) -> str:
         """The table of figures from a moment on (ns); of these links it has rows for their own words too."""
         with self._running() as progress:
-            net, sums = begun(self._scenario, start), []
+            net = begun(self._scenario, start)
+            sums: list[list[int]] = []
             begin = max(start, min(flow.start for flow in net.flows))
             while (due := net.due()) is not None:
                 if net.events % EVENTS == 0:
@@ -74,7 +76,7 @@ class OwnQueueRun:
             return heading(None) + ''.join(csv_line(row, None) for row in rows(net))
 
     @staticmethod
-    def _received(net):
+    def _received(net: Network) -> list[int]:
         """The bytes that each flow's receiver has in order."""
         return [net.ends[flow.receiver].next for flow in net.flows]
 
@@ -128,6 +130,6 @@ def makes(link: str, maker: Maker) -> Callable[[object], object]:
     for given in ((None,), ()):
         with contextlib.suppress(TypeError):
             signature.bind(*given)
-            return maker if given else lambda _: maker()
+            return cast(Callable[[object], object], maker if given else lambda _: maker())
     raise WrongQueue(f'the queue of link {link} is called with the link, or with nothing, and {maker.__name__}{signature} takes '
                      'something else')

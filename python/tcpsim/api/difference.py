@@ -16,14 +16,15 @@ from tcpsim.api.results import html_table
 from tcpsim.api.scenarios import ScenarioText
 from tcpsim.api.session import DebugSession
 from tcpsim.output import aligned
-from tcpsim.scenario.text import Scenario
+from tcpsim.scenario.text import Flow, Link, Node, Scenario
 from tcpsim.scenario.units import spelled_time
 
 STATE = 'una', 'nxt', 'cwnd', 'ssthresh', 'phase', 'next'      # of an `Event`, as it leaves its node
 NEVER = 1 << 62         # past every moment of a run
 # How a unit is shown; counts have none but the figure's name.
-UNITS = {'ns': spelled_time, 'bit/s': lambda bits: f'{bits / 1e6:.3f} Mbit/s', 'part': lambda part: f'{100 * part:.4g} %',
-         'index': '{:.4f}'.format, 'word': str, 'link': str}
+UNITS: dict[str, Callable[..., str]] = {
+    'ns': spelled_time, 'bit/s': lambda bits: f'{bits / 1e6:.3f} Mbit/s', 'part': lambda part: f'{100 * part:.4g} %',
+    'index': '{:.4f}'.format, 'word': str, 'link': str}
 
 
 class Side(NamedTuple):
@@ -51,7 +52,7 @@ class Parting(NamedTuple):
     run that has none now, in which it comes `later`, if it does; both None where all events are the same. `positions` are
     those before it, as the debugger's goto counts them."""
 
-    count: int
+    same: int
     here: str | None
     there: str | None
     positions: tuple[int, int]
@@ -75,7 +76,8 @@ class Renaming:
     """Gives a line the numbers that another scenario has for the same names, and for others words that are no numbers."""
 
     def __init__(self, of: Scenario, to: Scenario):
-        self._nodes, self._links, self._flows = map(numbers, (of.nodes, of.links, of.flows), (to.nodes, to.links, to.flows))
+        self._nodes, self._links = numbers(of.nodes, to.nodes), numbers(of.links, to.links)
+        self._flows = numbers(of.flows, to.flows)
         self._acts = {f'tx={number}': f'tx={other}' for number, other in self._links.items()}
         self.changes = any(number != other for each in (self._nodes, self._links, self._flows) for number, other in each.items())
 
@@ -93,7 +95,7 @@ class Renaming:
         return ' '.join(words)
 
 
-def numbers(of: Sequence, to: Sequence) -> dict[str, str]:
+def numbers(of: Sequence[Node | Link | Flow], to: Sequence[Node | Link | Flow]) -> dict[str, str]:
     """For the number of each thing that of the other with its name."""
     others = {each.name: str(at) for at, each in enumerate(to)}
     return {str(at): others.get(each.name, f'+{each.name}') for at, each in enumerate(of)}
@@ -117,9 +119,9 @@ def first_parting(here: Side, there: Side) -> Parting:
             count += len(now)
             continue
         same, later = len(now) if k is None else k, None
-        if j is None:
+        if k is not None and j is None:
             later = next_time(parted(forth(now[k]))[0], theirs)
-        elif k is None:
+        elif j is not None and k is None:
             later = next_time(parted(back(then[j]))[0], ours)
         return Parting(count + same, None if k is None else now[k], None if j is None else then[j],
                        (count + same, count + (same if j is None else j)), later)
@@ -136,7 +138,7 @@ def moment_of(first: str, lines: Iterator[str], time: int) -> tuple[list[str], I
 
 def parting_in(now: list[str], then: list[str]) -> tuple[int | None, int | None]:
     """The places in a moment's lines of the event that differs; None of a run that has none."""
-    left = defaultdict(deque)
+    left: defaultdict[tuple[str, ...], deque[tuple[int, tuple[str, ...]]]] = defaultdict(deque)
     for j, line in enumerate(then):
         what, came = parted(line)
         left[what].append((j, came))
@@ -223,7 +225,7 @@ def fate_of(side: Side, event: Event, position: int, flow: str, number: int) -> 
 
 def sentence(parting: Parting, here: Side, there: Side) -> str:
     """Where two runs part, in a sentence."""
-    same = f'the same {parting.count:,} event{"s" * (parting.count != 1)}' if parting.count else 'no event is the same'
+    same = f'the same {parting.same:,} event{"s" * (parting.same != 1)}' if parting.same else 'no event is the same'
     if parting.here is None and parting.there is None:
         return same
     ours, theirs = (None if line is None else next(events_of([[line]], Names(side.scenario)))
@@ -231,6 +233,7 @@ def sentence(parting: Parting, here: Side, there: Side) -> str:
     if ours and theirs:
         return f'{same}; at {moment(ours.time_ns)} {came_of(parting, ours, theirs, here, there)}'
     event, where, other = (ours, 'there', there) if ours else (theirs, 'here', here)
+    assert event
     if event.time_ns >= other.scenario.end:
         after = f'{where} the run ends at {moment(other.scenario.end)}'
     else:
@@ -248,8 +251,8 @@ def came_of(parting: Parting, ours: Event, theirs: Event, here: Side, there: Sid
     *_, flow, number = next(mine or other for mine, other in acts if mine != other)
     fates = (fate_of(side, event, position, flow, number)
              for side, event, position in zip((here, there), (ours, theirs), parting.positions))
-    mine, others = fates
-    return f'{mine.told(f"{mine.kind} {number} of {flow}")}, there {others.told_of_it(mine.link)}'
+    our_fate, their_fate = fates
+    return f'{our_fate.told(f"{our_fate.kind} {number} of {flow}")}, there {their_fate.told_of_it(our_fate.link)}'
 
 
 # ---- figures
@@ -267,8 +270,9 @@ class Changed(NamedTuple):
     @property
     def relative(self) -> float | None:
         """The difference over the greater of both, from -1 to 1, below 0 where there is less there; None where it is of no numbers."""
-        both = self.here, self.there
-        return (self.there - self.here) / max(map(abs, both)) if all(isinstance(value, (int, float)) for value in both) else None
+        if not isinstance(self.here, (int, float)) or not isinstance(self.there, (int, float)):
+            return None
+        return (self.there - self.here) / max(abs(self.here), abs(self.there))
 
     def shown(self) -> list[str]:
         """The row of a table for people."""
@@ -288,16 +292,16 @@ def changes(here: Sequence[tuple], there: Sequence[tuple]) -> list[Changed]:
     """The figures that differ, of flows and links that both runs have, the greatest relative difference first."""
     ours, theirs = ({tuple(row): value for *row, value in rows} for rows in (here, there))
     both = {key[:2] for key in ours} & {key[:2] for key in theirs}
-    found = [Changed(*key, ours.get(key), theirs.get(key)) for key in dict.fromkeys((*ours, *theirs))
-             if key[:2] in both and ours.get(key) != theirs.get(key)]
+    found = [Changed(what, name, figure, unit, ours.get(key), theirs.get(key)) for key in dict.fromkeys((*ours, *theirs))
+             for what, name, figure, unit in [key] if key[:2] in both and ours.get(key) != theirs.get(key)]
     return sorted(found, key=lambda row: -1 if row.relative is None else -abs(row.relative))
 
 
 def names_only_in(here: Scenario, there: Scenario) -> list[str]:
     """The nodes, links and flows that one scenario has alone."""
-    return [f'{what} {each.name}' for what, mine, others in (('node', here.nodes, there.nodes), ('link', here.links, there.links),
-                                                             ('flow', here.flows, there.flows))
-            for each in mine if each.name not in {other.name for other in others}]
+    kinds: list[tuple[str, Sequence[Node | Link | Flow], Sequence[Node | Link | Flow]]] = [
+        ('node', here.nodes, there.nodes), ('link', here.links, there.links), ('flow', here.flows, there.flows)]
+    return [f'{what} {each.name}' for what, mine, others in kinds for each in mine if each.name not in {other.name for other in others}]
 
 
 class Difference:
@@ -306,7 +310,7 @@ class Difference:
 
     def __init__(self, here: Side, there: Side):
         parting = first_parting(here, there)
-        self.events: int = parting.count
+        self.events: int = parting.same
         self.sentence: str = sentence(parting, here, there)
         self.positions: tuple[int, int] | None = parting.positions if (parting.here or parting.there) else None
         self.only_here: list[str] = names_only_in(here.scenario, there.scenario)

@@ -8,7 +8,7 @@ from dataclasses import dataclass
 
 from tcpsim.api.errors import Error, as_raised, refusal
 from tcpsim.command_line import MODEL, Wrong
-from tcpsim.engine import EngineRun, portions_of, written_table
+from tcpsim.engine import LONGEST_TABLE, EngineRun, portions_of, written_table
 from tcpsim.program import NoProgram, check_time, find_program, found, is_model, is_program
 from tcpsim.prompt import ends_with_parent
 from tcpsim.scenario.text import Scenario
@@ -33,7 +33,7 @@ class Engine:
         """The table of figures of a scenario's run (docs/FORMATS.md)."""
         try:
             with running([self.path, 'figures'], text.encode(), ends_with_parent()) as process:
-                return written_table(process)
+                return written_table(process.read_all(LONGEST_TABLE))
         except ProgramFailed as wrong:
             raise as_raised(wrong) from None
 
@@ -61,7 +61,7 @@ def engine_of(name: str | None, text: str | None) -> Engine:
             if not is_program(path):
                 raise NoProgram('the program tcpsim is neither on PATH nor built: build it with `make run`')
         else:
-            path = find_program({'model': MODEL}.get(name, name), lambda: [] if text is None else [text])
+            path = find_program(MODEL if name == 'model' else name, lambda: [] if text is None else [text])
     except NoProgram as wrong:
         raise NoProgram(by_model(str(wrong))) from None
     return Engine('model' if is_model(path) else 'program', path)
@@ -108,7 +108,7 @@ def by_model(sentence: str) -> str:
 
 def reads_of(pieces: Iterator[str]) -> Callable[[int], bytes]:
     """A reader of the blocks that texts make up."""
-    def read(size):
+    def read(size: int) -> bytes:
         held, length = [], 0
         while length < min(size, BLOCK) and (piece := next(pieces, None)):
             held.append(piece)

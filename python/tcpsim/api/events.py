@@ -1,6 +1,7 @@
 """A trace as records: each event of a run with the scenario's names, read as the trace is written."""
 from __future__ import annotations
 
+import contextlib
 import itertools
 import os
 from collections.abc import Callable, Iterable, Iterator
@@ -13,7 +14,7 @@ from tcpsim.scenario.text import Scenario
 if TYPE_CHECKING:
     from pandas import DataFrame
 
-Blocks = Callable[[], 'contextlib.AbstractContextManager[Iterator[list[str]]]']     # opens a trace: its lines, block by block
+Blocks = Callable[[], contextlib.AbstractContextManager[Iterator[list[str]]]]       # opens a trace: its lines, block by block
 
 
 class Sent(NamedTuple):
@@ -94,7 +95,7 @@ class Names:
         self.nodes = {str(n): node.name for n, node in enumerate(scenario.nodes)}
         self.flows = {str(n): flow.name for n, flow in enumerate(scenario.flows)}
         self.links = {str(n): link.name for n, link in enumerate(scenario.links)}
-        self.sources = {'0': None, **{str(n + 1): link.name for n, link in enumerate(scenario.links)}}
+        self.sources: dict[str, str | None] = {'0': None, **{str(n + 1): link.name for n, link in enumerate(scenario.links)}}
         self.sending = {f'tx={n}': link.name for n, link in enumerate(scenario.links)}
         self.places = {str(n): (node.name, node.kind) for n, node in enumerate(scenario.nodes)}
         self.numbers = {node.name: n for n, node in enumerate(scenario.nodes)}
@@ -106,11 +107,13 @@ class Names:
 
     def link_of(self, event: Event) -> str:
         """The link before which an event drops: that which is free, or over which the node sends."""
-        if event.kind == 'free':
-            return event.link
+        if event.flow is None:
+            return str(event.link)
         node, (sender, receiver) = self.numbers[event.node], self.ends[event.flow]
         data = event.kind == 'data' and node != receiver or node == sender
-        return self.scenario.links[self.scenario.hop(node, receiver if data else sender)].name
+        hop = self.scenario.hop(node, receiver if data else sender)
+        assert hop is not None      # nothing is dropped where there is no link
+        return self.scenario.links[hop].name
 
 
 def restored(names: Names, fields: tuple) -> Event:
@@ -137,8 +140,8 @@ def events_of(blocks: Iterable[list[str]], names: Names) -> Iterator[Event]:
                 if link is not None:
                     number, at = int(words[7]), 8
             if role == 'sender':
-                una, nxt, cwnd, ssthresh, phase = words[at:at + 5]
-                una, nxt, cwnd, ssthresh, phase = int(una[4:]), int(nxt[4:]), int(cwnd[5:]), int(ssthresh[9:]), phase[6:]
+                una, nxt, cwnd, ssthresh = int(words[at][4:]), int(words[at + 1][4:]), int(words[at + 2][5:]), int(words[at + 3][9:])
+                phase = words[at + 4][6:]
                 at += 5
             elif role == 'receiver':
                 expected = int(words[at][5:])
@@ -181,7 +184,7 @@ class Trace(Iterable[Event]):
         pandas, rows = wanted('pandas'), []
         for event in self:
             sent, drops = event.sent, event.drops
-            rows.append((*event[:-1], sent, drops, *(sent[0] if sent else Sent(None, None, None)),
+            rows.append((*event[:-1], sent, drops, *(sent[0] if sent else (None, None, None)),
                          *((drops[0].link, drops[0].reason) if drops else (None, None)), len(drops)))
         return pandas.DataFrame.from_records(rows, columns=[*Event._fields[:-1], 'sent', 'drops', 'sent_link', 'sent_flow', 'sent_number',
                                                             'drop_link', 'drop_reason', 'dropped'])

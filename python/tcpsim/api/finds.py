@@ -12,13 +12,14 @@ from tcpsim.api.errors import Wrong, as_api, wanted
 from tcpsim.api.results import html_table
 from tcpsim.api.scenarios import ScenarioText, as_word, scenario_of
 from tcpsim.api.shown import PlottedRun
-from tcpsim.api.sweeps import Values, grid_to_run, number, words_given, words_of
+from tcpsim.api.sweeps import AS_BOOL, Values, grid_to_run, number, words_given, words_of
 from tcpsim.cli import find as command, sweep
 from tcpsim.sweeps.answers import ANSWER, answer_table, records, titles
 from tcpsim.sweeps.files import csv_text
 from tcpsim.sweeps.pool import Rows
 from tcpsim.sweeps.rows import QUESTION
 from tcpsim.sweeps.search import GREATEST, LEAST, Search
+from tcpsim.sweeps.shown import SETTLED
 
 if TYPE_CHECKING:
     from pandas import DataFrame
@@ -48,7 +49,7 @@ def find(scenario: ScenarioText | str | os.PathLike, vary: Mapping[str, Values],
     with as_api():
         search = command.search_of(given, net.text, functools.partial(grid_to_run, engine))
         rows = Rows(search.grid, sweep.engine_of(given), progress=False)
-        search.run(rows)
+        search.run(rows, jobs)
         return Found(search, rows)
 
 
@@ -88,7 +89,7 @@ class Found:
     def around(self) -> list[dict[str, object]]:
         """The answers, each between its two neighbours, as the table has them."""
         words = {each.key for each in self._search.grid.chosen} | {'is'}
-        return [{name: value if name in words or not isinstance(value, str) else number(value)
+        return [{name: AS_BOOL.get(str(value)) if name == SETTLED else value if name in words or not isinstance(value, str) else number(value)
                  for name in titles(self._search) for value in [row.get(name)]} for row in records(self._search)]
 
     def to_pandas(self) -> DataFrame:

@@ -47,5 +47,5 @@ class Progress:
             note('\r', end='')
 
     @staticmethod
-    def _write(line):
+    def _write(line: str) -> None:
         note(f'\r{line:{WIDTH}}', end='')

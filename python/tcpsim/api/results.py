@@ -98,12 +98,13 @@ LINK_COLUMNS = (('link', 'name', '{}', 1), ('utilization %', 'utilization', '{:.
                 ('loss %', 'loss', '{:.2f}', .01))
 
 
-class Table(Mapping, Generic[Row]):
+class Table(Mapping[str, Row], Generic[Row]):
     """Figures of flows or links, by name or number, in the scenario's order."""
 
     def __init__(self, rows: list[Row], columns: tuple):
-        self._rows, self._columns = rows, columns
-        self._by_name = {row.name: row for row in rows}
+        self._rows: list[Row] = rows
+        self._columns = columns
+        self._by_name: dict[str, Row] = {row.name: row for row in rows}
 
     def __getitem__(self, name: str | int) -> Row:
         try:
@@ -138,9 +139,9 @@ class Table(Mapping, Generic[Row]):
         return html_table(self.shown())
 
 
-def in_words(value: object, form: str, scale: float) -> str:
+def in_words(value: float | str | None, form: str, scale: float) -> str:
     """A figure in words, `-` where there is none."""
-    return '-' if value is None else form.format(value if scale == 1 else value / scale)
+    return '-' if value is None else form.format(value if scale == 1 or isinstance(value, str) else value / scale)
 
 
 def html_table(rows: list[list[str]]) -> str:
@@ -191,8 +192,8 @@ class Results:
     def to_pandas(self) -> DataFrame:
         """A pandas DataFrame with a row for each figure: what (flow, link or run), name, figure, value. The frames of
         `flows` and `links` have a row for each of them."""
-        rows = [(what, name, figure, value) for what, table in (('flow', self.flows), ('link', self.links))
-                for name in table for figure, value in facts_of(table[name])]
+        of: list[FlowResult | LinkResult] = [*self.flows.values(), *self.links.values()]
+        rows = [('flow' if isinstance(row, FlowResult) else 'link', row.name, figure, value) for row in of for figure, value in facts_of(row)]
         rows += [('run', '', figure, getattr(self, figure)) for figure in ('events', 'begin_ns', 'end_ns', 'jain')]
         return wanted('pandas').DataFrame(rows, columns=['what', 'name', 'figure', 'value'])
 
@@ -269,12 +270,12 @@ def facts_of(row: FlowResult | LinkResult) -> Iterator[tuple[str, object]]:
 def flow_result(run: EngineRun, number: int, used: list[float | None]) -> FlowResult:
     """The figures of a flow, from the program's table."""
     values, way = run.flows[number], run.scenario.ways[number][0]
-    busiest = max(way, key=lambda link: -1 if used[link] is None else used[link])       # the first where equal
-    trips = [values[f'{which} round trip{"s" * (which[0] == "9")}', 'ns'] for which in WHICH]
+    busiest = max(way, key=lambda link: -1. if (part := used[link]) is None else part)     # the first where equal
+    least, median, p95, p99, most = (values[f'{which} round trip{"s" * (which[0] == "9")}', 'ns'] for which in WHICH)
     return FlowResult(run.scenario.flows[number].name, values['start', 'ns'], values['delivered', 'bytes'], run.goodput(number),
                       None if used[busiest] is None else run.scenario.links[busiest].name, values['sent', 'segments'],
                       values['sent again by fast retransmit', 'segments'], values['sent again by timeout', 'segments'],
-                      values['timeouts', 'times'], values['round trips', 'times'], *trips, values['completed', 'ns'])
+                      values['timeouts', 'times'], values['round trips', 'times'], least, median, p95, p99, most, values['completed', 'ns'])
 
 
 def link_result(run: EngineRun, number: int, used: list[float | None]) -> LinkResult:

@@ -6,7 +6,7 @@ import inspect
 import os
 import re
 from collections.abc import Callable, Mapping, Sequence
-from typing import Union
+from typing import TYPE_CHECKING, Union
 
 from tcpsim import output
 from tcpsim.api.engines import check_text
@@ -15,6 +15,9 @@ from tcpsim.cli import net
 from tcpsim.scenario.text import Flow, Link, Node, Scenario, Unreadable
 from tcpsim.scenario.units import spelled_time
 from tcpsim.whole_trace import scenario_bytes, scenario_text
+
+if TYPE_CHECKING:
+    from tcpsim.api.shown import ExplorePage
 
 Value = Union[str, int, Sequence[Union[str, int]], None]     # of an option: a word, a number, a list of them
 SHAPES_RATES = {'--rates': '--rate'}
@@ -64,6 +67,17 @@ class ScenarioText:
         """Writes the text to a file, whole or not at all."""
         with output.written(os.fspath(path)) as file:
             file.write(self.text)
+
+    def explore(self, file: str | os.PathLike | None = None, view: str = 'net', event: int | None = None,
+                shelf: str = '', page: str | os.PathLike | None = None) -> ExplorePage:
+        """The page with the simulator, docs/PAGE.md, which runs this scenario and shows `view` (net, curves, trace ..) at `event`,
+        with the sliders of `shelf`, as "pq.capacity=1..40; used pq".
+
+        A notebook shows the page. Elsewhere it is written to `file`, or a browser opens it. `page` is the file of the page, else
+        the one that `make page` wrote, or tcpsim.html in this folder.
+        """
+        from tcpsim.api.explore import explore
+        return explore(self, file, view, event, shelf, page)
 
     def __repr__(self) -> str:
         head = re.findall(r'\A# (.*\.)$', self.text, re.M)
@@ -132,7 +146,7 @@ def lost_packets(value: Value | Mapping[str, Value]) -> list[str]:
     """The words of `lose`, one for each link: of {"pq": [20, 21]}, of a word, or of a list of words."""
     if isinstance(value, Mapping):
         return [f'{link}={as_word(packets)}' for link, packets in value.items()]
-    return [value] if isinstance(value, str) else list(map(str, value))
+    return list(map(str, value)) if isinstance(value, Sequence) and not isinstance(value, str) else [str(value)]
 
 
 def built(shape: str, options: Mapping[str, Value]) -> ScenarioText:
@@ -162,9 +176,10 @@ def shaped(function: Callable[..., ScenarioText]) -> Callable[..., ScenarioText]
                                   'A list gives each flow, or hop, its own value, as rtt=["40ms", "80ms"], and begins again where it is '
                                   'shorter. lose={"pq": [20, 21]} names packets by their link. Wrong where a word cannot be '
                                   'read or is out of range.'])
-    function.__signature__ = inspect.Signature(
+    signature = inspect.Signature(
         [inspect.Parameter(name, inspect.Parameter.KEYWORD_ONLY, default=None) for name in option_names(shape)],
         return_annotation='ScenarioText')
+    setattr(function, '__signature__', signature)
     return function
 
 

@@ -45,7 +45,7 @@ class TimeSeries:
             if step.begin < step.end:
                 self._add(step, places)
 
-    def _add(self, step: Step, places: dict[tuple, int]) -> None:
+    def _add(self, step: Step, places: dict[tuple[str, int, str, str], int]) -> None:
         length = step.end - step.begin
         self.begin_s.append(step.begin / S)
         self.end_s.append(step.end / S)
@@ -61,7 +61,7 @@ class TimeSeries:
 
     def to_pandas(self) -> DataFrame:
         """A pandas DataFrame with a row for each step, by its begin in seconds; columns are as `f0 cwnd`, `pq queue_mean`."""
-        columns = {f'{name} {figure}': values for table in (self.flows, self.links) for name, of in table.items()
+        columns = {f'{name} {figure}': values for name, of in (*self.flows.items(), *self.links.items())
                    for figure, values in vars(of).items()}
         pandas = wanted('pandas')
         return pandas.DataFrame(columns, index=pandas.Index(self.begin_s, name='begin_s'))

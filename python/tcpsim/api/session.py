@@ -80,9 +80,9 @@ class DebugSession:
 
     def __init__(self, scenario: ScenarioText, engine: str | None = None,
                  queues: Mapping[str, Callable[..., object]] | None = None):
-        self.scenario, self.names = scenario, None
+        self.scenario = scenario
         self._end: Callable[[], None] = lambda: None
-        if check_queues(queues):
+        if check_queues(queues) and queues is not None:
             from tcpsim.api.by_model import OwnQueueRun
             check_own(engine or 'model', scenario.text)
             self.engine, self._ask = 'model', OwnQueueRun(scenario.text, queues).answers()
@@ -93,12 +93,12 @@ class DebugSession:
             self._end = self._ask.end
         self.names = Names(scenario.parsed)
         self.position, self.time_ns, self.at_end = 0, 0, False
-        self._conditions: dict[str, object] = {}
+        self._conditions: Mapping[str, object] = {}
 
     def __enter__(self) -> DebugSession:
         return self
 
-    def __exit__(self, *_) -> None:
+    def __exit__(self, *_: object) -> None:
         self.close()
 
     def close(self) -> None:
@@ -151,7 +151,7 @@ class DebugSession:
         are given, those of the last call."""
         return self._to('reverse', conditions or self._conditions)
 
-    def _to(self, move, conditions):
+    def _to(self, move: str, conditions: Mapping[str, object]) -> Move:
         flow = conditions.get('flow') if conditions.get('drop') else None
         dropped = None if flow is None else self.names.flows.get(self._number('flow', flow))
         line = self._break_line({**conditions, 'flow': None} if dropped else conditions)
@@ -161,19 +161,19 @@ class DebugSession:
         self._conditions, begin = conditions, self.position
         try:
             moved = self._moved(move)
-            while dropped and moved.matched and all(drop.flow != dropped for drop in moved.event.drops):
+            while dropped and moved.matched and moved.event and all(drop.flow != dropped for drop in moved.event.drops):
                 moved = self._moved(move)
             return replace(moved, passed=self.position - begin)
         finally:
             self.ask('clear')
 
-    def _moved(self, line):
+    def _moved(self, line: str) -> Move:
         answer = self.ask(line)
         moved = move_of(answer, self.position, self.ask('lines 1').rstrip('\n'), self.names)
         self.position, self.time_ns, self.at_end = moved.position, moved.time_ns, moved.at_end
         return moved
 
-    def _break_line(self, conditions):
+    def _break_line(self, conditions: Mapping[str, object]) -> str:
         words = []
         for name, value in conditions.items():
             if value is False or value is None:
@@ -190,7 +190,7 @@ class DebugSession:
                 raise Wrong(f'{name}={value!r} is no condition: they are kind, flow, node, link, byte, drop=True, stall, time')
         return ' '.join(['break', *words]) if words else ''
 
-    def _number(self, sort, value):
+    def _number(self, sort: str, value: object) -> str:
         """The number of a node, a link or a flow, by its name."""
         names = {'node': self.names.nodes, 'link': self.names.links, 'flow': self.names.flows}[sort]
         if isinstance(value, int):

@@ -27,7 +27,7 @@ def notebook() -> Any:
 class Shown:
     """Shown by a notebook at once, whether or not its call is the last of the cell, and once in a cell."""
 
-    _cell = None
+    _cell: int | None = None
 
     def _show(self) -> None:
         shell = notebook()
@@ -72,11 +72,11 @@ class PlottedRun(Shown):
         return f'<a picture: {"; ".join(titles)}>'
 
 
-class ReplayPage(Shown):
-    """A page on which a run moves: its `text`, how many `events` it has, and `path` where it is a file."""
+class Page(Shown):
+    """A page: its `text`, and `path` where it is a file."""
 
-    def __init__(self, text: str, events: int, path: str | None = None):
-        self.text, self.events, self.path = text, events, path
+    def __init__(self, text: str, path: str | None = None):
+        self.text, self.path = text, path
         self._show()
 
     def _bundle(self) -> dict:
@@ -88,4 +88,29 @@ class ReplayPage(Shown):
                 'text/plain': repr(self)}
 
     def __repr__(self) -> str:
-        return f'<a page of {self.events:,} events, {len(self.text.encode()):,} bytes{f": {self.path}" if self.path else ""}>'
+        return f'<{self._what()}, {len(self.text.encode()):,} bytes{f": {self.path}" if self.path else ""}>'
+
+    def _what(self) -> str:
+        raise NotImplementedError
+
+
+class ReplayPage(Page):
+    """A page on which a run of so many `events` moves."""
+
+    def __init__(self, text: str, events: int, path: str | None = None):
+        self.events = events
+        super().__init__(text, path)
+
+    def _what(self) -> str:
+        return f'a page of {self.events:,} events'
+
+
+class ExplorePage(Page):
+    """The page with the simulator, which opens with a scenario of this `name`."""
+
+    def __init__(self, text: str, name: str, path: str | None = None):
+        self.name = name
+        super().__init__(text, path)
+
+    def _what(self) -> str:
+        return f'the page with {self.name}'

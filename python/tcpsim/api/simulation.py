@@ -6,7 +6,7 @@ import functools
 import os
 import tempfile
 from collections.abc import Callable, Iterator, Mapping
-from typing import TYPE_CHECKING, BinaryIO
+from typing import IO, TYPE_CHECKING
 
 from tcpsim import output
 from tcpsim.api.difference import Difference, Side, queue_at
@@ -14,7 +14,7 @@ from tcpsim.api.engines import Engine, check_own, check_queues, engine_of, reads
 from tcpsim.api.errors import Wrong, as_api, wanted
 from tcpsim.api.events import Names, Trace
 from tcpsim.api.results import Results, Stalls
-from tcpsim.api.scenarios import ScenarioText, as_word, scenario_of
+from tcpsim.api.scenarios import ScenarioText, Value, as_word, scenario_of
 from tcpsim.api.series import TimeSeries
 from tcpsim.api.shown import PlottedRun, ReplayPage
 from tcpsim.api.times import FlowTime
@@ -73,7 +73,7 @@ class Simulation:
     def __init__(self, scenario: ScenarioText, engine: str | None = None, queues: Mapping[str, Callable[..., object]] | None = None,
                  progress: Told | None = None):
         self.scenario, self._progress = scenario, progress
-        self._own, self._queues = None, dict(queues) if check_queues(queues) else {}
+        self._own, self._queues = None, dict(queues or {}) if check_queues(queues) else {}
         if self._queues:
             check_own(engine, scenario.text)
             self._own = self._own_run()
@@ -81,7 +81,7 @@ class Simulation:
         else:
             self._engine = engine_of(engine, scenario.text)
             self._engine.check(scenario.text)
-        self._kept = None               # the model's trace, which takes long to make: a file without a name
+        self._kept: IO[bytes] | None = None     # the model's trace, which takes long to make: a file without a name
 
     def _own_run(self) -> OwnQueueRun:
         from tcpsim.api.by_model import OwnQueueRun
@@ -132,7 +132,7 @@ class Simulation:
         """Keeps what is read, so that it is made once; where it is not read to its end it is made again."""
         file = tempfile.TemporaryFile()
 
-        def keep(size):
+        def keep(size: int) -> bytes:
             block = read(size)
             if block:
                 file.write(block)
@@ -153,24 +153,25 @@ class Simulation:
     def figures(self) -> Results:
         """The figures of each flow, each link and the run."""
         table = self._own.table() if self._own else self._engine.table(self.scenario.text)
-        portions = self._own.portions if self._own else functools.partial(self._engine.portions, self.scenario.text)
-        return Results(EngineRun(self._parsed(), table, portions))
+        if self._own:
+            return Results(EngineRun(self._parsed(), table, self._own.portions))
+        return Results(EngineRun(self._parsed(), table, functools.partial(self._engine.portions, self.scenario.text)))
 
     def series(self, step: str | int, begin: str | int | None = None, end: str | int | None = None) -> TimeSeries:
         """The run by time, a row for each step, as '10ms', from `begin` to `end`: each flow's window and goodput, each
         link's queue. Times are words with units, or nanoseconds. Wrong where the step is 0, where there are more than a million
         steps, or where nothing of the run is in that time."""
-        begin, end, step = moment('begin', begin), moment('end', end), moment('step', step)
-        if not step:
+        since, until, length = moment('begin', begin), moment('end', end), moment('step', step)
+        if not length:
             raise Wrong('step: a series wants a step above 0, as "10ms"')
-        if None not in (begin, end) and end <= begin:
-            raise Wrong(f'end: {units.spelled_time(end)} is not after the begin, {units.spelled_time(begin)}')
+        if since is not None and until is not None and until <= since:
+            raise Wrong(f'end: {units.spelled_time(until)} is not after the begin, {units.spelled_time(since)}')
         with as_api():
-            self._check_steps(step, begin, end)
+            self._check_steps(length, since, until)
             with self._lines() as lines:
-                return TimeSeries(Series(self._parsed(), lines, step, begin, end))
+                return TimeSeries(Series(self._parsed(), lines, length, since, until))
 
-    def _check_steps(self, step, begin, end):
+    def _check_steps(self, step: int, begin: int | None, end: int | None) -> None:
         """Wrong where a series has too many steps, before any is made. The figures tell when a run ends before its scenario."""
         begin = min(flow.start for flow in self.scenario.parsed.flows) if begin is None else begin
         end = min(self.scenario.end_ns if end is None else end, self.scenario.end_ns)
@@ -181,11 +182,11 @@ class Simulation:
     def stalls(self, longer: str | int = '200ms', flow: str | int | None = None) -> Stalls:
         """The spans in which a flow had no new acknowledgement for longer than that, each with its cause, as a list that shows
         as a table: `flow`, `begin`, `end`, `length` (ns), `cause`, `found`, and `positions` for the debugger's goto."""
-        parsed, longer = self._parsed(), moment('longer', longer)
+        parsed, least = self._parsed(), moment('longer', longer) or 0
         with as_api():
             only = None if flow is None else parsed.flows[flow_named(parsed, str(flow))].name
             with self._lines() as lines:
-                return Stalls(row for row in stalls_of(parsed, lines, longer) if only in (None, row.flow))
+                return Stalls(row for row in stalls_of(parsed, lines, least) if only in (None, row.flow))
 
     def time(self, flow: str | int, to: int | None = None, alone: bool = True) -> FlowTime:
         """Where the time of a flow went, to its last new acknowledgement or to that of the byte `to`: `parts`, `events`, `timeouts`,
@@ -199,7 +200,7 @@ class Simulation:
         return FlowTime(found)
 
     @contextlib.contextmanager
-    def _lines_alone(self, text):
+    def _lines_alone(self, text: str) -> Iterator[Iterator[str]]:
         """The trace's lines of a part of the scenario, by the same engine and with the same queues."""
         links = {link.name for link in Scenario(text).links}
         queues = {name: queue for name, queue in self._queues.items() if name in links}
@@ -213,13 +214,13 @@ class Simulation:
         with as_api(), self._lines() as ours, other._lines() as theirs:
             return Difference(self._side(ours), other._side(theirs))
 
-    def _side(self, lines):
+    def _side(self, lines: Iterator[str]) -> Side:
         queue = functools.partial(queue_at, self.scenario, None if self._own else self._engine.path, self._queues)
         return Side(self._parsed(), lines, engine_figures(self.figures._run), queue)
 
     # ---- pictures and pages
 
-    def plot(self, *panels: str, **options: object) -> PlottedRun:
+    def plot(self, *panels: str, **options: Value) -> PlottedRun:
         """A picture of the run, which a notebook shows: of the panels window, sequence, timer, queue, delay, delay-cdf,
         utilization and progress, else of the first choice. Options are those of tcpsim-plot: `flows` and `links` (names),
         `begin` and `end` (times), `longer`, `title`, `log`, `whole`. Wants matplotlib."""
@@ -268,11 +269,11 @@ class Simulation:
         return self.figures._repr_html_()
 
 
-def reads_again(file: BinaryIO) -> Callable[[int], bytes]:
+def reads_again(file: IO[bytes]) -> Callable[[int], bytes]:
     """A reader of a file's blocks from its beginning, beside others of the same file."""
     at = 0
 
-    def read(size):
+    def read(size: int) -> bytes:
         nonlocal at
         block = os.pread(file.fileno(), size, at)
         at += len(block)
@@ -280,15 +281,14 @@ def reads_again(file: BinaryIO) -> Callable[[int], bytes]:
     return read
 
 
-def check_names(option: str, names: object, there: Mapping[str, object]) -> None:
+def check_names(option: str, names: Value, there: Mapping[str, object]) -> None:
     """Wrong where an option of plot names what the scenario has not."""
-    names = names.split(',') if isinstance(names, str) else [] if names is None else names
-    unknown = [name for name in map(str, names) if name not in there]
+    unknown = [name for name in ([] if names is None else as_word(names).split(',')) if name not in there]
     if unknown:
         raise Wrong(f'{option}: the scenario has no {option[:-1]} {unknown[0]}; it has {", ".join(there)}')
 
 
-def words_of_plot(panels: tuple[str, ...], options: Mapping[str, object]) -> list[str]:
+def words_of_plot(panels: tuple[str, ...], options: Mapping[str, Value]) -> list[str]:
     """The words of tcpsim-plot's command line."""
     words = ['-', '-o', 'shown.png']
     if panels:

@@ -18,24 +18,27 @@ from tcpsim.cli import sweep as command
 from tcpsim.command_line import Wrong, note
 from tcpsim.estimate import events_of
 from tcpsim.program import MODEL_SPEED, NoProgram, check_time
+from tcpsim.settled import Thirds
 from tcpsim.sweeps.files import csv_text
 from tcpsim.sweeps.look import look_of
 from tcpsim.sweeps.means import PARTS, Averaged, averaged, pair_of, pairs, titles
 from tcpsim.sweeps.pattern import OwnQueue
 from tcpsim.sweeps.pool import Rows, run_all
 from tcpsim.sweeps.rows import QUESTION, Grid
-from tcpsim.sweeps.shown import mean_table, table
+from tcpsim.sweeps.shown import SETTLED, mean_table, table
+from tcpsim.sweeps.shown import settled as has_settled
 
 if TYPE_CHECKING:
     from pandas import DataFrame
 
+AS_BOOL = {'yes': True, 'no': False}
 Values = Union[str, int, Sequence[Union[str, int]]]      # of a setting: a word with commas, a number, or a list of them
 
 
 def sweep(scenario: ScenarioText | str | os.PathLike, settings: Mapping[str, Values] | None = None, *,
           over: Mapping[str, Values] | None = None, show: str | Sequence[str] | None = None, skip: str | int = 0,
           pair: Sequence[str] | str | None = None, link: str | None = None, exact: bool = False, engine: str | None = None,
-          on: str | None = None, jobs: int | None = None,
+          on: str | None = None, jobs: int | None = None, settled: bool = False,
           queues: Mapping[str, Callable | Sequence[Callable]] | None = None) -> Sweep:
     """Runs a scenario once for each choice of values, several runs side by side, and gives their figures.
 
@@ -44,7 +47,8 @@ def sweep(scenario: ScenarioText | str | os.PathLike, settings: Mapping[str, Val
     ["f3.goodput", "up.wait95"]; where it is left out there are those of docs/SWEEPS.md. `skip` leaves out what was before that
     moment, `pair` asks for the differences between two values of a setting, `link` names the link whose figures are told, and
     `exact` takes all figures from traces. `engine` is 'program', 'model' or a program's path; `on` has others run it, as
-    "dask:HOST:PORT", "slurm" or "parallel"; `jobs` runs go side by side.
+    "dask:HOST:PORT", "slurm" or "parallel"; `jobs` runs go side by side. `settled` asks of each choice of values whether its goodput
+    still changes at the end: the first run of each takes about as long again, on this machine.
 
     `queues` gives links, by name, a class of Python's for their queue (docs/PYTHON.md), or a list of classes. A class's name is one of
     the values of {"pq.queue": ["RED", "codel:5ms:100ms"]}; where the queue is not set every run has the class. The model runs
@@ -59,12 +63,13 @@ def sweep(scenario: ScenarioText | str | os.PathLike, settings: Mapping[str, Val
         grid = grid_to_run(engine, given, net.text, lambda plain: range(len(plain.points)))
         rows = Rows(grid, command.engine_of(given), progress=say_own(grid, engine, jobs))
         run_all(rows)
-        return Sweep(grid, rows.in_order(), given.pair)
+        given.settled, done = settled, rows.in_order()
+        return Sweep(grid, done, given.pair, command.looked_at(grid, done, given))
 
 
 def own_queues(queues: Mapping[str, Callable | Sequence[Callable]] | None, engine: str | None, on: str | None) -> dict[str, dict[str, Callable]]:
     """Of each link the classes that can be its queue, by their names; Wrong where they are asked of another engine than the model."""
-    if not check_queues(queues):
+    if not check_queues(queues) or queues is None:
         return {}
     if engine not in (None, 'model') or on:
         check_own(engine or on, '')
@@ -123,8 +128,8 @@ class Sweep:
     """The runs of a sweep, their means over the replicates, and the differences of a pair. `rows` has a mapping for each run,
     `means` for each choice of values, and `pairs` for each difference: numbers are numbers, and what there is not is None."""
 
-    def __init__(self, grid: Grid, rows: list[dict], pair: str | None):
-        self._grid, self._rows = grid, rows
+    def __init__(self, grid: Grid, rows: list[dict], pair: str | None, looked: dict[int, Thirds | None]):
+        self._grid, self._rows, self._looked = grid, rows, looked
         self._means = averaged(grid, rows)
         self._pairs = pairs(grid, rows, pair_of(pair, grid)) if pair else []
 
@@ -132,18 +137,22 @@ class Sweep:
     def rows(self) -> list[dict[str, object]]:
         """A row for each run, in the grid's order, with the columns of docs/SWEEPS.md."""
         words = {'status', 'link', *QUESTION} - {'from_ns'} | {each.key for each in self._grid.settings}
-        return [{name: value if name in words else number(value) for name in self._grid.columns() for value in [row.get(name, '')]}
-                for row in self._rows]
+        return [{**{name: value if name in words else number(value) for name in self._grid.columns() for value in [row.get(name, '')]},
+                 **self._settled(at)} for at, row in enumerate(self._rows)]
 
     @property
     def means(self) -> list[dict[str, object]]:
         """A row for each choice of values: of each figure FIGURE_mean, FIGURE_half_width and FIGURE_runs."""
-        return [self._as_numbers(each) for each in self._means]
+        return [{**self._as_numbers(each), **self._settled(at * self._grid.replicates)} for at, each in enumerate(self._means)]
 
     @property
     def pairs(self) -> list[dict[str, object]]:
         """The same of the differences: the second value's figures less the first's."""
         return [self._as_numbers(each) for each in self._pairs]
+
+    def _settled(self, number: int) -> dict[str, bool | None]:
+        """Whether a run has settled, where that was asked; None of one that was not looked at."""
+        return {SETTLED: AS_BOOL.get(has_settled(self._looked, number))} if self._looked else {}
 
     def _as_numbers(self, each: Averaged) -> dict[str, object]:
         words = {setting.key for setting in self._grid.chosen}
@@ -176,8 +185,8 @@ class Sweep:
 
     def _lines(self) -> list[str]:
         if self._grid.over:
-            return mean_table(self._grid, self._means, self._pairs)
-        return [*table(self._grid, self._rows), *(mean_table(self._grid, [], self._pairs) if self._pairs else [])]
+            return mean_table(self._grid, self._means, self._pairs, self._looked)
+        return [*table(self._grid, self._rows, self._looked), *(mean_table(self._grid, [], self._pairs) if self._pairs else [])]
 
     def __repr__(self) -> str:
         return '\n'.join(self._lines())

@@ -36,7 +36,8 @@ class FlowTime:
     def __init__(self, breakdown: Breakdown):
         self._breakdown, path = breakdown, breakdown.path
         self.flow: str = breakdown.name
-        self.parts = [TimePart(*row.part, row.ns, row.share, row.alone) for row in breakdown.rows()]
+        self.parts = [TimePart(row.part.kind, row.part.at, row.part.behind, row.part.doubled, row.ns, row.share, row.alone)
+                      for row in breakdown.rows()]
         self.time_ns: int = path.time
         self.begin_ns: int | None = path.begin
         self.end_ns: int | None = path.end

@@ -5,7 +5,7 @@ Usage: bin/tcpsim-diff SCENARIO OTHER [-o FILE] [--program FILE | --model]
 
 With --set the other run is that of SCENARIO with these values, words as tcpsim-sweep takes them. The first line says how many events
 are the same and what comes then, here and there; the second where the debugger shows it. Then each figure that differs, the greatest
-relative difference first. The status is 0 where the runs are the same, 1 where they differ, 2 where something is wrong.
+relative difference first, which is over the greater of both values. The status is 0 where the runs are the same, 1 where they differ, 2 where something is wrong.
 """
 from __future__ import annotations
 
@@ -30,7 +30,8 @@ DIFFERENT, FAILED = 1, 2        # statuses, as diff has them
 
 def words_of() -> argparse.Namespace:
     """What the words ask for."""
-    words = Words(description='Where two runs part, and the figures of flows and links that differ.')
+    words = Words(description='Where two runs part, and the figures of flows and links that differ. A percentage is the difference over '
+                  'the greater of both values: +50 % is from 1 to 2, and -50 % from 2 to 1.')
     words.add_argument('scenario', metavar='SCENARIO', help='a text or an image; - is standard input')
     words.add_argument('other', metavar='OTHER', nargs='?', help='the scenario of the other run')
     words.add_argument('--set', metavar='NAME.FIELD=VALUE', action='append', default=[],
@@ -65,7 +66,7 @@ def figures_of(name: str, text: str, path: str) -> list[tuple]:
 
 def difference(given: argparse.Namespace) -> Difference:
     """What differs in the runs that the words ask for."""
-    sources = [scenario_bytes(path) for path in filter(None, (given.scenario, given.other))]
+    sources = [scenario_bytes(path) for path in (given.scenario, given.other) if path]
     texts = [scenario_text(source, path, given.program) for source, path in zip(sources, (given.scenario, given.other))]
     names = given.scenario, given.other or f'{given.scenario} with {" ".join(given.set)}'
     texts += [changed(texts[0], given.set)] if given.set else []

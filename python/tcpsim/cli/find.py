@@ -9,6 +9,7 @@ from __future__ import annotations
 
 import argparse
 from collections.abc import Callable
+from typing import TYPE_CHECKING
 
 from tcpsim import output
 from tcpsim.cli import sweep
@@ -22,6 +23,9 @@ from tcpsim.sweeps.pool import Rows
 from tcpsim.sweeps.rows import Grid, as_csv
 from tcpsim.sweeps.search import GREATEST, LEAST, Asked, Search, first_places, places_of, rising, runs_to_check
 from tcpsim.whole_trace import inputs_of
+
+if TYPE_CHECKING:
+    from matplotlib.figure import Figure
 
 
 def command_line() -> Words:
@@ -101,12 +105,12 @@ def find(given: argparse.Namespace) -> None:
         sweep.check_plot(given, inputs)
 
     def run(rows: Rows, file: output.Output | None) -> None:
-        search.run(rows)
+        search.run(rows, given.jobs)
         if file:
             file.write(csv_text(rows.in_order(), search.grid.columns()))
     rows = sweep.run_and_write(run, search.grid, sweep.engine_of(given), given, inputs)
 
-    def draw():
+    def draw() -> Figure:
         from tcpsim.plot.search import draw
         return draw(search)
     sweep.show_and_draw(lambda: show(search, given), draw if given.plot else None, given.plot)

@@ -21,7 +21,7 @@ import csv
 from tcpsim import output
 from tcpsim.command_line import Words, as_type
 from tcpsim.cycle import words_of as words_of_cycle
-from tcpsim.engine import engine_run
+from tcpsim.engine import EngineRun, engine_run
 from tcpsim.fairness import in_words as of_flows
 from tcpsim.figures import S, Figures, cycles, engine_figures, figures
 from tcpsim.output import Output, aligned
@@ -60,6 +60,7 @@ ENGINE_COLUMNS = {
 }
 
 
+FEW = 10                # timed round trips, below which a table says how many they are
 FOLDED = {'flow': 'mice have their line above', 'link': 'links carried less than a tenth of the busiest, and dropped nothing'}
 
 
@@ -94,6 +95,13 @@ def table(rows: list, columns_of: dict[str, tuple] = TRACE_COLUMNS, every: bool 
     return lines + [f'{figure}: {value / S:.6f} s' for figure, (unit, value) in of_run.items() if unit == 'ns']
 
 
+def few_timed(rows: list) -> list[str]:
+    """A sentence on the flows whose timed round trips are so few that a median says little; none where there are none."""
+    counts = {name: values.get('timed round trips') for name, values in by_name(rows, 'flow').items()}
+    few = [f'{count} of {name}' for name, count in counts.items() if count and count < FEW]
+    return [f'Timed round trips are few: {", ".join(few)}.'] if few else []
+
+
 def write_csv(rows: list, file: Output) -> None:
     """Writes figures, one a row."""
     out = csv.writer(file, lineterminator='\n')
@@ -114,7 +122,7 @@ def write_series(run: Rows, file: Output, only_busy: bool = False, chosen: list[
 
 # ---- the command
 
-def words_of(given: list[str] | None = None) -> argparse.Namespace:
+def words_of(typed: list[str] | None = None) -> argparse.Namespace:
     """What the words ask for."""
     words, moment = Words(description='Figures of each flow and each link of a run.'), as_type(units.moment)
     words.add_argument('scenario', metavar='SCENARIO', help='a text or an image; - is standard input')
@@ -136,7 +144,7 @@ def words_of(given: list[str] | None = None) -> argparse.Namespace:
                        'exact ones. It has no share of the bottleneck, no loss and no drops of a flow, and round trips '
                        'of timed segments alone')
     words.add_output('the table or the CSV')
-    given = words.parse_args(given)
+    given = words.parse_args(typed)
     if given.series == 0:
         words.error('--series: a step of 0 has no rows')
     if given.end is not None and given.end <= (given.begin or 0):
@@ -158,17 +166,17 @@ def run_of(given: argparse.Namespace) -> Figures:
 
 def write(given: argparse.Namespace, file: Output) -> None:
     """Writes what is asked for."""
-    run = engine_run(given.scenario, given.program) if given.engine else run_of(given)
+    run: Figures | EngineRun = engine_run(given.scenario, given.program) if given.engine else run_of(given)
     chosen = list(dict.fromkeys(flow_named(run.scenario, name) for name in given.flows)) if given.flows else None
-    if given.series is not None:
+    if isinstance(run, Rows):
         write_series(run, file, given.busy, chosen)
         return
-    rows = (engine_figures if given.engine else figures)(run, given.busy, chosen)
+    rows = figures(run, given.busy, chosen) if isinstance(run, Figures) else engine_figures(run, given.busy, chosen)
     if given.csv:
         write_csv(rows, file)
     else:
         print('\n'.join(table(rows, ENGINE_COLUMNS if given.engine else TRACE_COLUMNS, given.all)), file=file)
-        for words in [*too_short(run, chosen), *map(words_of_cycle, [] if given.engine else cycles(run))]:
+        for words in [*few_timed(rows), *too_short(run, chosen), *map(words_of_cycle, cycles(run) if isinstance(run, Figures) else [])]:
             print(words, file=file)
 
 

@@ -11,7 +11,8 @@ import argparse
 import functools
 import shlex
 import sys
-from collections.abc import Callable
+from collections.abc import Callable, Sequence
+from typing import Any
 
 from tcpsim import output
 from tcpsim.command_line import Words, Wrong, as_type
@@ -34,7 +35,7 @@ def numbers(name: str) -> Callable[[str], list[int]]:
 
 def between(least: int, most: int) -> Callable[[str], int]:
     """A type of option: a whole number from `least` to `most`."""
-    def read(word):
+    def read(word: str) -> int:
         if not least <= units.count(word) <= most:
             raise Wrong(f'{word} is out of range: from {least} to {most}')
         return int(word)
@@ -42,7 +43,7 @@ def between(least: int, most: int) -> Callable[[str], int]:
 
 
 QUEUE = as_type(units.queue_in_range)
-OPTIONS = {
+OPTIONS: dict[str, dict[str, Any]] = {
     '--flows': dict(type=between(1, MOST_FLOWS), metavar='N', help='how many flows'),
     '--rate': dict(type=number('rate'), metavar='RATE', help='of the bottleneck, 10M if none is given'),
     '--rates': dict(type=numbers('rate'), metavar='RATE[,..]', help='of the hops, 10M if none is given'),
@@ -90,7 +91,8 @@ OPTIONS = {
 }
 ENDS = ('--access', '--access-queue', '--mss', '--segments', '--start', '--rwnd', '--delack',
         '--variant', '--iw', '--lose', '--spread', '--end')
-SHAPES = {      # name: builder, its options, and what differs from the options above
+# Of each shape its builder, its options, and what differs from the options above.
+SHAPES: dict[str, tuple[Callable[..., Sequence[str]], tuple[str, ...], dict[str, Any]]] = {
     'dumbbell': (dumbbell, ('--flows', '--rate', '--rtt', '--queue', '--back-queue', '--mice', *ENDS), {'flows': 2}),
     'parking-lot': (parking_lot, ('--hops', '--cross', '--rates', '--delay', '--queue', '--back-queue',
                                   '--access-delay', *ENDS), {}),

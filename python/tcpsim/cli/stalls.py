@@ -13,16 +13,17 @@ import argparse
 import csv
 
 from tcpsim import output
-from tcpsim.causes import CAUSES, name_of, rule_of, seconds
+from tcpsim.causes import CAUSES, counted, name_of, rule_of, seconds
 from tcpsim.command_line import Words, as_type
 from tcpsim.cycle import words_of as words_of_cycle
 from tcpsim.output import Output, aligned
 from tcpsim.scenario.units import moment
-from tcpsim.stalls import LONGER, stalls_and_cycles
+from tcpsim.stalls import LONGER, walk_of
 from tcpsim.walk import flow_named, opened
 from tcpsim.whole_trace import inputs_of
 
 
+MOST_TIMEOUTS = 10      # in no stall, that are named
 # A cause as a column is headed.
 SHORT = {'a loss was left to the timer': 'left to the timer', 'fast retransmit took a round trip': 'a round trip',
          'a retransmission was lost': 'retransmission lost', 'a delayed acknowledgement was waited for':
@@ -44,8 +45,16 @@ def write_csv(rows: list, file: Output) -> None:
         out.writerow((*words, '; '.join(commands(positions))))
 
 
-def write_table(rows: list, longer: int, file: Output) -> None:
-    """Three lines a stall: its row, what was found, the commands of `tcpsim debug`."""
+def words_of_others(others: list) -> str:
+    """Says which timeouts are in no stall: the flow and moment of each."""
+    named = [f'{flow} at {time / 10**9:.9f} s' for flow, time in others[:MOST_TIMEOUTS]]
+    more = [f'and {len(others) - MOST_TIMEOUTS} more'] if len(others) > MOST_TIMEOUTS else []
+    where = 'is in no stall but in a shorter span' if len(others) == 1 else 'are in no stall but in shorter spans'
+    return f'{counted(len(others), "timeout")} {where}: {", ".join(named + more)}'
+
+
+def write_table(rows: list, others: list, longer: int, file: Output) -> None:
+    """Three lines a stall: its row, what was found, the commands of `tcpsim debug`. Below them the timeouts in no stall."""
     width = max([4, *(len(row.flow) for row in rows)])
     print(f'{"flow".ljust(width)}  {"from s":>16}  {"to s":>16}  {"long s":>14}  cause', file=file)
     for row in rows:
@@ -53,15 +62,17 @@ def write_table(rows: list, longer: int, file: Output) -> None:
         print(f'{row.flow.ljust(width)}  {begin:>16}  {end:>16}  {length:>14}  {row.cause}', file=file)
         print(f'{"".ljust(width)}    {row.found}', file=file)
         print(f'{"".ljust(width)}    debug: {", ".join(commands(row.positions))}', file=file)
-    print(f'{len(rows)} {"stall" if len(rows) == 1 else "stalls"} longer than {seconds(longer)}', file=file)
+    print(f'{counted(len(rows), "stall")} longer than {seconds(longer)}', file=file)
+    if others:
+        print(words_of_others(others), file=file)
 
 
 def summary_of(flows: list[str], rows: list) -> list[tuple]:
     """Of each flow its name, how many stalls it has, their ns in all, and both by the cause's name."""
-    found = []
+    found: list[tuple] = []
     for flow in flows:
         own = [row for row in rows if row.flow == flow]
-        causes = {}
+        causes: dict[str, tuple[int, int]] = {}
         for row in own:
             count, ns = causes.get(row.cause, (0, 0))
             causes[row.cause] = count + 1, ns + row.length
@@ -114,13 +125,14 @@ def words_of() -> argparse.Namespace:
     return given
 
 
-def rows_of(given: argparse.Namespace) -> tuple[list, list, list]:
-    """The flows that the words ask for, by name, the rows of their stalls, and their cycles of timeouts."""
+def rows_of(given: argparse.Namespace) -> tuple[list, list, list, list]:
+    """The flows that the words ask for, by name, the rows of their stalls, their timeouts in no stall, and their cycles of timeouts."""
     with opened(given) as (scenario, lines):
         only = None if given.flow is None else scenario.flows[flow_named(scenario, given.flow)].name
-        rows, cycles = stalls_and_cycles(scenario, lines, given.longer)
+        walk = walk_of(scenario, lines, given.longer)
         return ([flow.name for flow in scenario.flows if only in (None, flow.name)],
-                [row for row in rows if only in (None, row.flow)], [cycle for cycle in cycles if only in (None, cycle.flow)])
+                [row for row in walk.rows if only in (None, row.flow)], sorted(one for one in walk.others if only in (None, one[0])),
+                [cycle for cycle in walk.cycles() if only in (None, cycle.flow)])
 
 
 def main() -> None:
@@ -130,7 +142,7 @@ def main() -> None:
         if given.causes:
             write_causes(file)
             return
-        flows, rows, cycles = rows_of(given)
+        flows, rows, others, cycles = rows_of(given)
         if given.summary and given.csv:
             write_summary_csv(summary_of(flows, rows), file)
         elif given.summary:
@@ -138,6 +150,6 @@ def main() -> None:
         elif given.csv:
             write_csv(rows, file)
         else:
-            write_table(rows, given.longer, file)
+            write_table(rows, others, given.longer, file)
             for cycle in cycles:
                 print(words_of_cycle(cycle), file=file)

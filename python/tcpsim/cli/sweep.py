@@ -9,24 +9,28 @@ Usage: bin/tcpsim-sweep SCENARIO --set NAME.FIELD=VALUE,.. [--over NAME.FIELD=A.
 from __future__ import annotations
 
 import argparse
+import functools
 import importlib.util
 import os
-from collections.abc import Callable, Iterable
+import sys
+from collections.abc import Callable, Iterable, Sequence
 from typing import TYPE_CHECKING
 
 from tcpsim import FORMATS, output
 from tcpsim.command_line import MODEL, OutputClosed, Refused, Words, Wrong, as_type, go_on_with, note, tool
-from tcpsim.program import find_program, found, is_program
+from tcpsim.program import digest_of, find_program, format_of, found, is_program, version_of
 from tcpsim.scenario import units
-from tcpsim.sweeps import jobs
+from tcpsim.scenario.units import spelled_time
+from tcpsim.settled import Thirds
+from tcpsim.sweeps import jobs, pool
 from tcpsim.sweeps.columns import columns_of
 from tcpsim.sweeps.files import csv_text, has_rows, is_answered, journal_of, rows_there
 from tcpsim.sweeps.look import Look, look_of, panel_count
 from tcpsim.sweeps.means import Averaged, averaged, pair_of, pairs, titles
 from tcpsim.sweeps.pattern import WHERE, Pattern, settings_of
 from tcpsim.sweeps.pool import Rows, Runner, here, run_all
-from tcpsim.sweeps.rows import AskedOfRun, Grid, digest_of, format_of, version_of
-from tcpsim.sweeps.shown import mean_table, table
+from tcpsim.sweeps.rows import AskedOfRun, Grid
+from tcpsim.sweeps.shown import SETTLED, mean_table, settled, table
 from tcpsim.whole_trace import IMAGE_BEGINS, ProgramFailed, inputs_of, scenario_bytes, scenario_text
 
 if TYPE_CHECKING:
@@ -49,10 +53,13 @@ def command_line() -> Words:
     words.add_argument('--link', metavar='LINK', help='whose figures are told: else the first that is set, else the busiest')
     add_common(words, 'CSV on standard output too, in the place of the table', 'a picture (.svg, .png, .pdf): wait against utilization, or '
                'the second that is shown against the first')
+    words.add_argument('--settled', action='store_true', help='say of each choice of values whether its goodput still changes at the end; '
+                       'its first run takes about as long again')
     words.add_argument('--x', metavar='NAME.FIELD', help='in the picture, the values of this --set are across')
     words.add_argument('--log', metavar='AXES', help='in the picture, x, y or xy go by powers of ten')
     words.add_argument('--share', action='store_true', help='in the picture, the same axes in each panel')
-    words.add_argument('--size', metavar='MM', help='of the picture, as 85mm or 180x120mm, with letters of 7 points')
+    words.add_argument('--size', metavar='MM', help='of the picture, as 85mm or 180x120mm, with letters of 7 points; a .png has '
+                       '300 dots an inch')
     words.add_argument('--kind', metavar='KIND', help='what the picture has of replicates: mean, cdf or box')
     words.add_argument('--print', metavar='DIR', dest='print', help='write scenarios and a list of jobs, run nothing')
     words.add_argument('--gather', metavar='DIR', help='the rows of the jobs of --print')
@@ -113,9 +120,17 @@ def grid_of(given: argparse.Namespace, text: str, program: str, number: int | No
         raise Wrong(f'--engine reads no trace, and {wanted[0]} wants one{" from this moment on" if given.skip else ""}: leave '
                     '--engine out')
     grid = Grid(pattern, settings, asked)
+    check_skip(grid)
     if given.pair:
         pair_of(given.pair, grid)
     return grid
+
+
+def check_skip(grid: Grid) -> None:
+    """Refuses figures from a moment on which no run comes to. A job's one run has a row that says so."""
+    ends = [value for each in grid.settings if each.field == 'end' for value in each.values] or [grid.pattern.end()]
+    if grid.settings and grid.asked.skip >= max(ends) > 0:
+        raise Wrong(f'--skip {spelled_time(grid.asked.skip)}: the scenario ends at {spelled_time(max(ends))}, and nothing of it is later')
 
 
 def check_words(given: argparse.Namespace) -> None:
@@ -124,6 +139,8 @@ def check_words(given: argparse.Namespace) -> None:
         raise Wrong('name one SCENARIO' if not given.scenario else '--gather takes no SCENARIO')
     if given.gather and (given.sets or given.over or given.print or given.on or given.resume or given.show):
         raise Wrong('--gather knows its sweep: it goes with -o, --csv, --plot and --pair alone')
+    if given.settled and (given.print or given.gather):
+        raise Wrong('--settled runs the program, so it goes without --print and --gather')
     if given.print and (given.plot or given.output or given.csv or given.resume or given.on):
         raise Wrong('--print runs nothing, so it goes without -o, --resume, --csv, --plot and --on')
     if given.link and given.show:
@@ -165,17 +182,29 @@ def engine_of(given: argparse.Namespace) -> Runner:
 
 # ---- what is written
 
+def looked_at(grid: Grid, rows: list, given: argparse.Namespace) -> dict[int, Thirds | None]:
+    """Where it is asked for, whether the first run of each choice of values has settled, of those that have figures."""
+    numbers = [number for number in range(0, len(rows), grid.replicates) if rows[number]['status'] == 'done'] if given.settled else []
+    return pool.looked_at(grid, numbers, given.jobs)
+
+
 def show(grid: Grid, rows: list, given: argparse.Namespace) -> None:
     """What comes to standard output: the rows, or where there are replicates their means, and differences."""
+    looked = looked_at(grid, rows, given)
+    if not (given.settled or given.gather) and sys.stderr is not None and sys.stderr.isatty():
+        note('whether goodput still changes as the runs end was not looked at: --settled does')
+    more = [SETTLED] if looked else []
     means = averaged(grid, rows) if grid.over else []
     both: list[Averaged] = pairs(grid, rows, pair_of(given.pair, grid)) if given.pair else []
     with output.opened() as file:
         if not means and not both:
-            file.write(csv_text(rows, grid.columns()) if given.csv else '\n'.join(table(grid, rows)) + '\n')
+            lines: list[dict] = [{**row, SETTLED: settled(looked, number)} for number, row in enumerate(rows)]
+            file.write(csv_text(lines, grid.columns() + more) if given.csv else '\n'.join(table(grid, rows, looked)) + '\n')
         elif given.csv:
-            file.write(csv_text([each.row() for each in [*(means or averaged(grid, rows)), *both]], titles(grid)))
+            lines = [{**each.row(), SETTLED: settled(looked, at * grid.replicates)} for at, each in enumerate([*(means or averaged(grid, rows)), *both])]
+            file.write(csv_text(lines, titles(grid) + more))
         else:
-            file.write('\n'.join(mean_table(grid, means, both) if means else [*table(grid, rows), *mean_table(grid, [], both)]) + '\n')
+            file.write('\n'.join(mean_table(grid, means, both, looked) if means else [*table(grid, rows, looked), *mean_table(grid, [], both)]) + '\n')
 
 
 def check_all(rows: list) -> None:
@@ -257,11 +286,11 @@ def finish(grid: Grid, engine: Runner, given: argparse.Namespace, inputs: list, 
     """Runs the points, and writes what is asked for."""
     draw = drawing_of(grid, given, inputs) if given.plot else None
     rows = run_and_write(run_all, grid, engine, given, inputs, progress)
-    show_and_draw(lambda: show(grid, rows, given), draw and (lambda: draw(grid, rows)), given.plot)
+    show_and_draw(lambda: show(grid, rows, given), functools.partial(draw, grid, rows) if draw else None, given.plot, bool(given.size))
     check_all(rows)
 
 
-def show_and_draw(show: Callable[[], None], draw: Callable[[], Figure] | None, path: str) -> None:
+def show_and_draw(show: Callable[[], None], draw: Callable[[], Figure] | None, path: str, in_print: bool = False) -> None:
     """Shows what came out, and draws it, also where nobody reads standard output any more."""
     closed = None
     try:
@@ -269,8 +298,8 @@ def show_and_draw(show: Callable[[], None], draw: Callable[[], Figure] | None, p
     except OutputClosed as wrong:
         closed = wrong
     if draw:
-        from tcpsim.plot.files import save
-        save(draw(), path)
+        from tcpsim.plot.files import PRINT, save
+        save(draw(), path, PRINT * in_print)
     if closed:
         raise closed
 
@@ -294,7 +323,7 @@ def drawing_of(grid: Grid, given: argparse.Namespace, inputs: list[str]) -> Call
     return lambda grid, rows: draw(grid, rows, look)
 
 
-def check_plot(given: argparse.Namespace, inputs: list[str]) -> None:
+def check_plot(given: argparse.Namespace, inputs: Sequence[str | None]) -> None:
     """Refuses a picture that would be written over another file, or that cannot be drawn."""
     for each in inputs:
         if output.is_same(given.plot, each):

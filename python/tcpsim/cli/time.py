@@ -20,7 +20,7 @@ from tcpsim import output
 from tcpsim.breakdown import Breakdown, breakdowns, flows_table, in_seconds, times, words_of
 from tcpsim.causes import counted, seconds
 from tcpsim.command_line import Refused, Words, Wrong, as_type, go_on_with
-from tcpsim.critical_path import Event, critical_paths
+from tcpsim.critical_path import Event, Part, critical_paths
 from tcpsim.output import Output
 from tcpsim.program import found
 from tcpsim.scenario.text import Scenario
@@ -65,7 +65,7 @@ def runs_of(given: argparse.Namespace) -> list[tuple[str, str | None]]:
     """The scenarios that are named, each with its trace or None. One of two is the trace; of a picture each that begins as one."""
     if not given.plot:
         return [(given.inputs[0], (given.inputs[1:] or [None])[0])]
-    runs = []
+    runs: list[tuple[str, str | None]] = []
     for path in given.inputs:
         if runs and runs[-1][1] is None and begins_as_trace(path):
             runs[-1] = runs[-1][0], path
@@ -115,7 +115,7 @@ def words_of_event(event: Event) -> str:
 
 def words_of_spans(event: Event, flow: str) -> str:
     """What the time since the event before it on the path was spent on; of a wait the packets of each flow in the order of time."""
-    sums = {}
+    sums: dict[Part, int] = {}
     for part, begin, end in event.spans:
         sums[part] = sums.get(part, 0) + end - begin
     return ', '.join(f'{seconds(ns)} {words_of(part, flow)}' for part, ns in sums.items() if ns)

@@ -12,6 +12,7 @@ import signal
 from collections.abc import Callable, Iterable, Iterator, Sequence
 from multiprocessing import get_context
 from multiprocessing.connection import Connection
+from types import FrameType
 
 from tcpsim.breakdown import Breakdown, flows_table
 from tcpsim.command_line import ENDS, Refused, nothing
@@ -24,7 +25,7 @@ from tcpsim.whole_trace import lines_of_text
 AHEAD = 1 << 20
 TURN = 4096                     # events between two looks for a question
 NICE = 10
-NO_MORE = 0, []
+NO_MORE: tuple[int, list[int]] = (0, [])
 
 
 class Ahead:
@@ -41,7 +42,7 @@ class Ahead:
     def ask(self, flows: Sequence[int]) -> str:
         """Where the time of these flows went; Interrupted where Ctrl-C came meanwhile."""
         self._asked += 1
-        number = text = wrong = None
+        number, text, wrong = 0, '', None
         try:
             self._pipe.send((self._asked, flows))
             while number != self._asked:        # answers that nobody waited for are before it
@@ -66,7 +67,7 @@ class Ahead:
 @contextlib.contextmanager
 def interruptible() -> Iterator[None]:
     """Ctrl-C ends what is done meanwhile: Interrupted then."""
-    def interrupt(number, _frame):
+    def interrupt(number: int, _frame: FrameType | None) -> None:
         signal.signal(number, nothing)      # a further one would break into what follows
         raise Interrupted('ended; the session is where it was')
     before = signal.signal(signal.SIGINT, interrupt)
@@ -120,7 +121,7 @@ def serve(pipe: Connection, ends: Callable[[], None] | None, scenario: Scenario,
         except Refused as refused:
             questions.answer(lambda _: '', str(refused))
 
-        def text_of(flows):
+        def text_of(flows: Sequence[int]) -> str:
             found = [Breakdown(walk, flow) for flow in flows or range(len(scenario.flows))]
             return '\n'.join(found[0].lines() if flows else flows_table(found)) + '\n'
         questions.answer(text_of)

@@ -59,7 +59,8 @@ class Item:
 
     def behind(self) -> list[Mapping[str, Item] | str]:
         """What stands behind it, in turn: one of the items, or what fills a place. Nothing can fill a sign's and a number's."""
-        return [self.items or self.place] * bool(self.items or self.place) + ['', ''] * self.signed
+        filled = self.items or self.place
+        return [*([filled] if filled else []), *['', ''] * self.signed]
 
 
 NOTHING = Item()
@@ -107,7 +108,7 @@ class Usage:
 
     def add_values(self, sorts: str, values: Mapping[str, Item]) -> None:
         """Adds the sorts of a list that are not yet there, as those of values are."""
-        for sort, place in (ITEM.fullmatch(it).groups() for it in sorts.split(', ')):
+        for sort, place in (found.groups() for it in sorts.split(', ') if (found := ITEM.fullmatch(it))):
             of = values.get(sort, NOTHING)
             self.items.setdefault(sort, replace(of, place=place, signed=not of.items))
 
@@ -146,7 +147,7 @@ class Completion:
     """What the program's answers name; `ask` is its prompt."""
 
     def __init__(self, ask: Callable[[str], Answer]):
-        def page(topic):
+        def page(topic: str) -> str:
             return ask(f'help {topic}').text
         self._usages = {name: Usage(name, places, what, page) for name, places, what in USAGE.findall(ask('help').text)}
         self._numbers: dict[str, list[Word]] = {}       # of each sort
@@ -182,7 +183,7 @@ class Completion:
         return fitting(fits) if isinstance(fits, Mapping) else \
             next((numbers for sort, numbers in self._numbers.items() if sort[0].upper() == fits), [])
 
-    def _filling(self, usage, counted):
+    def _filling(self, usage: Usage, counted: Mapping[str, Sequence[str]]) -> list[Word]:
         """The numbers that can fill the one place of a command, where it says of which sort they are, as `flow F`."""
         numbered = {what: [(str(number), words) for number, words in enumerate(given, 1)] for what, given in counted.items()}
         return next((numbers for sort, numbers in {**self._numbers, **numbered}.items() if f'{sort} {usage.place}' in usage.what), [])

@@ -2,13 +2,14 @@
 from __future__ import annotations
 
 import contextlib
+import io
 import os
 import readline
 import shutil
 import signal
 import sys
 import termios
-from collections.abc import Callable, Iterator
+from collections.abc import Callable, Iterator, Sequence
 from types import FrameType
 
 from tcpsim.command_line import Ended, nothing
@@ -29,8 +30,10 @@ class Keyboard:
     """Lines behind a prompt. `words` answers what can stand behind the beginning of a line, with what each means."""
 
     def __init__(self, prompt: str, words: Callable[[str], list[tuple[str, str]]]):
-        self._prompt, self._words, self._fitting = prompt, words, []
-        sys.stdin.reconfigure(errors='surrogateescape')     # what is no text goes to the program as it is typed
+        self._prompt, self._words = prompt, words
+        self._fitting: list[tuple[str, str]] = []
+        if isinstance(sys.stdin, io.TextIOWrapper):
+            sys.stdin.reconfigure(errors='surrogateescape')     # what is no text goes to the program as it is typed
         readline.set_completer_delims(' ')
         readline.set_completer(self._complete)
         readline.set_completion_display_matches_hook(self._display)
@@ -59,13 +62,13 @@ class Keyboard:
                 remember()
             return line
 
-    def _complete(self, text, state):
+    def _complete(self, text: str, state: int) -> str | None:
         """The state-th word that completes the text, with the space behind it; None behind the last."""
         if state == 0:
             self._fitting = [it for it in self._words(readline.get_line_buffer()[:readline.get_begidx()]) if it[0].startswith(text)]
         return f'{self._fitting[state][0]} ' if state < len(self._fitting) else None
 
-    def _display(self, _text, _words, _longest):
+    def _display(self, _text: str, _words: Sequence[str], _longest: int) -> None:
         """Shows what fits, a line each, and then the line that is typed again."""
         readline.redisplay()        # what is completed by now stands in the line, and not behind what follows
         width = max(len(word) for word, _ in self._fitting)

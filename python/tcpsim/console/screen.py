@@ -1,12 +1,14 @@
 """Shows the debugger's answers on a terminal: in colours, and by a pager where they are longer than the screen."""
 from __future__ import annotations
 
+import functools
 import os
 import re
 import shlex
 import shutil
 import subprocess
 import sys
+from collections.abc import Sequence
 
 from tcpsim.command_line import note
 
@@ -30,11 +32,15 @@ def is_coloured() -> bool:
     return not os.environ.get('NO_COLOR') and os.environ.get('TERM', 'dumb') != 'dumb'
 
 
+def in_colours(colours: Sequence[str], found: re.Match[str]) -> str:
+    """What was found, each of its groups in its colour."""
+    return ''.join(f'{colour}{part}{PLAIN}' if colour else part for colour, part in zip(colours, found.groups()))
+
+
 def coloured(text: str) -> str:
     """An answer with its colours."""
     for pattern, colours in COLOURS:
-        text = pattern.sub(lambda found, colours=colours: ''.join(
-            f'{colour}{part}{PLAIN}' if colour else part for colour, part in zip(colours, found.groups())), text)
+        text = pattern.sub(functools.partial(in_colours, colours), text)
     return text
 
 

@@ -92,9 +92,9 @@ class Session:
     def _interruptible(self) -> Iterator[None]:
         """Ctrl-C ends the process: Interrupted then, with another one. Its handler raises nothing, so that it comes at no
         wrong moment: who waits for the process sees that it ended."""
-        came = []
+        came: list[bool] = []
 
-        def interrupt(*_):
+        def interrupt(*_: object) -> None:
             came.append(True)
             self._prompt.kill()
         before = signal.signal(signal.SIGINT, interrupt)
@@ -109,7 +109,7 @@ class Session:
             self._start_again()
             raise Interrupted(f'ended; {self._where()}')
 
-    def _kept_after(self, line, answer):
+    def _kept_after(self, line: str, answer: Answer) -> Kept:
         moves = MOVED.findall(answer.text)
         if moves:
             self._anew = False
@@ -118,11 +118,11 @@ class Session:
         return Kept(int(moves[-1]), listed, line if line.strip() else self._kept.move) if moves else \
             Kept(self._kept.position, listed, self._kept.move)
 
-    def _start_again(self):
+    def _start_again(self) -> None:
         self._prompt.end()
         self._prompt, self._anew = Prompt(self._words, self._source, self._kept.again()), True
 
-    def _where(self):
+    def _where(self) -> str:
         has = [f'its {what}' if len(words) == 1 else f'its {len(words)} {what}s' for what, words in self.counted.items() if words]
         return f'the session is at {self._kept.position} of the run{", with " * bool(has)}{" and ".join(has)}'
 

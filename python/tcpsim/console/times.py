@@ -46,7 +46,7 @@ class Times:
             return Answer(BEHIND.sub(lambda found: found[0] + USAGE, answer.text), answer.note)
         return answer
 
-    def _told(self, names):
+    def _told(self, names: list[str]) -> str:
         if len(names) > 1:
             raise Refused('one flow, or nothing for all: help time')
         return self._ahead.ask([flow_named(self._scenario, name) for name in names])

@@ -70,10 +70,10 @@ def set_heights(axes: Axes, axis: Axis, scale: int, most: int, low: float | None
         return
     rest = ABOVE * knee / (1.06 * top - knee)
 
-    def drawn(values):
+    def drawn(values: np.ndarray) -> np.ndarray:
         return np.where(values <= knee, values, knee + (values - knee) * rest)
 
-    def meant(places):
+    def meant(places: np.ndarray) -> np.ndarray:
         return np.where(places <= knee, places, knee + (places - knee) / rest)
 
     axes.set_yscale('function', functions=(drawn, meant))

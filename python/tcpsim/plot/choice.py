@@ -67,11 +67,11 @@ def picture_file(text: str) -> str:
     return text
 
 
-def words_of(given: list[str] | None = None) -> argparse.Namespace:
+def words_of(typed: list[str] | None = None) -> argparse.Namespace:
     """What the words ask for."""
     words = Words(description='Draws a run of a scenario.')
     add_words(words)
-    given = words.parse_args(given)
+    given = words.parse_args(typed)
     if any(len(other) > 2 for other in given.beside):
         words.error('--beside takes a scenario and at most a trace; for one more run write --beside again')
     if given.names and len(given.names) != 1 + len(given.beside):
@@ -223,7 +223,7 @@ def stall_of(given: argparse.Namespace, window: tuple[int, int]) -> int:
 
 def moments(runs: Iterable[Run]) -> np.ndarray:
     """When something happens, in ns: at senders and receivers, and at links."""
-    found_times = [[run.last for run in runs]]
+    found_times: list[ArrayLike] = [[run.last for run in runs]]
     for run in runs:
         for flow in run.flows:
             found_times += [flow.times, flow.next_times]

@@ -110,7 +110,7 @@ class Clock:
                  *axes.transData.transform((right, 0))[:1], axes.bbox.y1)
                 for left, right in (self.x((cut.begin, cut.end)) for cut in self.cuts)]
 
-    def _ticks(self, most):
+    def _ticks(self, most: int) -> tuple[list[float], list[str]]:
         parts, begin = [], self.window[0]
         for cut_begin, cut_end, _ in [*self.cuts, Cut(self.window[1], None, 0)]:
             parts.append((begin, cut_begin))

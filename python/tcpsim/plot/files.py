@@ -12,16 +12,18 @@ from tcpsim import output
 
 from .drawn import drawn
 
+PRINT = 300             # dots an inch of a .png that has a size in print
 WIDTH = {10: 1400}      # pixels of a .png by the picture's width in inches; of another 100 an inch
 
 
-def save(figure: Figure, path: str) -> None:
-    """Writes the picture into a file that ends in .png, .svg or .pdf; `OSError` where it cannot be written."""
+def save(figure: Figure, path: str, dots: int = 0) -> None:
+    """Writes the picture into a file that ends in .png, .svg or .pdf; `OSError` where it cannot be written. A .png has so many dots an
+    inch, where they are given."""
     with output.opened(path) as file:
-        file.write(content_of(figure, path))
+        file.write(content_of(figure, path, dots))
 
 
-def content_of(figure: Figure, path: str) -> bytes:
+def content_of(figure: Figure, path: str, dots: int = 0) -> bytes:
     """The picture's bytes, of the sort that the path's ending names; an SVG says in its description what it shows."""
     ending = os.path.splitext(path)[1]
     plain = {'.svg': {'Date': None, 'Creator': None}, '.pdf': {'CreationDate': None}, '.png': {}}[ending]
@@ -29,7 +31,7 @@ def content_of(figure: Figure, path: str) -> bytes:
     if ending == '.svg':
         plain['Description'] = '\n'.join(drawn(figure))
     with matplotlib.rc_context({'svg.hashsalt': 'tcpsim', 'pdf.fonttype': 42}):       # letters as TrueType, embedded
-        figure.savefig(content, format=ending[1:], dpi=WIDTH.get(wide, 100 * wide) / wide, metadata=plain)
+        figure.savefig(content, format=ending[1:], dpi=dots or WIDTH.get(wide, 100 * wide) / wide, metadata=plain)
     content = content.getvalue()
     if ending == '.svg':
         content = re.sub(r' d="[^"]*"', shorter, content.decode('utf-8')).encode('utf-8')

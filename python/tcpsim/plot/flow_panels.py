@@ -129,7 +129,7 @@ def top_of(axis: Axis) -> float:
 
 def window_key(picture: Picture) -> list[Artist]:
     """The key of all windows: what is in sight."""
-    def is_in_sight(view, axis):
+    def is_in_sight(view: FlowView, axis: Axis) -> bool:
         times, values = within(view.run.times, view.run.ssthresh, picture.until(view))
         return bool((values[times <= view.until] <= top_of(axis)).any())
     color, several = picture.key_color(), len(picture.flows) > 1

@@ -7,7 +7,9 @@ import numpy as np
 from matplotlib.axes import Axes
 from matplotlib.lines import Line2D
 from matplotlib.text import Annotation
+from matplotlib.transforms import Bbox
 
+Box = tuple[float, float, float, float]      # left, below, right, top, in pixels
 STEP = 3                # pixels from one point of a curve to the next that a label can cover
 FAR = 10_000            # pixels beyond which nothing is looked at
 MARK = 4                # half the width of a mark, in pixels
@@ -17,23 +19,23 @@ PLACES = ((5, -11), (5, 5), (-5, -11), (-5, 5), (0, 9), (0, -16), (9, 14), (9, -
           (0, -26), (16, 22), (-16, 24), (16, -32), (-16, -34))
 
 
-def place_labels(axes: Axes, labels: Sequence[Annotation], boxes: Iterable[Iterable[float]] = (),
+def place_labels(axes: Axes, labels: Sequence[Annotation], boxes: Iterable[Box] = (),
                  first: tuple[int, int] = PLACES[0]) -> None:
     """Moves `labels`, annotations of points, off each other, off the marks of all of them, off `boxes` (left, below,
     right, top, in pixels) and off curves and dots as far as can be. `first` is the place that is preferred, in points
     from the mark. The figure has been laid out."""
     renderer, places = axes.figure.canvas.get_renderer(), sorted(PLACES, key=lambda place: place != first)
-    marks = [tuple(axes.transData.transform(label.xy)) for label in labels]
+    marks = [(x, y) for x, y in (axes.transData.transform(label.xy) for label in labels)]
     taken = [(x - MARK, y - MARK, x + MARK, y + MARK) for x, y in marks] + list(boxes)
     points = drawn_points(axes)
 
-    def put(label, place):
+    def put(label: Annotation, place: tuple[int, int]) -> Box:
         label.set_position(place)
         label.set_horizontalalignment('left' if place[0] > 0 else 'right' if place[0] < 0 else 'center')
         box = label.get_window_extent(renderer)
         return box.x0, box.y0, box.x1, box.y1
 
-    def covers(box, mark):
+    def covers(box: Box, mark: tuple[float, float]) -> float:
         left, below, right, top = box
         strange = any(away(box, other) <= away(box, mark) for other in marks if other != mark)
         over = sum(left < its[2] and its[0] < right and below < its[3] and its[1] < top for its in taken)
@@ -63,7 +65,8 @@ def turn_timers(axes: Axes, labels: Sequence[Annotation], walls: Sequence[float]
 def leave_out(axes: Axes, last: Sequence[Annotation]) -> None:
     """Hides texts in a panel that cover one that was written before, or reach over the panel's upper or lower side. Those of
     `last` go first. All have their places."""
-    renderer, shown, panel = axes.figure.canvas.get_renderer(), [], axes.bbox
+    renderer, panel = axes.figure.canvas.get_renderer(), axes.bbox
+    shown: list[Bbox] = []
     for text in sorted(axes.texts, key=last.__contains__):
         box = text.get_window_extent(renderer)
         out = box.x0 < panel.x1 and (box.y0 < panel.y0 < box.y1 or box.y0 < panel.y1 < box.y1)
@@ -73,7 +76,7 @@ def leave_out(axes: Axes, last: Sequence[Annotation]) -> None:
             shown.append(box)
 
 
-def lead(axes: Axes, box: tuple[float, float, float, float], mark: tuple[float, float]) -> None:
+def lead(axes: Axes, box: Box, mark: tuple[float, float]) -> None:
     """A thin line from a mark to its label, where they are far from each other. It is the figure's and not the panel's, since
     its place is none of the data's."""
     left, below, right, top = box
@@ -83,7 +86,7 @@ def lead(axes: Axes, box: tuple[float, float, float, float], mark: tuple[float, 
         axes.figure.add_artist(Line2D((x, to_x), (y, to_y), transform=axes.transAxes, color='#444444', lw=.9, zorder=5))
 
 
-def away(box: tuple[float, float, float, float], mark: tuple[float, float]) -> float:
+def away(box: Box, mark: tuple[float, float]) -> float:
     """How far a point is from a box, squared, in pixels."""
     return sum(max(low - at, at - high, 0)**2 for low, high, at in zip(box[:2], box[2:], mark))
 

@@ -147,7 +147,7 @@ def covered(axes: Axes) -> np.ndarray:
 def best(places: Iterable[Iterable[float]], size: BboxBase, inside: BboxBase, taken: Iterable[Iterable[float]],
          points: np.ndarray) -> tuple[float, float]:
     """The place, in pixels, at which a text of this size covers least: of other texts, of what is drawn, of the rim."""
-    def covers(place):
+    def covers(place: tuple[tuple[float, float], float]) -> float:
         (x, y), away = place
         left, right = x - size.width / 2, x + size.width / 2
         low, high = y + away - size.height / 2, y + away + size.height / 2

@@ -92,7 +92,7 @@ def span_key(picture: Picture) -> list[Artist]:
     """The key's entries of what is shaded or drawn in any of the flows' panels."""
     drawn = {kind for view in picture.flows for kind, *_ in bands(picture, view)}
     longer = length_text(picture.longer)
-    labels = {'recovery': MARKS['recovery'], 'stall': f'no new ack for over {longer}', 'both': 'recovery, no new ack'}
+    labels = {'recovery': MARKS['recovery'], 'stall': MARKS['stall'].format(longer), 'both': 'recovery, no new ack'}
     key = [band_mark(kind, label) for kind, label in labels.items() if kind in drawn]
     if any(picture.sees(time) for view in picture.flows for time in view.run.timeouts):
         several = len(picture.flows) > MOST_IN_FULL

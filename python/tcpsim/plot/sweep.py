@@ -3,7 +3,7 @@ intervals, their distribution or boxes. Rows of panels are the first setting, co
 from __future__ import annotations
 
 import itertools
-from collections.abc import Sequence
+from collections.abc import Iterable, Sequence
 from typing import NamedTuple
 
 from matplotlib.axes import Axes
@@ -163,8 +163,8 @@ def draw(grid: Grid, rows: Sequence[dict], look: Look = Look()) -> Figure:
         figure.legend([handle for _, handle in entries], [text for text, _ in entries], loc='upper left', ncols=per_row, frameon=False,
                       fontsize=key_size, borderaxespad=0, borderpad=0, handlelength=1.5, handletextpad=.5, columnspacing=1, labelspacing=.25,
                       bbox_to_anchor=(.01, 1 - (len(head) + .35) * title_size * LINE / 72 / height)).set_in_layout(False)
-    figure.supxlabel(labels.below, fontsize=title_size)
-    figure.supylabel(labels.beside, fontsize=title_size)
+    figure.supxlabel(labels.below + logarithmic(axes.get_xscale() for axes in figure.axes), fontsize=title_size)
+    figure.supylabel(labels.beside + logarithmic(axes.get_yscale() for axes in figure.axes), fontsize=title_size)
     figure.draw_without_rendering()
     for axes, lines in zip(all_axes.flat, panels.values()):
         scale_ticks(axes)
@@ -174,6 +174,11 @@ def draw(grid: Grid, rows: Sequence[dict], look: Look = Look()) -> Figure:
             place_labels(axes, texts)
             leave_out(axes, [])
     return figure
+
+
+def logarithmic(scales: Iterable[str]) -> str:
+    """What an axis' label says of its scale."""
+    return ' (logarithmic)' if {'log', 'symlog'} & {*scales} else ''
 
 
 class Texts(NamedTuple):

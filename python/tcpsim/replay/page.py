@@ -13,6 +13,7 @@ import zlib
 from tcpsim import looks
 from tcpsim.replay.recording import Part
 from tcpsim.scenario.text import Scenario
+from tcpsim.stalls import LONGER
 
 HERE = os.path.dirname(os.path.realpath(__file__))
 PARTS = os.path.join(HERE, 'web')
@@ -54,7 +55,8 @@ def read_part(name: str) -> str:
 
 def scripts() -> str:
     """The scripts that show a run, in their order, with the words of pictures."""
-    told = {'flows': len(looks.FLOWS), 'links': len(looks.LINKS), 'drops': {reason: words for reason, (*_, words) in looks.DROPS.items()}, 'marks': looks.MARKS, 'panels': looks.PANELS}
+    told = {'flows': len(looks.FLOWS), 'links': len(looks.LINKS), 'drops': {reason: words for reason, (*_, words) in looks.DROPS.items()},
+            'marks': {**looks.MARKS, 'stall': looks.MARKS['stall'].format(f'{LONGER // 10**6} ms')}, 'panels': looks.PANELS}
     return '\n'.join(("'use strict';", f'const LOOKS = {for_script(told)};', *(read_part(os.path.join(PARTS, name)) for name in SCRIPTS)))
 
 

@@ -4,7 +4,7 @@ Each line is held against the scenario.
 from __future__ import annotations
 
 from collections import deque
-from collections.abc import Iterable
+from collections.abc import Container, Iterable
 
 from tcpsim.own_queues import dropped_by
 from tcpsim.scenario.text import Flow, Link, Scenario, Unreadable, WrongTrace
@@ -12,6 +12,7 @@ from tcpsim.scenario.units import BITS_NS, HEADER_BYTES, spelled_time
 from tcpsim.trace import ACK, DATA, first_window
 
 MOST_EVENTS = 200_000
+Key = tuple[int, int, int, int]     # of an event: its time, node, source and number
 IN_A_TRACE = b'abcdefghijklmnopqrstuvwxyz0123456789 =:'
 
 
@@ -20,14 +21,14 @@ IN_A_TRACE = b'abcdefghijklmnopqrstuvwxyz0123456789 =:'
 class LinkNow:
     """A link at a position: what waits, what is under way, and the counts of the dump."""
 
-    def __init__(self, number: int, link: Link, port: int, lost: set[int]):
+    def __init__(self, number: int, link: Link, port: int, lost: Container[int]):
         self.number, self.port, self.node, self.to = number, port, link.source, link.to
         self.rate, self.delay, self.capacity, self.lost = link.rate, link.delay, link.capacity, lost
         self.codel, self.own = link.queue == 'codel', False
         self.offered = self.sent = self.arrived = 0
-        self.free_at = None             # when it becomes free; None where it is idle
-        self.waiting = deque()          # (flow, DATA or ACK, number, entered, again)
-        self.under_way = deque()        # (flow, DATA or ACK, number, begun, arrives, again, entered)
+        self.free_at: int | None = None     # when it becomes free; None where it is idle
+        self.waiting: deque[tuple[int, int, int, int, bool]] = deque()              # (flow, DATA or ACK, number, entered, again)
+        self.under_way: deque[tuple[int, int, int, int, int, bool, int]] = deque()  # (flow, DATA or ACK, number, begun, arrives, again, entered)
 
     def kept(self) -> dict:
         """Its state as the page takes it."""
@@ -44,12 +45,13 @@ class FlowNow:
         self.una = self.nxt = self.high = self.dups = self.expected = 0
         self.recovering = self.answer_waits = False
         self.answer_due = 0             # when a waiting answer's alarm is
-        self.above = set()
-        self.words = self.next_word = None      # as they stood on the last line of each end
+        self.above: set[int] = set()
+        self.words: list[str] | None = None     # as they stood on the last line of each end
+        self.next_word: str | None = None
         self.cwnd, self.ssthresh = first_window(flow), flow.rwnd
         self.mss, self.size = flow.mss, flow.mss + HEADER_BYTES
         self.delack, self.start, self.newreno = flow.delack, flow.start, flow.newreno
-        self.since = None               # when it started, or when una last rose
+        self.since: int | None = None   # when it started, or when una last rose
 
     def kept(self) -> dict:
         """Its state as the page takes it."""
@@ -70,10 +72,10 @@ class Reader:
         for number in scenario.own:
             self.links[number].own = True
         self.kinds = [node.kind for node in scenario.nodes]
-        self.at_node = {}               # the flow that ends at a node
+        self.at_node: dict[int, int] = {}           # the flow that ends at a node
         for number, flow in enumerate(scenario.flows):
             self.at_node[flow.sender] = self.at_node[flow.receiver] = number
-        self.hops = {}
+        self.hops: dict[tuple[int, int, int], LinkNow] = {}     # of a node, a flow and a sort its next link
         for number, (there, back) in enumerate(scenario.ways):
             for sort, way in ((DATA, there), (ACK, back)):
                 for link in way:
@@ -118,7 +120,7 @@ class Reader:
         due += [flow.start for flow in self.flows if flow.words is None]
         return min(due, default=self.scenario.end)
 
-    def _free(self, words, link, key):
+    def _free(self, words: list[str], link: LinkNow, key: Key) -> None:
         time, node, source, number = key
         if link.free_at != time or link.node != node or source or number != 3 + link.port:
             raise ValueError('the link does not become free here')
@@ -136,7 +138,7 @@ class Reader:
         if self._take(link, words, at, time) != len(words):
             raise ValueError('an act that no packet explains')
 
-    def _arrival(self, words, link, name, sort, key):
+    def _arrival(self, words: list[str], link: LinkNow, name: int, sort: int, key: Key) -> None:
         no = int(words[7])
         link.arrived += 1
         flow, kind, number, _, arrives, again, _ = link.under_way.popleft()
@@ -153,7 +155,7 @@ class Reader:
         else:
             self._receiver(words, name, no, 8, time)
 
-    def _sender(self, words, name, kind, ack, at, time):
+    def _sender(self, words: list[str], name: int, kind: str, ack: int | None, at: int, time: int) -> None:
         flow = self.flows[name]
         state = words[at:at + 5]
         una_word, nxt_word, cwnd_word, ssthresh_word, phase = state
@@ -166,24 +168,24 @@ class Reader:
         before, mss = flow.nxt, flow.mss
         if not recovering and (phase == 'phase=ss') != (flow.cwnd < flow.ssthresh):
             raise ValueError('the phase is not that of cwnd and ssthresh')
-        if una != (max(flow.una, ack) if kind == 'ack' else flow.una):
+        if una != (flow.una if ack is None else max(flow.una, ack)):
             raise ValueError('una does not follow from the line before')
         at += 5
         link = self.hops[self.ends[name][0], name, DATA]
         if kind == 'rto':
             flow.dups = 0
             at = self._offer(link, (name, DATA, una), True, words, at, time)
-        elif kind == 'ack' and ack <= flow.una and recovering and not flow.recovering:
+        elif ack is not None and ack <= flow.una and recovering and not flow.recovering:
             flow.dups += 1
             at = self._offer(link, (name, DATA, una), True, words, at, time)
-        elif kind == 'ack' and ack > flow.una and recovering and flow.recovering:     # a partial acknowledgement
+        elif ack is not None and ack > flow.una and recovering and flow.recovering:     # a partial acknowledgement
             if not flow.newreno or nxt not in (before, before + mss):
                 raise ValueError('a recovery goes on as that of no NewReno sender')
             at = self._offer(link, (name, DATA, una), True, words, at, time)
             if nxt > before:
                 at = self._offer(link, (name, DATA, before), False, words, at, time)
         else:
-            if kind == 'ack':
+            if ack is not None:
                 if ack > flow.una:
                     flow.dups = 0
                 elif ack == flow.una and flow.una < before:
@@ -201,7 +203,7 @@ class Reader:
         if nxt > flow.high:
             flow.high = nxt
 
-    def _receiver(self, words, name, seq, at, time):
+    def _receiver(self, words: list[str], name: int, seq: int | None, at: int, time: int) -> None:
         flow = self.flows[name]
         word = words[at]
         if word[:5] != 'next=':
@@ -225,7 +227,7 @@ class Reader:
         if at != len(words):
             raise ValueError('an act that no packet explains')
 
-    def _offer(self, link, packet, again, words, at, time):
+    def _offer(self, link: LinkNow, packet: tuple[int, int, int], again: bool, words: list[str], at: int, time: int) -> int:
         link.offered += 1
         if link.own and link.offered not in link.lost:
             return self._offer_own(link, packet, again, words, at, time)
@@ -237,7 +239,7 @@ class Reader:
         link.waiting.append((*packet, time, again))
         return self._take(link, words, at, time) if link.free_at is None else at
 
-    def _offer_own(self, link, packet, again, words, at, time):
+    def _offer_own(self, link: LinkNow, packet: tuple[int, int, int], again: bool, words: list[str], at: int, time: int) -> int:
         """To a class of Python's, which drops what comes, or what is at the queue's head."""
         found = dropped_by(words[at]) if at < len(words) else None
         if found and found[1] == f'{packet[0]}:{packet[2]}':
@@ -246,7 +248,7 @@ class Reader:
         at = self._drop_heads(link, words, at)
         return self._take(link, words, at, time) if link.free_at is None and link.waiting else at
 
-    def _drop_heads(self, link, words, at):
+    def _drop_heads(self, link: LinkNow, words: list[str], at: int) -> int:
         """What a class of Python's drops at its head."""
         while at < len(words) and (found := dropped_by(words[at])):
             names = [f'{flow}:{number}' for flow, _, number, _, _ in link.waiting]
@@ -258,11 +260,11 @@ class Reader:
             at += 1
         return at
 
-    def _unordered(self, link):
+    def _unordered(self, link: LinkNow) -> str:
         return (f'a page shows queues whose packets leave in the order in which they came, and that of link '
                 f'{self.scenario.links[link.number].name} has another order')
 
-    def _take(self, link, words, at, time):
+    def _take(self, link: LinkNow, words: list[str], at: int, time: int) -> int:
         """Takes from the queue as the line's acts say; answers the first act that is not used."""
         waiting = link.waiting
         if link.own:
@@ -292,10 +294,12 @@ class Part:
     """The lines from one moment up to another, and the state before the first of them."""
 
     def __init__(self, scenario: Scenario, lines: Iterable[str], begin: int = 0, end: int | None = None):
-        self.lines, self.first, self.base = [], 0, None
+        self.lines: list[str] = []
+        self.first = 0
+        self.base: dict[str, object] | None = None
         self.begin, self.whole = begin, False
         reader = Reader(scenario)
-        words, number = [], 0
+        words, number = [''], 0
         try:
             for number, line in enumerate(lines, 1):
                 words = line.split(' ')
@@ -317,7 +321,7 @@ class Part:
         if not self.lines:
             raise Unreadable('there is no event between --from and --to')
 
-    def _add(self, line, number):
+    def _add(self, line: str, number: int) -> None:
         wrong = line.encode('ascii').translate(None, IN_A_TRACE)
         if wrong:
             raise WrongTrace(f'line {number} is no line of a trace: it has the byte {wrong[0]}')
@@ -325,7 +329,7 @@ class Part:
         if len(self.lines) > MOST_EVENTS:
             raise Unreadable(self._too_many())
 
-    def _end(self, line, number, reader):
+    def _end(self, line: str, number: int, reader: Reader) -> None:
         if line != f'end {reader.count}':
             raise WrongTrace(f'line {number} does not end this trace: `{line[:40]}` after {reader.count:,} events')
         if reader.next_due() < reader.scenario.end:
@@ -333,17 +337,17 @@ class Part:
         self.whole = True
 
     @staticmethod
-    def _says(wrong, words, number):
+    def _says(wrong: Exception, words: list[str], number: int) -> str:
         told = isinstance(wrong, ValueError) and 'int()' not in str(wrong) and 'unpack' not in str(wrong)
         return (f'line {number} is no line of this scenario\'s trace '
                 f'({wrong if told else "its words do not fit"}): {" ".join(words)[:120]}')
 
-    def _keep(self, reader):
+    def _keep(self, reader: Reader) -> None:
         self.first = reader.count
         self.base = {'time': max(reader.key[0], 0), 'links': [link.kept() for link in reader.links],
                      'flows': [flow.kept() for flow in reader.flows]}
 
-    def _too_many(self):
+    def _too_many(self) -> str:
         until = int(self.lines[MOST_EVENTS].split(' ', 2)[1])
         return (f'there are more than {MOST_EVENTS:,} events; those that fit: '
                 f'--from {spelled_time(self.begin)} --to {spelled_time(until)}, and then --from {spelled_time(until)}')

@@ -65,8 +65,11 @@ class Net:
     """Nodes that links join, flows between them, and routes of fewest hops. What gets no name is called by
     its number: n0, l0, f0."""
 
-    def __init__(self):
-        self.nodes, self.links, self.flows, self.around = [], [], [], []
+    def __init__(self) -> None:
+        self.nodes: list[Node] = []
+        self.links: list[Link] = []
+        self.flows: list[Flow] = []
+        self.around: list[list[int]] = []       # of each node the links that begin there
 
     def node(self, kind: str, name: str | None = None) -> int:
         """A node more; answers its number."""
@@ -98,16 +101,17 @@ class Net:
                                delack, note))
         return len(self.flows) - 1
 
-    def next_links(self, goal: int) -> dict[int, int | None]:
-        """For each node the first link of a way of fewest hops to `goal` through routers."""
-        into = [[] for _ in self.nodes]
+    def next_links(self, goal: int) -> dict[int, int]:
+        """For each other node the first link of a way of fewest hops to `goal` through routers."""
+        into: list[list[int]] = [[] for _ in self.nodes]
         for number, link in enumerate(self.links):
             into[link.to].append(number)
-        found, queue = {goal: None}, deque([goal])
+        found: dict[int, int] = {}
+        queue = deque([goal])
         while queue:
             for number in into[queue.popleft()]:
                 source = self.links[number].source
-                if source not in found:
+                if source != goal and source not in found:
                     found[source] = number
                     if self.nodes[source].kind == ROUTER:
                         queue.append(source)
@@ -168,7 +172,7 @@ class Net:
         lines += [f'lose {link.name} {number}' for link in self.links for number in link.lose]
         return ''.join(line + '\n' for line in lines)
 
-    def _greatest_packet(self):
+    def _greatest_packet(self) -> int:
         return max(flow.mss for flow in self.flows) + HEADER_BYTES
 
     def ways(self) -> list[tuple[list[int], list[int]]]:
@@ -180,7 +184,7 @@ class Net:
         queue = self.links[link].queue
         return self._products()[link] if queue.is_product else queue.capacity
 
-    def _products(self):
+    def _products(self) -> dict[int, int]:
         """The bandwidth-delay product of each link whose queue asks for it."""
         wanted = [number for number, link in enumerate(self.links) if link.queue.is_product]
         if not wanted:

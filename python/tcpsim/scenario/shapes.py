@@ -39,7 +39,7 @@ def halves(round_trip: int, parts: Sequence[int]) -> tuple[int, int]:
     return delays
 
 
-def add_flow(net: Net, given: argparse.Namespace, n: int, routers: tuple[str, str],
+def add_flow(net: Net, given: argparse.Namespace, n: int, routers: tuple[int, int],
              delays: tuple[tuple[int, int], int], note: str) -> None:
     """Flow fn, the n-th from 0, with a sender at the first of two routers and a receiver at the other. `delays` are the
     sender's, there and back, and the receiver's."""
@@ -101,7 +101,7 @@ def flows(count: int) -> str:
     return many(count, 'flow')
 
 
-def row_of_routers(net: Net, given: argparse.Namespace) -> list[str]:
+def row_of_routers(net: Net, given: argparse.Namespace) -> list[int]:
     """Routers p0, p1 and so on, with a cable at each hop."""
     routers = [net.node(ROUTER, f'p{n}') for n in range(given.hops + 1)]
     for n, (a, b) in enumerate(zip(routers, routers[1:])):
@@ -121,7 +121,7 @@ def parking_lot(net: Net, given: argparse.Namespace) -> Sequence[str]:
     add_flow(net, given, 0, (routers[0], routers[-1]), delays, 'over every hop')
     for n in range(given.hops * given.cross):
         hop = n // given.cross
-        add_flow(net, given, n + 1, routers[hop:hop + 2], delays, f'over hop {hop + 1}')
+        add_flow(net, given, n + 1, (routers[hop], routers[hop + 1]), delays, f'over hop {hop + 1}')
     return (f'A parking lot: flow f0 goes over {given.hops} hops, and at each it meets {flows(given.cross)} that '
             f'{"goes" if given.cross == 1 else "go"} over that hop alone.',)
 
@@ -164,12 +164,12 @@ def tree(net: Net, given: argparse.Namespace) -> Sequence[str]:
     count = given.leaves if given.flows is None else given.flows
     not_longer(given, count, 'flows', 'rtt', *OF_FLOWS)
     long, count = count, count + given.mice
-    tops = net.node(ROUTER, 'p'), net.node(ROUTER, 'q')
+    p, q = net.node(ROUTER, 'p'), net.node(ROUTER, 'q')
     leaves = [[net.node(ROUTER, f'{side}{n + 1}') for n in range(given.leaves)] for side in 'pq']
     middle, branch = share_of(given.rtt, 4), share_of(given.rtt, 16)
-    net.link(*tops, given.rate, middle, given.queue, 'pq', bottleneck(given.rate, middle, given.queue))
-    net.link(*reversed(tops), given.rate, middle, given.back_queue, 'qp', 'the way back of acknowledgements')
-    for top, below in zip(tops, leaves):
+    net.link(p, q, given.rate, middle, given.queue, 'pq', bottleneck(given.rate, middle, given.queue))
+    net.link(q, p, given.rate, middle, given.back_queue, 'qp', 'the way back of acknowledgements')
+    for top, below in zip((p, q), leaves):
         for leaf in below:
             net.joined(leaf, top, given.access, (branch,) * 2, given.access_queue)
     for n in range(count):

@@ -38,7 +38,7 @@ WITHIN = 'tcpsim', 'argparse', 'contextlib'     # modules that read a word, and 
 
 # ---- numbers
 
-def _amount(word, units, what, example):
+def _amount(word: str, units: dict[str, int], what: str, example: str) -> int:
     found = WORD.fullmatch(word)
     if not found or found[3] not in units:
         raise Wrong(f'{word!r} is no {what}: write a number and a unit, as {example}')
@@ -99,7 +99,7 @@ def number(name: str, word: str) -> int:
 
 # ---- as words again
 
-def _spelled(value, units):
+def _spelled(value: int, units: dict[str, int]) -> str:
     unit, scale = max(((unit, scale) for unit, scale in units.items() if scale <= max(value, 1)),
                       key=lambda entry: entry[1])
     whole, rest = divmod(value, scale)
@@ -128,7 +128,7 @@ SPELLED = {name: {rate: spelled_rate, time: spelled_time}.get(reader, '{:,}'.for
 class Products(namedtuple('Products', 'times root')):
     """A queue's capacity as so many bandwidth-delay products of its link, or by the root of how many flows send over it."""
 
-    def __str__(self):
+    def __str__(self) -> str:
         times = str(int(self.times)) if self.times.denominator == 1 else f'{float(self.times):g}'
         return f'{times * (self.times != 1)}BDP{"/sqrt(n)" * self.root}'
 
@@ -146,7 +146,7 @@ class Queue(namedtuple('Queue', 'kind capacity target interval maxpacket', defau
         """Whether its capacity depends on the link and its flows."""
         return isinstance(self.capacity, Products)
 
-    def __str__(self):
+    def __str__(self) -> str:
         if self.kind == 'droptail':
             return f'droptail:{self.capacity}'
         times = f'codel:{spelled_time(self.target)}:{spelled_time(self.interval)}'
@@ -179,7 +179,7 @@ def queue(word: str, default_kind: str | None = None) -> Queue:
     raise Wrong(f'{word!r} is no queue: write droptail:N, droptail:BDP or codel:TARGET:INTERVAL[:LIMIT[:MAXPACKET]]')
 
 
-def _limit(word, packets):
+def _limit(word: str, packets: str) -> int:
     if not re.fullmatch('[0-9]{1,20}', packets):
         raise Wrong(f'{word!r} is no queue: {packets!r} is no number of packets')
     return int(packets)
@@ -202,7 +202,7 @@ def queue_in_range(word: str) -> Queue:
 def queues(words: str) -> list[Queue]:
     """The queues of a list; where a kind is left out, it is that of the queue before:
     droptail:10,50,codel:5ms:100ms has three."""
-    read = []
+    read: list[Queue] = []
     for word in words.split(','):
         read.append(queue(word, read[-1].kind if read else None))
     warn_of_order(read)

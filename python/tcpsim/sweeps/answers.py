@@ -9,7 +9,7 @@ from tcpsim.output import aligned
 from tcpsim.scenario.units import Products
 from tcpsim.sweeps.pattern import packets_of
 from tcpsim.sweeps.search import GREATEST, Quest, Search
-from tcpsim.sweeps.shown import columns, fixed_and_varied, mean_in_words, too_short
+from tcpsim.sweeps.shown import SETTLED, columns, fixed_and_varied, mean_in_words, settled, too_short
 
 RULES = 'BDP', 'BDP/sqrt(n)'
 STRETCHES = 6           # that a sentence names at most
@@ -43,7 +43,8 @@ def records(search: Search) -> list[dict[str, object]]:
     found = []
     for choice, quest in enumerate(search.quests):
         for place in shown_places(quest):
-            row = {**quest.tried[place].row(), 'is': state(quest, place)}
+            number = search.numbers(choice, place)[0]
+            row: dict[str, object] = {**quest.tried[place].row(), 'is': state(quest, place), SETTLED: settled(search.looked, number)}
             found.append({**row, **(dict(zip(rule_titles(search), rules_of(search, choice))) if place == quest.answer else {})})
     return found
 
@@ -56,7 +57,7 @@ def rule_titles(search: Search) -> list[str]:
 def titles(search: Search) -> list[str]:
     """The columns of `records`."""
     cells = [f'{name}_{part}' for name in search.grid.figures() for part in ('mean', 'half_width', 'runs')]
-    return [*search.grid.value_titles(search.grid.chosen), 'is', *cells, *rule_titles(search), 'from_ns']
+    return [*search.grid.value_titles(search.grid.chosen), 'is', *cells, *rule_titles(search), SETTLED, 'from_ns']
 
 
 def answer_table(search: Search) -> list[str]:
@@ -72,13 +73,13 @@ def answer_table(search: Search) -> list[str]:
             lines.append([*(means.values[key] for key in keys), search.label(place), *(
                 mean_in_words(means.means[name], grid.replicates, scale, digits[bool(grid.over)])
                 for name, _, scale, *digits in columns(grid)), asked.which if place == quest.answer else state(quest, place), *(
-                map(str, rules_of(search, choice) if place == quest.answer else [''] * len(rules)))])
+                map(str, rules_of(search, choice)) if place == quest.answer else [''] * len(rules))])
     over = ', '.join(f'{each.key}={each.label(each.values[0])}..{each.label(each.values[-1])}' for each in grid.over)
     head = [*fixed, f'{search.varied.key} of {search.label(0)} to {search.label(search.count - 1)}: {asked}',
             *([f'means over {over}, whose 95 % interval meets it' if asked.conditions else f'means over {over}'] if over else [])]
     answered = [search.numbers(choice, quest.answer)[0] for choice, quest in enumerate(search.quests) if quest.answer is not None]
     tried = sum(len(quest.tried) for quest in search.quests) * grid.replicates
-    return [', '.join(head), *(map(str.rstrip, aligned(lines)) if lines[1:] else []), *said(search), *too_short(grid, answered),
+    return [', '.join(head), *(map(str.rstrip, aligned(lines)) if lines[1:] else []), *said(search), *too_short(grid, answered, search.looked),
             f'{tried:,} runs; to try every value would take {len(grid.points):,}.']
 
 

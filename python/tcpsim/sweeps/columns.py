@@ -41,6 +41,12 @@ class Quantity(NamedTuple):
     since: int = 1
     path: Callable[[Breakdown], Count] | None = None
 
+    def of(self, run: EngineRun | Figures, number: int) -> Count:
+        """Its value of a flow or link of a run; None where it is of none such."""
+        if isinstance(run, Figures):
+            return None if self.trace is None else self.trace(run, number)
+        return None if self.table is None else self.table(run, number)
+
 
 def percent(of: Count) -> Count:
     """A part in a hundred."""
@@ -128,6 +134,7 @@ FLOW = {
     'loss': Quantity('percent', None, lambda run, n: percent(part(data_lost(run, n), run.flows[n].sent()))),
     'share': Quantity('percent', None, lambda run, n: percent(share_of(run, n))),
 }
+SENT = ('sent packets', 'packets'), ('sent', 'packets')      # a link's, in the table of either format
 LINK = {
     'used': Quantity('percent', lambda run, n: percent(run.over_span(n, BUSY)),
                    lambda run, n: percent(run.links[n].sending(run.end) / (run.end - run.begin))),
@@ -139,17 +146,16 @@ LINK = {
     'queue_mean': Quantity('mean_packets', lambda run, n: run.over_span(n, WAITED),
                          lambda run, n: run.links[n].mean_queue(run.begin, run.end)),
     'queue_max': Quantity('packets', of_link(('greatest queue', 'packets')), lambda run, n: run.links[n].greatest),
-    'sent': Quantity('packets', of_link(('sent packets', 'packets'), ('sent', 'packets')), lambda run, n: run.links[n].sent(), sum),
+    'sent': Quantity('packets', of_link(*SENT), lambda run, n: run.links[n].sent(), sum),
     'bytes': Quantity('bytes', of_link(('sent bytes', 'bytes'), ('sent', 'bytes')),
                     lambda run, n: sum(count * stream.size for stream, count in run.links[n].count.items()), sum),
     'dropped': Quantity('packets', lambda run, n: run.dropped(n), lambda run, n: run.links[n].drops, sum),
     'lost': Quantity('packets', of_link(('dropped as lost', 'packets')), dropped_for('lost'), sum),
     'full': Quantity('packets', of_link(('dropped as full', 'packets')), dropped_for('full'), sum),
     'codel': Quantity('packets', of_link(('dropped by CoDel', 'packets')), dropped_for('codel'), sum),
-    'loss': Quantity('percent', lambda run, n: percent(part(run.dropped(n), run.dropped(n) + FIGURE_SENT(run, n))),
+    'loss': Quantity('percent', lambda run, n: percent(part(run.dropped(n), run.dropped(n) + int(first_of(run.links[n], SENT) or 0))),
                    lambda run, n: percent(part(run.links[n].drops, run.links[n].drops + run.links[n].sent()))),
 }
-FIGURE_SENT = LINK['sent'].table
 
 
 @functools.lru_cache(maxsize=1)
@@ -160,13 +166,13 @@ def compared_of(run: EngineRun | Figures) -> Compared:
 
 def timeouts(run: EngineRun | Figures, of_mice: bool) -> int:
     """The timeouts of all mice, or of all other flows."""
-    read, mice = FLOW['timeouts'].trace if isinstance(run, Figures) else FLOW['timeouts'].table, compared_of(run).mice
-    return sum(read(run, number) for number in range(len(run.flows)) if (number in mice) == of_mice)
+    mice = compared_of(run).mice
+    return sum(int(FLOW['timeouts'].of(run, number) or 0) for number in range(len(run.flows)) if (number in mice) == of_mice)
 
 
 def jain_of(run: EngineRun | Figures) -> Count:
     """Jain's index of the flows that are compared."""
-    return jain([run.goodput(number) for number in compared_of(run).flows])
+    return jain([run.goodput(number) or 0 for number in compared_of(run).flows])
 
 
 def table_loss(run: EngineRun, _number: int) -> Count:
@@ -218,16 +224,16 @@ class ShownFigure(NamedTuple):
 
     def path_value(self, found: dict[str, Breakdown]) -> Count:
         """Its value, of where the time of each flow went, by the flows' names."""
-        return self.figure.path(found[self.names[0]]) if self.names[0] in found else None
+        path = self.figure.path
+        return path(found[self.names[0]]) if path and self.names[0] in found else None
 
     def value(self, run: EngineRun | Figures, scenario: Scenario) -> Count:
         """Its value in a run."""
-        read = self.figure.trace if isinstance(run, Figures) else self.figure.table
         if self.sort == 'run':
-            return read(run, 0)
-        there = [each.name for each in (scenario.flows if self.sort == 'flow' else scenario.links)]
+            return self.figure.of(run, 0)
+        there = [flow.name for flow in scenario.flows] if self.sort == 'flow' else [link.name for link in scenario.links]
         names = [name for name in self.names if name in there or not self.name.startswith('*')]
-        values = [read(run, there.index(name)) if name in there else None for name in names]
+        values = [self.figure.of(run, there.index(name)) if name in there else None for name in names]
         return None if None in values else self.figure.joins(values) if self.figure.joins else values[0]
 
 
@@ -260,7 +266,7 @@ def named(word: str, pattern: Pattern, option: str) -> Iterator[ShownFigure]:
         yield from (ShownFigure(f'{name}.{figure}', sort, (name,)) for sort, name in there)
         return
     names = tuple(of.split('+'))
-    sorts = {pattern.sorts.get(name) or ('run' if name == 'run' else None) for name in names}
+    sorts = {pattern.sorts.get(name) or ('run' if name == 'run' else '') for name in names}
     if not pattern.sorts:
         raise Wrong('this is no scenario: it has no flow and no link')
     for name in names:

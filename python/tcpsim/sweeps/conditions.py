@@ -34,7 +34,7 @@ class Condition(NamedTuple):
 
     def holds(self, mean: Mean, replicates: int) -> bool:
         """Whether it holds of a mean, to both ends of its interval. A replicate that lacks the figure does not meet it."""
-        if mean.runs < replicates:
+        if mean.runs < replicates or mean.mean is None:
             return False
         half = mean.half_width or 0
         return SIGNS[self.sign](mean.mean - half if self.sign[0] == '>' else mean.mean + half, self.value)
@@ -42,7 +42,10 @@ class Condition(NamedTuple):
 
 def percent(word: str) -> float:
     """A percentage: 95%, or as a part of 1, 0.95."""
-    number = decimal(word.removesuffix('%'))
+    try:
+        number = decimal(word.removesuffix('%'))
+    except Wrong as wrong:
+        raise Wrong(f'{wrong} of percent: write 95% or 0.95') from None
     if not word.endswith('%') and number > 1:
         raise Wrong(f'{word!r} is no part of 1: write {word if number <= 100 else 95}% or 0.95')
     return number if word.endswith('%') else 100 * number
@@ -55,6 +58,8 @@ def decimal(word: str) -> float:
     return float(word)
 
 
+# What a figure without a unit of its own counts.
+COUNTED = {'mean_packets': 'packets', 'index': 'parts of 1'}
 READERS = {'percent': percent, 'ns': units.time, 'bit_s': units.rate, 'bytes': units.size}
 
 
@@ -71,7 +76,10 @@ def conditions_of(words: Sequence[str], pattern: Pattern) -> list[Condition]:
             try:
                 found.append(Condition(column, sign, READERS.get(column.figure.unit, decimal)(value), value))
             except Wrong as wrong:
-                raise Wrong(f'--so-that {each.strip()!r}: {wrong}') from None
+                sentence = str(wrong)
+                if column.figure.unit not in READERS:
+                    sentence = f'{wrong}: {column.name} is in {COUNTED.get(column.figure.unit, column.figure.unit)}, so write one without a unit, as 3'
+                raise Wrong(f'--so-that {each.strip()!r}: {sentence}') from None
     return found
 
 

@@ -17,7 +17,7 @@ import re
 import secrets
 import stat
 import time
-from collections.abc import Iterable
+from collections.abc import Collection, Iterable, Mapping
 
 from tcpsim import output
 from tcpsim.command_line import ENDS, Wrong
@@ -92,7 +92,7 @@ def fault_of(row: dict, grid: Grid, titles: Iterable[str]) -> str:
     return ''
 
 
-def difference(row: dict[str, str], begin: dict[str, object]) -> str:
+def difference(row: Mapping[str, str], begin: Mapping[str, object]) -> str:
     """How a row's question is another one than that of a run whose row begins so; empty where it is the same."""
     name = next((name for name in QUESTION if row[name] != str(begin[name])), None)
     return f'{QUESTION[name]}, {name} {row[name][:80]!r} and not {str(begin[name])!r}' if name else ''
@@ -105,8 +105,10 @@ class Journal:
     of these runs. A folder into which nothing can be written has no journal."""
 
     def __init__(self, path: str, columns: list[str]):
-        self._name, self._place, self._columns, self._begin, self._number = path, os.path.realpath(path), columns, '', None
-        self.ended, self._taken = [], []
+        self._name, self._place, self._columns, self._begin = path, os.path.realpath(path), columns, ''
+        self._number: int | None = None
+        self.ended: list[str] = []
+        self._taken: list[str] = []
         try:
             for _ in range(TRIES):
                 self._make()
@@ -121,30 +123,31 @@ class Journal:
             self.close(False)
             raise
 
-    def _make(self):
+    def _make(self) -> None:
         self._path, self._size, self._rows = f'{self._place}.{secrets.token_hex(8)}.part', 0, 0
         with output.held_back(ENDS), contextlib.suppress(OSError):
             self._number = os.open(self._path, os.O_WRONLY | os.O_CREAT | os.O_EXCL | os.O_NOFOLLOW | output.FLAGS, 0o666)
             fcntl.lockf(self._number, fcntl.LOCK_EX | fcntl.LOCK_NB)    # a disk of several machines may have no locks
         if self._number is not None:
-            self._write(FIRST_LINE)
+            self._write(self._number, FIRST_LINE)
 
     def take(self, rows: Iterable[dict]) -> None:
         """Takes the rows that are there, of the ended journals too; they are written with the first that is new."""
         self._begin, self._taken = csv_text(list(rows), self._columns), self.ended
 
-    def add(self, row: dict[str, str]) -> None:
-        """Writes a row, at once and whole."""
+    def add(self, rows: Collection[dict[str, str]]) -> None:
+        """Writes rows, at once and whole."""
         if self._number is not None:
-            self._write((self._begin or csv_text([], self._columns) * (not self._rows)) + csv_line(row, self._columns))
-            self._begin, self._rows = '', self._rows + 1
+            lines = [csv_line(row, self._columns) for row in rows]
+            self._write(self._number, (self._begin or csv_text([], self._columns) * (not self._rows)) + ''.join(lines))
+            self._begin, self._rows = '', self._rows + len(rows)
 
-    def _write(self, text):
+    def _write(self, number: int, text: str) -> None:
         """Writes all of a text, or nothing."""
         contents = text.encode('utf-8', 'surrogateescape')
         with output.named(self._name):
-            if os.write(self._number, contents) < len(contents):
-                os.ftruncate(self._number, self._size)
+            if os.write(number, contents) < len(contents):
+                os.ftruncate(number, self._size)
                 raise OSError(errno.ENOSPC, os.strerror(errno.ENOSPC))
         self._size += len(contents)
 
@@ -212,7 +215,7 @@ def rows_there(path: str, ended: Iterable[str], grid: Grid) -> dict[int, dict]:
             if fault := fault_of(row, grid, grid.columns()):
                 raise Wrong(f'--resume {path}: a row of {each} {fault}: mend it, or take it out')
             begin = grid.row(number, {})
-            if fault := difference(row, begin) or not begin.items() <= row.items() and 'with other numbers':
+            if fault := difference(row, begin) or ('' if begin.items() <= row.items() else 'with other numbers'):
                 raise Wrong(f'--resume {path}: {each} has runs {fault}: give the words that it was made by, or another file')
             if is_answered(row):
                 found[number] = row

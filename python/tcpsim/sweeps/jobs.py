@@ -19,7 +19,7 @@ import sys
 import tempfile
 import time
 from collections.abc import Callable, Iterable, Iterator, Sequence
-from typing import BinaryIO
+from typing import IO
 
 from tcpsim import output
 from tcpsim.command_line import MODEL, Refused, Wrong
@@ -28,7 +28,7 @@ from tcpsim.prompt import ends_with_parent
 from tcpsim.scenario.text import Unreadable
 from tcpsim.scenario.units import spelled_time
 from tcpsim.sweeps.files import difference, fault_of, is_answered, plain_text, read_csv
-from tcpsim.sweeps.pool import Runner
+from tcpsim.sweeps.pool import Ran, Runner
 from tcpsim.sweeps.rows import QUESTION, Grid
 from tcpsim.whole_trace import inputs_of
 
@@ -66,7 +66,7 @@ def call_of_this() -> list[str]:
     script = os.path.abspath(sys.argv[0])
     if os.path.basename(script) != COMMAND:
         places = [os.path.join(TOP, 'bin', COMMAND), *beside(COMMAND), os.path.join(os.path.dirname(sys.executable), COMMAND)]
-        script = next(filter(is_program, places), None) or shutil.which(COMMAND)
+        script = next(filter(is_program, places), '') or shutil.which(COMMAND) or ''
     if not script:
         raise Refused(f'the command {COMMAND} is not there, which jobs call')
     return [script] if os.access(script, os.X_OK) else [sys.executable, script]
@@ -210,31 +210,32 @@ def why_none(folder: str, grid: Grid, number: int, says: str = '') -> dict[str, 
 
 def gathered(folder: str) -> Runner:
     """What gives the rows of a folder's jobs, as they are; a job that has not run has a row that says so."""
-    def rows(grid: Grid, numbers: Sequence[int]) -> Iterator[tuple[int, dict]]:
-        for number in numbers:
-            yield number, row_in(folder, grid, number) or why_none(folder, grid, number)
+    def rows(grid: Grid, numbers: Sequence[int]) -> Iterator[Ran]:
+        yield [(number, row_in(folder, grid, number) or why_none(folder, grid, number)) for number in numbers]
     return rows
 
 
 # ---- engines that run a folder
 
 def come(grid: Grid, numbers: Sequence[int], folder: str, goes_on: Callable[[], bool],
-         says: Callable[[int], str] = lambda _: '') -> Iterator[tuple[int, dict]]:
+         says: Callable[[int], str] = lambda _: '') -> Iterator[Ran]:
     """The rows of a folder as they come, while its engine goes on, and then those of jobs that have none. `says` is what the
     engine says of a job, by its place among the numbers."""
     waiting, on = {grid.name(number) + '.csv': place for place, number in enumerate(numbers)}, True
     while waiting and on:
-        on = goes_on()
+        on, ran = goes_on(), []
         for name in sorted(waiting.keys() & set(os.listdir(folder))):
             number = numbers[waiting[name]]
             row = row_in(folder, grid, number)
             if row is not None:
                 del waiting[name]
-                yield number, row
+                ran.append((number, row))
+        if ran:
+            yield ran
         if waiting and on:
             time.sleep(LOOK)
     for place in waiting.values():
-        yield numbers[place], why_none(folder, grid, numbers[place], says(place))
+        yield [(numbers[place], why_none(folder, grid, numbers[place], says(place)))]
 
 
 @contextlib.contextmanager
@@ -243,11 +244,13 @@ def job_folder(named: str | None) -> Iterator[str]:
     if named:
         yield os.path.abspath(named)
         return
-    folder = tempfile.mkdtemp(prefix='tcpsim-sweep-', dir='.')
+    folder = os.path.abspath(tempfile.mkdtemp(prefix='tcpsim-sweep-', dir='.'))
     try:
-        yield os.path.abspath(folder)
+        yield folder
     finally:
-        shutil.rmtree(folder, ignore_errors=True)
+        until = time.monotonic() + PATIENCE
+        while os.path.exists(folder) and time.monotonic() < until:      # a job that is ended may write until it is
+            shutil.rmtree(folder, ignore_errors=True)
 
 
 def answer_of(words: list[str], package: str, patience: int = PATIENCE) -> str:
@@ -267,7 +270,7 @@ def answer_of(words: list[str], package: str, patience: int = PATIENCE) -> str:
 
 def by_slurm(given: argparse.Namespace) -> Runner:
     """Runs points as a job array of Slurm's, of at most as many tasks as are named."""
-    def rows(grid: Grid, numbers: Sequence[int]) -> Iterator[tuple[int, dict]]:
+    def rows(grid: Grid, numbers: Sequence[int]) -> Iterator[Ran]:
         answer_of(['scontrol', 'ping'], 'slurm-client')
         with job_folder(given.folder) as place:
             jobs = write_jobs(grid, numbers, given, place)
@@ -323,7 +326,7 @@ def state_of(number: str, task: int) -> str:
 
 def by_parallel(given: argparse.Namespace, jobs: int, hosts: str | None) -> Runner:
     """Runs points by GNU parallel, so many side by side on each machine: this one, or those of an --sshlogin."""
-    def rows(grid: Grid, numbers: Sequence[int]) -> Iterator[tuple[int, dict]]:
+    def rows(grid: Grid, numbers: Sequence[int]) -> Iterator[Ran]:
         logins = ['--sshlogin', hosts] if hosts else []
         compare_versions(grid, hosts)
         with job_folder(given.folder) as place, tempfile.TemporaryFile() as said:
@@ -338,7 +341,7 @@ def by_parallel(given: argparse.Namespace, jobs: int, hosts: str | None) -> Runn
     return rows
 
 
-def last_said(said: BinaryIO, process: subprocess.Popen) -> str:
+def last_said(said: IO[bytes], process: subprocess.Popen) -> str:
     """What GNU parallel says of jobs that have no row: its last line, and its status."""
     said.seek(0)
     last = said.read().decode(errors='replace').strip().split('\n')[-1]

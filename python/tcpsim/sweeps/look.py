@@ -41,13 +41,14 @@ def look_of(x: str | None, log: str | None, share: bool, size: str | None, kind:
         raise Wrong(f'--log {log}: write x, y or xy')
     if kind and kind not in KINDS:
         raise Wrong(f'--kind {kind}: write {", ".join(KINDS)}')
-    sizes = [None, None]
+    width: float | None = None
+    height: float | None = None
     if size:
         found = re.fullmatch(r'(\d{1,4})(?:x(\d{1,4}))?mm', size)
-        sizes = [float(it) if it else None for it in found.groups()] if found else sizes
-        if not found or any(it is not None and not SIZES[0] <= it <= SIZES[1] for it in sizes):
+        width, height = (float(it) if it else None for it in found.groups()) if found else (None, None)
+        if not found or any(it is not None and not SIZES[0] <= it <= SIZES[1] for it in (width, height)):
             raise Wrong(f'--size {size}: write 85mm or 180x120mm, from {SIZES[0]} to {SIZES[1]:,} mm')
-    return Look(x, log or '', share, *sizes, kind or KINDS[0])
+    return Look(x, log or '', share, width, height, kind or KINDS[0])
 
 
 class Places(NamedTuple):

@@ -8,14 +8,11 @@ from collections.abc import Sequence
 from typing import NamedTuple
 
 from tcpsim.command_line import Wrong
+from tcpsim.samples import student
 from tcpsim.sweeps.pattern import Setting, values_of
 from tcpsim.sweeps.rows import OF_THE_LINK, Grid
 
 PARTS = 'mean', 'half_width', 'runs'
-# Student's t at 0.975, of 1 to 30 degrees of freedom; beyond them its expansion by the normal law is as good.
-T = (12.7062047, 4.3026527, 3.1824463, 2.7764451, 2.5705818, 2.4469119, 2.3646243, 2.3060041, 2.2621572, 2.2281389, 2.2009852,
-     2.1788128, 2.1603687, 2.1447867, 2.1314495, 2.1199053, 2.1098156, 2.1009220, 2.0930241, 2.0859634, 2.0796138, 2.0738731,
-     2.0686576, 2.0638986, 2.0595386, 2.0555294, 2.0518305, 2.0484071, 2.0452296, 2.0422725)
 
 
 class Mean(NamedTuple):
@@ -24,16 +21,6 @@ class Mean(NamedTuple):
     mean: float | None
     half_width: float | None
     runs: int
-
-
-def student(freedom: int) -> float:
-    """Student's t at 0.975 for so many degrees of freedom (Abramowitz and Stegun, 26.7.5)."""
-    if freedom <= len(T):
-        return T[freedom - 1]
-    x = statistics.NormalDist().inv_cdf(.975)
-    return x + (x**3 + x) / (4 * freedom) + (5 * x**5 + 16 * x**3 + 3 * x) / (96 * freedom**2) + (
-        3 * x**7 + 19 * x**5 + 17 * x**3 - 15 * x) / (384 * freedom**3) + (
-        79 * x**9 + 776 * x**7 + 1482 * x**5 - 1920 * x**3 - 945 * x) / (92160 * freedom**4)
 
 
 def mean_of(values: Sequence[float]) -> Mean:
@@ -114,7 +101,8 @@ def pairs(grid: Grid, rows: Sequence[dict], pair: tuple[Setting, object, object]
     each, first, second = pair
     at = grid.settings.index(each)
     numbers = {point: number for number, point in enumerate(grid.points)}
-    title, found = f'{each.label(second)} - {each.label(first)}', {}
+    title = f'{each.label(second)} - {each.label(first)}'
+    found: dict[tuple, list] = {}
     for point, number in numbers.items():
         if point[at] == first:
             other = rows[numbers[(*point[:at], second, *point[at + 1:])]]

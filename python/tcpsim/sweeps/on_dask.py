@@ -8,10 +8,15 @@ import os
 import tempfile
 import zipfile
 from collections.abc import Iterator, Sequence
+from typing import TYPE_CHECKING
 
 from tcpsim.command_line import Refused, Wrong
-from tcpsim.sweeps.pool import Runner
-from tcpsim.sweeps.rows import Grid, row_of, version_of
+from tcpsim.program import version_of
+from tcpsim.sweeps.pool import Ran, Runner
+from tcpsim.sweeps.rows import Grid, row_of
+
+if TYPE_CHECKING:
+    from distributed import Future
 
 PATIENCE = 5                # seconds in which a scheduler answers, at each of two steps
 RETRIES = 3
@@ -29,7 +34,7 @@ def by_dask(word: str) -> Runner:
     """Runs points on the workers of the scheduler at HOST:PORT."""
     address = address_of(word)
 
-    def rows(grid: Grid, numbers: Sequence[int]) -> Iterator[tuple[int, dict]]:
+    def rows(grid: Grid, numbers: Sequence[int]) -> Iterator[Ran]:
         try:
             from distributed import Client, as_completed
             from distributed.diagnostics.plugin import UploadFile
@@ -50,13 +55,13 @@ def by_dask(word: str) -> Runner:
             runs = dict(zip((future.key for future in futures), numbers))
             try:
                 for future in as_completed(futures, loop=client.loop):
-                    yield runs[future.key], figures_of(future)
+                    yield [(runs[future.key], figures_of(future))]
             finally:
                 client.cancel(futures)
     return rows
 
 
-def figures_of(future: object) -> dict[str, object]:
+def figures_of(future: Future) -> dict[str, object]:
     """What a run gave, or why it gave nothing."""
     wrong = future.exception()
     return {'status': f'dask says {type(wrong).__name__}: {" ".join(str(wrong).split())[:200]}'} if wrong else future.result()

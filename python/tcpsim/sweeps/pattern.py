@@ -9,20 +9,23 @@ import itertools
 import re
 from collections import namedtuple
 from collections.abc import Callable, Iterable, Sequence
+from typing import Any
 
 from tcpsim.command_line import Wrong
 from tcpsim.scenario import units
 from tcpsim.scenario.senders import initial_window, variant
 from tcpsim.scenario.text import Scenario, Unreadable
-from tcpsim.scenario.units import HEADER_BYTES, Products, spelled_rate, spelled_time
+from tcpsim.scenario.units import HEADER_BYTES, Products, Queue, spelled_rate, spelled_time
 from tcpsim.sweeps.shape import SHAPE, Option, options_of, with_options
 
 MOST_RUNS = 100_000
 # Where in a statement's words a field stands; `lose` has statements of its own. A flow's last two words may be left out.
-WHERE = {'link': {'rate': 4, 'delay': 5, 'queue': 6, 'lose': None},
-         'flow': {'mss': 4, 'segments': 5, 'start': 6, 'rwnd': 7, 'delack': 8, 'variant': 9, 'iw': 10}, 'sim': {'end': 1}}
+WHERE: dict[str, dict[str, int]] = {
+    'link': {'rate': 4, 'delay': 5, 'queue': 6, 'lose': -1},
+    'flow': {'mss': 4, 'segments': 5, 'start': 6, 'rwnd': 7, 'delack': 8, 'variant': 9, 'iw': 10}, 'sim': {'end': 1}}
 # The units of fields that are numbers with one, as the CSV's titles have them; those of a queue are its parts.
 UNITS = {'rate': 'bit_s', 'delay': 'ns', 'mss': 'bytes', 'start': 'ns', 'rwnd': 'bytes', 'delack': 'ns', 'end': 'ns'}
+Value = Any             # of a setting: a number, a word, a Queue, an OwnQueue, or several of one
 QUEUE_UNITS = 'packets', 'target_ns', 'interval_ns'
 
 
@@ -33,7 +36,7 @@ class Setting(namedtuple('Setting', 'key names field values option of_shape', de
     `values` are numbers, queues, words, or the numbers of packets that are lost. `of_shape` is the option of tcpsim-net where the
     whole scenario is another one with each value."""
 
-    def label(self, value: object) -> str:
+    def label(self, value: Value) -> str:
         """A value in words."""
         return self.of_shape.words(value) if self.of_shape else spell(self.field, value)
 
@@ -46,7 +49,7 @@ class Setting(namedtuple('Setting', 'key names field values option of_shape', de
             return [f'{self.key}_{unit}' for unit in QUEUE_UNITS[:3 if codel else 1]]
         return [f'{self.key}_{UNITS[self.field]}'] if self.field in UNITS else []
 
-    def numbers(self, value: object, text: str) -> dict[str, object]:
+    def numbers(self, value: Value, text: str) -> dict[str, object]:
         """A value's numbers by their columns; `text` is the run's, which has how many packets a product is."""
         if self.field != 'queue' or self.of_shape:
             return dict.fromkeys(self.titles(), None if isinstance(value, tuple) else value)
@@ -58,9 +61,12 @@ class Setting(namedtuple('Setting', 'key names field values option of_shape', de
 class OwnQueue(namedtuple('OwnQueue', 'kind')):
     """A queue that is a class of Python's, by its name. The text keeps the link's own, which the class can read."""
 
-    is_product, capacity, target, interval = False, None, None, None
+    is_product = False
+    capacity: int | None = None
+    target: int | None = None
+    interval: int | None = None
 
-    def __str__(self):
+    def __str__(self) -> str:
         return self.kind
 
 
@@ -69,7 +75,7 @@ def capacity_in(text: str, link: str) -> int:
     return next(int(words[7]) for words in map(str.split, text.split('\n')) if words[:2] == ['link', link])
 
 
-def spell(field: str, value: object) -> str:
+def spell(field: str, value: Value) -> str:
     """A value as a command line has it."""
     if field == 'rate':
         return spelled_rate(value)
@@ -83,7 +89,8 @@ class Pattern:
 
     def __init__(self, text: str):
         self.lines = text.split('\n')
-        self.places, self.sorts = {}, {}        # of each name, and of `sim`
+        self.places: dict[str, int] = {}        # of each name, and of `sim`
+        self.sorts: dict[str, str] = {}
         for number, line in enumerate(self.lines):
             words = line.partition('#')[0].split()
             if words and words[0] in ('node', 'link', 'flow') and len(words) > 1:
@@ -94,6 +101,11 @@ class Pattern:
         self.packet = greatest_packet(self.lines)
         self.own: dict[str, dict[str, Callable]] = {}       # of a link the classes that can be its queue, by their names
 
+    def end(self) -> int:
+        """When the scenario ends, in ns; 0 where that is no number."""
+        words = self.lines[self.places['sim']].split() if 'sim' in self.places else []
+        return int(words[1]) if len(words) > 1 and re.fullmatch('[0-9]{1,16}', words[1]) else 0
+
     def named(self, sort: str) -> list[str]:
         """The names of all nodes, links or flows."""
         return [name for name, its in self.sorts.items() if its == sort]
@@ -103,13 +115,14 @@ class Pattern:
         for each in variants:
             self.sorts.update({name: sort for name, sort in each.sorts.items() if name not in self.sorts})
 
-    def point(self, settings: Sequence[Setting], values: Sequence[object]) -> str:
+    def point(self, settings: Sequence[Setting], values: Sequence[Value]) -> str:
         """The text with each setting's value. Queues come last: a bandwidth-delay product is that of the point."""
         shaped = [(each, value) for each, value in zip(settings, values) if each.of_shape]
         if shaped:
             rest = [(each, value) for each, value in zip(settings, values) if not each.of_shape]
             return self.shaped(shaped).point([each for each, _ in rest], [value for _, value in rest])
-        lines, queues = list(self.lines), []
+        lines = list(self.lines)
+        queues: list[tuple[str, Queue]] = []
         for setting, value in zip(settings, values):
             for name in self.names_of(setting):
                 if setting.field == 'queue':
@@ -125,18 +138,18 @@ class Pattern:
                 self._put(lines, name, 'queue', queue.words(packet, limit).split())
         return '\n'.join(lines)
 
-    def shaped(self, given: Sequence[tuple[Setting, object]]) -> Pattern:
+    def shaped(self, given: Sequence[tuple[Setting, Value]]) -> Pattern:
         """That of the text which tcpsim-net writes with these values of its options."""
         return pattern_of(with_options('\n'.join(self.lines), tuple((each.of_shape.word, each.label(value)) for each, value in given)))
 
     def names_of(self, setting: Setting) -> list[str]:
         """Which links or flows a setting is of."""
-        return self.named(sort_of(setting.field)) if setting.key.startswith('*.') else setting.names
+        return self.named(sort_of(setting.field) or '') if setting.key.startswith('*.') else setting.names
 
-    def _put(self, lines, name, field, values):
+    def _put(self, lines: list[str], name: str, field: str, values: list[str]) -> None:
         line = lines[self.places[name]]
-        words, sign, comment = line.partition('#')
-        words = words.split()
+        statement, sign, comment = line.partition('#')
+        words = statement.split()
         at = WHERE[self.sorts[name]][field]
         if field in ('variant', 'iw') and len(words) == WHERE['flow']['variant']:
             words += ['reno', 'iw3']
@@ -208,7 +221,7 @@ def setting(word: str, pattern: Pattern, option: str = '--set') -> Setting:
     if not sign or not values:
         raise Wrong(f'{option} {word!r}: no value is given, as {key}={EXAMPLES[field]}')
     own = {name for link in names.split('+') for name in pattern.own.get(link, ())} if field == 'queue' else ()
-    read = []
+    read: list[Value] = []
     for is_own, group in itertools.groupby(values.split(','), lambda value: value in own):
         read += map(OwnQueue, group) if is_own else values_of(word, field, ','.join(group), option)
     listed = pattern.named(sort) if names == '*' else names.split('+')
@@ -294,12 +307,13 @@ def spread(value: str, field: str) -> list:
     return in_range(value, READERS[field])
 
 
-def in_range(word: str, read: Callable[[str], int]) -> list[int]:
+def in_range(word: str, read: Callable[[str], Value]) -> list[int]:
     """The values of A..B/STEP: A and each STEP further that is not past B. Numbers without a unit go by 1 where no STEP is
     given."""
     first, _, rest = word.partition('..')
     last, slash, step = rest.partition('/')
-    example = {units.time: '100ms..1s/100ms', units.rate: '1M..5M/1M', units.size: '500..1500/100'}.get(read, '10..50/10')
+    examples: dict[object, str] = {units.time: '100ms..1s/100ms', units.rate: '1M..5M/1M', units.size: '500..1500/100'}
+    example = examples.get(read, '10..50/10')
     if not slash and read is not units.count:
         raise Wrong(f'{word!r} is a range without a step: write {first}..{last}/STEP, as {example}')
     least, greatest, by = read(first), read(last), read(step) if slash else 1

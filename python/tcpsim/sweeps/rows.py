@@ -5,22 +5,23 @@ table, and kept nowhere. Nothing but Python's standard library.
 """
 from __future__ import annotations
 
-import functools
-import hashlib
 import itertools
 import re
-import subprocess
-from collections.abc import Callable, Iterable, Mapping, Sequence
+import time as clock
+from collections.abc import Callable, Iterable, Iterator, Mapping, Sequence
 from typing import NamedTuple
 
 from tcpsim.breakdown import Breakdown
+from tcpsim.caller import Caller
 from tcpsim.command_line import Refused, Wrong
 from tcpsim.critical_path import critical_paths
-from tcpsim.engine import BUSY, LAST_ROW, EngineRun, written_table
+from tcpsim.engine import BUSY, HEADING_BY_TIME, LAST_ROW, LONGEST_TABLE, PORTIONS, EngineRun, portions_in, written_table
+from tcpsim.fairness import compared
 from tcpsim.figures import Figures
-from tcpsim.program import is_model
+from tcpsim.program import digest, digest_of, version_of
 from tcpsim.scenario.text import Scenario, Unreadable
 from tcpsim.scenario.units import BITS_NS, spelled_time
+from tcpsim.settled import Thirds, thirds
 from tcpsim.sweeps.columns import FROM, LINK, RUN, ShownFigure, table_loss
 from tcpsim.sweeps.pattern import OwnQueue, Pattern, Setting
 from tcpsim.whole_trace import BLOCK, ProgramFailed, Rest, Running, blocks, running
@@ -31,8 +32,9 @@ OF_THE_LINK = FIGURES[1:4]
 # What each row ends with: the question that it answers, and how a row of another one is told from it.
 QUESTION = {'from_ns': 'from another moment on', 'scenario_sha256': 'of another scenario', 'options': 'by other options',
             'program_sha256': 'of another program'}
-DIGITS = 16                                     # of a SHA-256, in hexadecimal
 S = 10**9
+WAITS = .3                                      # seconds that a row waits at most for runs behind it
+Ran = list[tuple[int, dict]]                    # the numbers of points, each with the values of its row, or what else was found
 
 
 class AskedOfRun(NamedTuple):
@@ -76,6 +78,10 @@ class AskedOfRun(NamedTuple):
         """The columns for which a further pass over a trace finds where the time of flows went."""
         return [column for column in self.columns if column.figure.path]
 
+    def is_table(self) -> bool:
+        """Whether all of it stands in the table that the program writes, which is read in a moment."""
+        return not (self.queues or self.wants_trace() or self.wants_path())
+
     def check(self) -> None:
         """Wrong where a column stands neither in this program's table nor in a trace."""
         for column in self.columns:
@@ -89,42 +95,17 @@ class AskedOfRun(NamedTuple):
                             f'--show {column.name}: {why}, and no trace has it: leave --exact out')
 
 
-@functools.lru_cache(maxsize=None)
-def version_of(program: str) -> str:
-    """What a program says of its version; it is asked once."""
-    try:
-        done = subprocess.run([program, '--version'], stdin=subprocess.DEVNULL, capture_output=True, timeout=60, check=False)
-    except (OSError, subprocess.TimeoutExpired):
-        return ''
-    return done.stdout.decode('utf-8', 'replace').strip().partition('\n')[0]
-
-
-@functools.lru_cache(maxsize=None)
-def digest_of(program: str) -> str:
-    """The first digits of the SHA-256 of a program's file; of the model, which has many, with its version."""
-    try:
-        with open(program, 'rb') as file:
-            contents = file.read()
-    except OSError:
-        return ''
-    return digest(contents + version_of(program).encode() if is_model(program) else contents)
-
-
-def format_of(program: str) -> int:
-    """The number of the format of a program's figures; 1 where it says none."""
-    found = re.search(r'\bfigures (\d{1,6})\b', version_of(program))
-    return int(found[1]) if found else 1
-
-
 # ---- one run
 
 class RunFrom(EngineRun):
     """The figures of a run from a moment on. The span begins there."""
 
-    def __init__(self, scenario: Scenario, table: str, skip: int):
+    def __init__(self, scenario: Scenario, table: str, skip: int, portions: Sequence[list[int]] = ()):
         if skip and table.endswith(f'{LAST_ROW}-\n') and ',completed,ns,-' not in table:
             raise Unreadable(f'every flow is complete before {skip / S:g} s: nothing of it is at or after {skip / S:g} s')
-        super().__init__(scenario, table)
+        if skip >= scenario.end:
+            raise Unreadable(f'the scenario ends at {scenario.end / S:g} s: nothing of it is at or after {skip / S:g} s')
+        super().__init__(scenario, table, portions)
         if skip:
             if skip >= max(self.end, self.begin + 1):
                 raise Unreadable(f'the run ends at {self.end / S:g} s: nothing of it is at or after {skip / S:g} s')
@@ -137,20 +118,51 @@ class RunFrom(EngineRun):
         return self.flows[number]['delivered', 'bytes'] * BITS_NS / (until - start) if start < until else None
 
 
+class Bench:
+    """What a process keeps from one run of a sweep to the next: the files of the programs that it calls, and a scenario most of which
+    the next one has too."""
+
+    def __init__(self) -> None:
+        self.caller = Caller(LONGEST_TABLE)
+        self._first: Scenario | None = None
+
+    def written(self, text: str, asked: AskedOfRun, patience: float | None = None) -> Iterator[bytes | Exception | None]:
+        """What the program writes of a text that is asked for its table, or what went wrong; before that None where it has not ended
+        within so many seconds."""
+        try:
+            if not asked.queues and asked.is_elsewhere():
+                raise Refused(f'{asked.program} is another here: {version_of(asked.program) or "it says no version"!r} and not '
+                              f'{asked.version!r}, {digest_of(asked.program)} and not {asked.digest}')
+            if asked.queues or not asked.wants_table():
+                yield b''
+                return
+            words = [asked.program, 'figures', *(['--from', spelled_time(asked.skip)] if asked.skip else [])]
+            yield from self.caller.output_of(words, text.encode('latin-1'), patience)
+        except (Refused, MemoryError, OSError) as wrong:
+            yield wrong
+
+    def scenario(self, text: str) -> Scenario:
+        """A scenario's text, read."""
+        if self._first is None:
+            self._first = Scenario(text)
+        return self._first.changed(text)
+
+
 def row_of(text: str, asked: AskedOfRun) -> dict[str, object]:
     """The row of one run: its figures, or in `status` why there are none."""
-    if asked.queues:
-        return own_row(text, asked)
+    bench = Bench()
+    written, = bench.written(text, asked)
+    return own_row(text, asked) if asked.queues or written is None else row_by(text, asked, bench, written)
+
+
+def row_by(text: str, asked: AskedOfRun, bench: Bench, written: bytes | Exception) -> dict[str, object]:
+    """The row of a run of whose table this was written."""
     try:
-        if asked.is_elsewhere():
-            return {'status': f'{asked.program} is another here: {version_of(asked.program) or "it says no version"!r} and not '
-                              f'{asked.version!r}, {digest_of(asked.program)} and not {asked.digest}'}
-        row = {'status': 'done'}
+        if isinstance(written, Exception):
+            raise written
+        row: dict[str, object] = {'status': 'done'}
         if asked.wants_table():
-            words = [asked.program, 'figures', *(['--from', spelled_time(asked.skip)] if asked.skip else [])]
-            with running(words, text.encode('latin-1')) as process:
-                table = written_table(process)
-                row.update(values_of(RunFrom(Scenario(text), table, asked.skip), asked))
+            row.update(values_of(RunFrom(bench.scenario(text), written_table(written), asked.skip), asked))
         if asked.wants_trace():
             with running([asked.program, 'run'], text.encode('latin-1')) as process:
                 row.update(values_of(trace_figures(text, process, asked.skip), asked))
@@ -173,7 +185,8 @@ def own_row(text: str, asked: AskedOfRun) -> dict[str, object]:
     from tcpsim.api.by_model import OwnQueueRun
     from tcpsim.api.errors import Refused as TextRefused
     try:
-        run, scenario, row = OwnQueueRun(text, asked.queues), Scenario(text), {'status': 'done'}
+        run, scenario = OwnQueueRun(text, asked.queues), Scenario(text)
+        row: dict[str, object] = {'status': 'done'}
         scenario.replace_queues(run.names)
         if asked.wants_table():
             row.update(values_of(RunFrom(scenario, run.table(asked.skip), asked.skip), asked))
@@ -214,12 +227,9 @@ def values_of(run: Figures | EngineRun, asked: AskedOfRun) -> dict[str, object]:
         return {column.title: column.value(run, run.scenario) for column in asked.columns
                 if not column.figure.path and asked.by_table(column) != traced}
     at = link_of(run, asked.link)
-
-    def figure(of, number=0):
-        return (of.trace if traced else of.table)(run, number)
     used = used_of(run, at)
-    values = (figure(RUN['goodput']), used, figure(LINK['wait50'], at), figure(LINK['wait99'], at),
-              figure(RUN['loss']) if traced else table_loss(run, 0), figure(RUN['timeouts']), figure(RUN['jain']), figure(RUN['jain_flows']))
+    values = (RUN['goodput'].of(run, 0), used, LINK['wait50'].of(run, at), LINK['wait99'].of(run, at),
+              RUN['loss'].of(run, 0) if isinstance(run, Figures) else table_loss(run, 0), *(RUN[name].of(run, 0) for name in FIGURES[5:]))
     return {'link': run.scenario.links[at].name, **dict(zip(FIGURES, values))}
 
 
@@ -236,7 +246,24 @@ def link_of(run: Figures | EngineRun, name: str | None) -> int:
         return [link.name for link in run.scenario.links].index(name)
     ways = sorted({number for there, _ in run.scenario.ways for number in there})
     used = {number: used_of(run, number) for number in ways}
-    return max(ways, key=lambda number: -1 if used[number] is None else used[number])
+    return max(ways, key=lambda number: -1. if (part := used[number]) is None else part)
+
+
+def thirds_by(text: str, asked: AskedOfRun, bench: Bench) -> Thirds | None:
+    """The goodput in the first third and in the last of a run that has a row: it is run once more, and the program counts by time,
+    which takes as long again. None where the program cannot, or the span has no thirds."""
+    scenario = bench.scenario(text)
+    begin = max(asked.skip, min(flow.start for flow in scenario.flows))
+    step = (scenario.end - begin) // PORTIONS
+    if step < 1 or asked.queues:
+        return None
+    try:
+        written, = bench.caller.output_of([asked.program, 'figures', f'--from={begin}', f'--every={step}'], text.encode('latin-1'))
+        table, _, by_time = (written or b'').partition(HEADING_BY_TIME)
+        run = RunFrom(scenario, written_table(table), asked.skip, portions_in([by_time], begin, step, len(scenario.flows)))
+        return thirds(run, compared(run).flows)
+    except (Refused, MemoryError, OSError):
+        return None
 
 
 # ---- all runs
@@ -247,6 +274,7 @@ class Grid:
 
     def __init__(self, pattern: Pattern, settings: Sequence[Setting], asked: AskedOfRun):
         self.pattern, self.settings, self.asked = pattern, list(settings), asked
+        self._first: Scenario | None = None
         self.points = list(itertools.product(*(each.values for each in settings)))
         self.chosen = [each for each in settings if each.option != '--over']
         self.over = [each for each in settings if each.option == '--over']
@@ -275,7 +303,9 @@ class Grid:
 
     def scenario(self, number: int) -> Scenario:
         """The scenario of a point, read."""
-        read = Scenario(self.text(number))
+        text = self.text(number)
+        self._first = self._first or Scenario(text)
+        read = self._first.changed(text)
         names = [link.name for link in read.links]
         read.replace_queues({names.index(link): maker.__name__ for link, maker in self.queues(number).items()})
         return read
@@ -308,26 +338,46 @@ class Grid:
     def begin_of(self, number: int, text: str) -> dict[str, object]:
         """What a row begins and ends with, whatever came out: the values, in words and in numbers, and which question it is of.
         `text` is that of the point."""
-        row = {}
+        row: dict[str, object] = {}
         for each, value in zip(self.settings, self.points[number]):
             row[each.key] = each.label(value)
             row.update(each.numbers(value, text))
         return {**row, **dict(zip(QUESTION, (self.asked.skip, digest(text.encode('latin-1')), self.asked_of(number).options(), self.asked.digest)))}
 
-    def run(self, number: int) -> dict[str, object]:
-        """The values of a point's row, with the figures of its run."""
-        text = self.text(number)
-        return {**self.begin_of(number, text), **row_of(text, self.asked_of(number))}
+    def run(self, numbers: Sequence[int], bench: Bench) -> Iterator[Ran]:
+        """The numbers of points, each with the values of its row, with the figures of its run; some at a time, within WAITS of the end of
+        their runs. As many programs run before the first table is read: what a program leaves of a processor's caches costs more than
+        to read a table."""
+        texts = list(map(self.text, numbers))
+        ended: list[tuple[int, str, AskedOfRun, bytes | Exception]] = []
+        since = 0.
+        for number, text in zip(numbers, texts):
+            asked = self.asked_of(number)
+            for table in bench.written(text, asked, max(0, since + WAITS - clock.monotonic()) if ended else None):
+                if table is not None:
+                    ended.append((number, text, asked, table))
+                if table is None or not asked.is_table():
+                    yield self.rows_by(ended, bench)
+                    ended = []
+            if len(ended) == 1:
+                since = clock.monotonic()
+        if ended:
+            yield self.rows_by(ended, bench)
+
+    def rows_by(self, ended: Iterable[tuple[int, str, AskedOfRun, bytes | Exception]], bench: Bench) -> Ran:
+        """The numbers of points, each with the values of its row; of each its text and what the program wrote."""
+        return [(number, {**self.begin_of(number, text), **(own_row(text, asked) if asked.queues else row_by(text, asked, bench, table))})
+                for number, text, asked, table in ended]
+
+    def look(self, numbers: Sequence[int], bench: Bench) -> Iterator[list[tuple[int, Thirds | None]]]:
+        """The numbers of points, each with the thirds of its run."""
+        for number in numbers:
+            yield [(number, thirds_by(self.text(number), self.asked_of(number), bench))]
 
     def row(self, number: int, figures: dict[str, object]) -> dict[str, str]:
         """A run's row, each value as CSV has it; `figures` have the other values too where it was run here."""
         begin = {} if figures.keys() >= QUESTION.keys() else self.begin_of(number, self.text(number))
         return {name: as_csv(value) for name, value in {**begin, **figures}.items()}
-
-
-def digest(contents: bytes) -> str:
-    """The first digits of a SHA-256."""
-    return hashlib.sha256(contents).hexdigest()[:DIGITS]
 
 
 def as_csv(value: object) -> str:

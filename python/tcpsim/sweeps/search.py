@@ -13,11 +13,12 @@ from typing import NamedTuple
 from tcpsim.command_line import Wrong
 from tcpsim.estimate import events_of
 from tcpsim.scenario.units import Queue
+from tcpsim.settled import Thirds
 from tcpsim.sweeps.conditions import GOALS, Condition
 from tcpsim.sweeps.columns import ShownFigure
 from tcpsim.sweeps.means import Averaged, mean_row
 from tcpsim.sweeps.pattern import Setting
-from tcpsim.sweeps.pool import Rows
+from tcpsim.sweeps.pool import Rows, looked_at
 from tcpsim.sweeps.rows import Grid
 
 LEAST, GREATEST = 'least', 'greatest'
@@ -100,7 +101,7 @@ class Quest:
         self.count, self._first, self.asked = count, first, asked
         self.tried: dict[int, Averaged] = {}
         self.met: dict[int, bool] = {}
-        self._closed = set()            # answers from which on what is left was tried
+        self._closed: set[int | None] = set()       # answers from which on what is left was tried
 
     def learn(self, place: int, means: Averaged, replicates: int) -> None:
         """Takes what came out of a value."""
@@ -114,9 +115,12 @@ class Quest:
     def answer(self) -> int | None:
         """The place of the answer among what was tried; None where nothing meets the conditions."""
         met = [place for place in sorted(self.met) if self.met[place]]
+        if not met:
+            return None
         if self.asked.best:
-            return GOALS[self.asked.which](met, key=lambda place: self.tried[place].means[self.asked.best.title].mean, default=None)
-        return met[-1 if self.asked.which == GREATEST else 0] if met else None
+            title = self.asked.best.title
+            return GOALS[self.asked.which](met, key=lambda place: self.tried[place].means[title].mean or 0)
+        return met[-1 if self.asked.which == GREATEST else 0]
 
     def wanted(self) -> list[int]:
         """The places that are to be tried next; none where the search is over."""
@@ -137,16 +141,17 @@ class Quest:
         if answer is None:
             step = max(1, len(untried) // max(1, self.asked.check))
             return [place for first in range(step) for place in untried[first::step]]
+        near = answer
         if not self.asked.best:
-            untried = [place for place in untried if (place > answer) == (self.asked.which == GREATEST)]
-        return sorted(untried, key=lambda place: abs(place - answer))
+            untried = [place for place in untried if (place > near) == (self.asked.which == GREATEST)]
+        return sorted(untried, key=lambda place: abs(place - near))
 
     def stretches(self) -> list[tuple[bool, int, int]]:
         """Whether the conditions are met, and from which place to which, one after another, of those that were tried."""
-        found = []
+        found: list[tuple[bool, int, int]] = []
         for place in sorted(self.met):
             if found and found[-1][0] == self.met[place]:
-                found[-1] = (*found[-1][:2], place)
+                found[-1] = found[-1][0], found[-1][1], place
             else:
                 found.append((self.met[place], place, place))
         return found
@@ -161,6 +166,7 @@ class Search:
     def __init__(self, grid: Grid, asked: Asked, first: Sequence[int]):
         self.grid, self.asked, self.varied = grid, asked, grid.chosen[-1]
         self.count = len(self.varied.values)
+        self.looked: dict[int, Thirds | None] = {}
         self.quests = [Quest(self.count, first, asked) for _ in range(len(grid.points) // grid.replicates // self.count)]
 
     def numbers(self, choice: int, place: int) -> range:
@@ -168,14 +174,16 @@ class Search:
         begin = (choice * self.count + place) * self.grid.replicates
         return range(begin, begin + self.grid.replicates)
 
-    def run(self, rows: Rows) -> None:
-        """Runs what has to be run."""
+    def run(self, rows: Rows, jobs: int | None = None) -> None:
+        """Runs what has to be run, and the first run of each answer once more: whether it has settled."""
         while wanted := [(choice, place) for choice, quest in enumerate(self.quests) for place in quest.wanted()]:
             for _ in rows.run(number for each in wanted for number in self.numbers(*each)):
                 pass
             for choice, place in wanted:
                 means = mean_row(self.grid, [rows[number] for number in self.numbers(choice, place)])
                 self.quests[choice].learn(place, means, self.grid.replicates)
+        self.looked = looked_at(self.grid, [self.numbers(choice, quest.answer)[0] for choice, quest in enumerate(self.quests)
+                                            if quest.answer is not None], jobs)
 
     def label(self, place: int) -> str:
         """The value at a place, in words."""

@@ -8,7 +8,7 @@ import functools
 import re
 import shlex
 from collections.abc import Callable, Sequence
-from typing import NamedTuple, Union
+from typing import Any, NamedTuple, Union
 
 from tcpsim.cli import net
 from tcpsim.command_line import Wrong
@@ -25,7 +25,7 @@ class Kind(NamedTuple):
     """How an option's words are read and written, and its unit in a column's title."""
 
     read: Callable[[str], Value]
-    spell: Callable[[Value], str]
+    spell: Callable[[Any], str]     # of a value that `read` gives
     unit: str | None
 
 
@@ -63,7 +63,7 @@ def options_of(text: str) -> dict[str, Option]:
     """The options of the shape that a text was written by, by their names."""
     found = {}
     for option in net.SHAPES[words_of(text)[0]][1]:
-        name, many, _ = net.OPTIONS[option]['metavar'].partition('[')
+        name, many, _ = str(net.OPTIONS[option]['metavar']).partition('[')
         if option not in NOT_SET:
             word = '--rate' if option == '--rates' else option
             kind = KINDS[name]._replace(read=initial_window) if option == '--iw' else KINDS[name]

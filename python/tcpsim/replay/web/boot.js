@@ -7,7 +7,7 @@
   try {
     const record = new Record(facts);
     await fill(record, unpacked(document.getElementById('trace').textContent));
-    window.page = new Page(record);
+    window.page = await Page.of(record);
     document.documentElement.dataset.ready = Math.round(performance.now() - begun);
   } catch (wrong) {
     document.getElementById('notice').textContent = `This browser cannot show the page: ${wrong.message}`;

@@ -7,12 +7,29 @@ const UNDER_AXIS = 1.7;                 // the room below a chart, as a part of 
 const BESIDE_AXIS = 10;                 // what an axis' ticks take beside their labels
 const TICKS = [8, 6, 5, 4, 3, 2, 1];
 const DASHES = ['', '7 3', '2 3', '9 3 2 3'];
-const LEAST_LANE = 40, LANE_GAP = 5;    // pixels: of a lane's height, and between two
+const LEAST_LANE = 34, LETTERS_OF_LANE = 1.6, LANE_GAP = 5;    // pixels: of a lane's height, which has so many letters' too, and between two
+const AFTER_LAST = 0.03;                    // what the axis of time has behind the last event, as a part of the span, to see what that one does
+const NEAR = 1.25, EDGE = 3;            // what is thin counts for the scale up to so much above the rest; nothing thin is drawn so near to the frame, in pixels
 const OWN_SCALE = 5;                    // a lane with values smaller than the others' by this has an axis of its own
 const TOGETHER = 4;                     // marks of a kind that are no further apart are one
 const MARK = 4, KEY_SIGN = 26;          // half of a mark's width; what the key's signs take beside their words
 const SIGNS = {full: 'm-4-4l8 8m0-8l-8 8', codel: 'm-4-4h8l-4 8z', lost: 'm-5 0h10m-5-5v10', timeout: ''};
 const GREY = 'var(--line)';
+const BAND_ROW = 1.3, THIN_ROW = 4;        // the height of a strip of bands, as a part of that of letters; and in pixels where curves need the room
+const ROW_OF_KEY = 1.25, LEAST_OF_CURVES = 3.2; // in heights of letters: a row of the key, and what it leaves for curves
+const valueText = value => value < 1 ? String(value) : d3.format('s')(value);
+
+// The key's signs, by their numbers, in rows: the first has `beside` pixels, the others `room`.
+function rowsOfKey(widths, beside, room) {
+  const rows = [[]];
+  let left = beside;
+  widths.forEach((wide, k) => {
+    if (wide + KEY_SIGN > left) { rows.push([]); left = room; }
+    rows[rows.length - 1].push(k);
+    left -= wide + KEY_SIGN;
+  });
+  return rows;
+}
 
 // Of each column of the picture the first, least, greatest and last point of a curve: [time, value] each.
 function thinned(curve, scale) {
@@ -38,17 +55,20 @@ function greatestOf(values) {
   for (let k = 0; k < values.length; k++) if (values[k] > most) most = values[k];
   return most;
 }
-// The width of the widest label of an axis.
-function widestOf(axis) {
-  return d3.max(axis.selectAll('text')[0], text => text.getComputedTextLength()) || 0;
+
+// The greatest value that a lane's scale has.
+function topOf(series) {
+  const most = Math.max(0, ...series.filter(s => !s.thin || s.before).map(s => s.most === undefined ? greatestOf(s.curve.values) : s.most)) || 1;
+  return Math.max(most, ...series.filter(s => s.thin && !s.before).map(({curve}) => greatestOf(curve.values.filter(value => value <= NEAR * most))));
 }
 
 class Chart {
-  // `titles` say the same, the longest first; the first that has room is shown. `whole`: values are whole numbers.
-  constructor(svg, record, titles, go, whole = true) {
-    Object.assign(this, {record, go, whole});
-    const box = svg.node().getBoundingClientRect();
-    this.wide = Math.max(240, box.width || CHART.wide); this.tall = Math.max(80, box.height || CHART.tall);
+  // `titles` say the same, the longest first; the first that has room is shown. `whole`: values are whole numbers; `text` writes one.
+  constructor(svg, record, titles, go, {whole = true, text = valueText} = {}) {
+    Object.assign(this, {record, go, whole, text, fonts: new Map()});
+    this.node = svg.node();
+    this.box = this.node.getBoundingClientRect(); this.boxed = this.node.parentNode.clientHeight;
+    this.wide = Math.max(240, this.box.width || CHART.wide); this.tall = Math.max(80, this.box.height || CHART.tall);
     this.svg = svg.attr('viewBox', `0 0 ${this.wide} ${this.tall}`).attr('preserveAspectRatio', 'none');
     this.x = d3.scale.linear().domain(this.span());
     this.title = this.svg.append('text').attr('class', 'title');
@@ -64,19 +84,22 @@ class Chart {
     this.key = this.svg.append('g');
     this.layTitle(titles);
     // The line at the present moment lies over the picture, which then need not be drawn again.
-    this.node = svg.node();
     this.present = document.createElement('div');
     this.present.className = 'present';
     this.node.parentNode.append(this.present);
-    this.resize();
-    this.catch = this.svg.append('rect').attr('class', 'catch').attr('y', this.top)
-      .attr('height', this.tall - this.top - this.bottom).on('click', () => this.go(this.x.invert(d3.mouse(this.svg.node())[0])));
+    this.catch = this.svg.append('rect').attr('class', 'catch').on('click', () => this.go(this.x.invert(d3.mouse(this.svg.node())[0])));
+    this.layTop(this.head);
     this.layTime(CHART.left);
   }
-  // From the run's begin to its last event.
+  // From the run's begin to shortly behind its last event.
   span() {
-    const {times, count} = this.record;
-    return [times[0], Math.max(times[count], times[0] + 1)];
+    const {times, count} = this.record, last = Math.max(times[count], times[0] + 1);
+    return [times[0], last + AFTER_LAST * (last - times[0])];
+  }
+  // Up to where curves are known: of a whole run what is behind the last event stays.
+  get known() {
+    const {times, count, facts} = this.record, last = times[count];
+    return facts && facts.whole ? Math.max(last, Math.min(facts.end, this.x.domain()[1])) : last;
   }
   // Another run takes this one's place.
   replace(record) {
@@ -88,17 +111,17 @@ class Chart {
   }
   // The title as high as its letters are, and what is below it further down.
   layTitle(titles) {
-    const node = this.title.attr('x', 4).attr('y', 0).text(titles[0]).node(), {y, height} = node.getBBox();
-    this.titles = titles.map(words => { this.title.text(words); return [words, node.getComputedTextLength()]; });
-    this.chooseTitle(0);
-    this.title.attr('y', -y);
-    this.top = height + 2;
+    const {fontBoundingBoxAscent: above, fontBoundingBoxDescent: below} = measured('', this.fontOf(this.title));
+    this.titles = titles.map(words => [words, textWidth(words, this.fontOf(this.title))]);
+    this.title.attr('x', 4).attr('y', above);
+    this.head = above + below + 2;
   }
-  // The longest that leaves so much room beside it, or else the longest that has room alone.
-  chooseTitle(beside) {
-    const fits = room => this.titles.find(([, wide]) => wide <= room), room = this.wide - 6, [words, wide] = fits(room - beside) || fits(room) || ['', 0];
-    this.title.text(words);
-    this.titleWide = wide;
+  // Curves begin below the title, and below the key where that has rows of its own.
+  layTop(top) {
+    this.top = top;
+    this.catch.attr('y', top).attr('height', this.tall - top - this.bottom);
+    this.present.style.height = `${this.box.height * (this.tall - this.bottom - this.top) / this.tall}px`;
+    this.present.style.top = `${this.boxed - this.box.height * (1 - this.top / this.tall)}px`;
   }
   // The axis of time from `left` on: as many ticks as have room for their labels, the first and the last whole.
   layTime(left) {
@@ -108,7 +131,7 @@ class Chart {
     const axis = d3.svg.axis().orient('bottom').tickFormat(t => `${t} ${name}`);
     for (const count of TICKS) {
       this.under.call(axis.scale(times).tickValues(times.ticks(count)));
-      const widest = widestOf(this.under);
+      const widest = this.widestOf(this.under);
       this.x.range([Math.max(left, widest / 2 + 1), this.wide - Math.max(CHART.right, widest / 2 + 1)]);
       times.range(this.x.range());
       const [first, second] = times.ticks(count).map(times);
@@ -120,67 +143,96 @@ class Chart {
     this.catch.attr('x', from).attr('width', to - from);
   }
   resize() {
-    const box = this.node.getBoundingClientRect();
-    this.shown = box.width;
-    this.present.style.height = `${box.height * (this.tall - this.bottom - this.top) / this.tall}px`;
-    this.present.style.top = `${this.node.parentNode.clientHeight - box.height * (1 - this.top / this.tall)}px`;
+    this.box = this.node.getBoundingClientRect(); this.boxed = this.node.parentNode.clientHeight;
+    this.layTop(this.top);
   }
+  // The font of a text, which is that of all with its class.
+  fontOf(text) {
+    const {fonts} = this, name = text.attr('class') || '';
+    return fonts.get(name) || fonts.set(name, getComputedStyle(text.node()).font).get(name);
+  }
+  widthOf(text) { return textWidth(text.text(), this.fontOf(text)); }
+  // The width of the widest label of an axis.
+  widestOf(axis) { return d3.max(axis.selectAll('text')[0], text => this.widthOf(d3.select(text))) || 0; }
   within(time) { return this.x(Math.min(this.x.domain()[1], Math.max(this.x.domain()[0], time))); }
 
   // Each lane is {name, colour, series, bands, marks}. Of `series` each is {curve, colour, dash, thin, name}, or {dots, ..} with points,
-  // or {area, ..} with [time, from, to] of each column; of `bands` a span that is shaded, {kind, from, to, name, lane, lanes}; of `marks`
-  // a moment, {kind, time, value, name}. `key` has [kind, words, colour] of bands, marks and flows. Lanes that have no room are one, in which the
+  // or {area, ..} with [time, from, to] of each column; of `bands` a span that is shaded, {kind, from, to, name, whose}, in a strip above the
+  // curves where it says `whose` it is, {name, mark, colour}; of `marks` a moment, {kind, time, value, name}. `key` has [kind, words, colour] of bands, marks and flows. Lanes that have no room are one, in which the
   // first is before the others in grey.
   show(lanes, key = []) {
-    const height = this.tall - this.bottom - this.top, room = lanes.length < 2 || height / lanes.length >= LEAST_LANE + LANE_GAP;
+    this.drawKey(key);
+    const height = this.tall - this.bottom - this.top, room = lanes.length < 2 || height / lanes.length >= Math.max(LEAST_LANE, LETTERS_OF_LANE * this.letters) + LANE_GAP;
     const kept = room ? lanes : [this.together(lanes)];
-    const tops = kept.map(({series}) => Math.max(0, ...series.filter(s => !s.thin).map(s => s.most === undefined ? greatestOf(s.curve.values) : s.most)) || 1);
+    const tops = kept.map(({series}) => topOf(series));
     const greatest = Math.max(...tops), lane = height / Math.max(1, kept.length);
     for (const group of [this.axes, this.bands, this.curves, this.marks, this.names]) group.selectAll('*').remove();
     this.lanes = kept.map((one, k) => {
-      const from = this.top + lane * k + (k ? LANE_GAP : 0), to = this.top + lane * (k + 1), most = tops[k] * OWN_SCALE < greatest ? tops[k] : greatest;
-      return {...one, from, to, y: d3.scale.linear().range([to, from]).domain([0, most * 1.1])};
+      const strips = [...new Map((one.bands || []).filter(({whose}) => whose).map(({whose}) => [whose.name, whose])).values()];
+      const gap = k ? LANE_GAP : 0, spare = (lane - gap - LEAST_OF_CURVES * this.letters) / strips.length, row = Math.max(THIN_ROW, Math.min(BAND_ROW * this.letters, spare));
+      const from = this.top + lane * k + gap + strips.length * row, to = this.top + lane * (k + 1), most = tops[k] * OWN_SCALE < greatest ? tops[k] : greatest;
+      return {...one, strips, row, from, to, y: d3.scale.linear().range([to, from]).domain([0, most * 1.1])};
     });
     this.lanes.forEach(({y, from, to}, k) => {
       const rows = Math.max(to - from > 2 * this.letters ? 2 : 1, Math.min(4, Math.floor((to - from) / (1.6 * this.letters))));
       const axis = this.axes.append('g').attr('class', 'axis').call(d3.svg.axis().scale(y).orient('left').tickSize(4)
-        .tickValues(y.ticks(rows).filter(value => !this.whole || Number.isInteger(value))).tickFormat(value => value < 1 ? String(value) : d3.format('s')(value)));
+        .tickValues(y.ticks(rows).filter(value => !this.whole || Number.isInteger(value))).tickFormat(this.text));
       // Below another lane its highest label would lie over that one's lowest.
       axis.selectAll('text').filter(value => value && y(value) < from + (k ? 0.9 : 0.6) * this.letters).remove();
     });
-    const left = Math.max(CHART.left, widestOf(this.axes) + BESIDE_AXIS);
+    const left = Math.max(CHART.left, this.widestOf(this.axes) + BESIDE_AXIS);
     if (left !== this.leftOf) { this.layTime(left); this.mark(this.time); }
     this.axes.attr('transform', `translate(${this.x.range()[0]},0)`);
     for (const one of this.lanes) this.drawLane(one, kept.length);
-    this.drawKey(key);
   }
   // All lanes in one: the first, and of the others what is drawn most, in grey behind it.
   together([first, ...others]) {
     const grey = others.flatMap(({series}) => series.filter(s => !s.thin).map(s => ({...s, colour: GREY})));
     return {...first, series: [...grey, ...first.series]};
   }
-  drawLane({name, colour, series, bands = [], marks = [], y, from, to}, count) {
-    const line = d3.svg.line().x(p => this.x(p[0])).y(p => Math.max(from, y(p[1]))).interpolate('step-after'), height = to - from;
-    for (const {kind, from: begin, to: end, name: words, lane = 0, lanes = 1} of bands)
-      this.bands.append('rect').attr('class', kind).attr('x', this.within(begin)).attr('width', Math.max(1, this.within(end) - this.within(begin)))
-        .attr('y', from + height * lane / lanes).attr('height', height / lanes).append('title').text(words);
-    for (const one of series) this.curveOf(one, y, line, from);
+  drawLane({name, colour, series, bands = [], marks = [], strips, row, y, from, to}, count) {
+    const line = () => d3.svg.line().x(p => this.x(p[0])).y(p => Math.max(from, y(p[1]))).interpolate('step-after');
+    for (const {kind, from: begin, to: end, name: words} of bands.filter(({whose}) => !whose)) this.drawBand(kind, words, begin, end, from, to - from);
+    strips.forEach((strip, k) => this.drawStrip(strip, bands.filter(({whose}) => whose && whose.name === strip.name), from - (strips.length - k) * row, row - 2));
+    for (const one of series) this.curveOf(one, y, line(), from);
     this.drawMarks(marks, y, from, to);
     if (name && count > 1) {
       const text = this.names.append('text').attr('class', 'lane').attr('x', this.x.range()[0] + 6).attr('y', from + this.letters).text(name);
-      if (colour) this.names.append('rect').attr('x', this.x.range()[0] + 6).attr('y', from + this.letters + 2).attr('width', text.node().getComputedTextLength())
+      if (colour) this.names.append('rect').attr('x', this.x.range()[0] + 6).attr('y', from + this.letters + 2).attr('width', this.widthOf(text))
         .attr('height', 3).attr('fill', colour);
     }
   }
-  curveOf({curve, dots, area, colour, dash, thin, outline, name}, y, line, from) {
+  drawBand(kind, words, begin, end, top, tall) {
+    const x = this.within(begin), wide = Math.max(1, this.within(end) - x);
+    this.bands.append('rect').attr('class', kind).attr('x', x).attr('width', wide).attr('y', top).attr('height', tall).append('title').text(words);
+    return [x, x + wide];
+  }
+  // A flow's spans in a strip of its own, behind its name, each with its word, where these have room: nothing there is a value.
+  drawStrip({name, mark, colour}, bands, top, tall) {
+    const [left, right] = this.x.range(), base = top + 0.8 * tall, taken = [], hasWords = tall >= this.letters;
+    const head = hasWords && this.bands.append('text').attr('text-anchor', 'end').attr('x', left - 5).attr('y', base).text(name);
+    if (head && this.widthOf(head) > left - 8) head.text(mark);
+    const wide = head ? this.widthOf(head) : KEY_SIGN / 2;
+    this.bands.append('rect').attr('x', left - 5 - wide).attr('width', wide).attr('y', top + tall - 1).attr('height', 2).attr('fill', colour);
+    this.bands.append('rect').attr('class', 'strip').attr('x', left).attr('width', right - left).attr('y', top).attr('height', tall);
+    for (const {kind, name: words, from, to} of bands) {
+      const [begin, end] = this.drawBand(kind, words, from, to, top, tall);
+      if (!hasWords) continue;
+      const word = this.bands.append('text').attr('x', begin + 3).attr('y', base).text(LOOKS.marks[kind].split(' for ', 1)[0]), until = begin + 3 + this.widthOf(word);
+      if (until > end || taken.some(([one, other]) => begin < other && one < until)) word.remove(); else taken.push([begin, until]);
+    }
+  }
+  curveOf({curve, dots, area, colour, dash, thin, before, outline, name}, y, line, from) {
     const path = this.curves.append('path');
     if (area)
       path.attr('class', 'area').style('fill', colour).attr('d', area.map(([x, low, high]) => `M${x} ${y(low).toFixed(1)}V${y(high).toFixed(1)}h1.02V${y(low).toFixed(1)}z`).join(''));
     else if (dots)
       path.attr('class', 'dots').attr('stroke', colour).attr('stroke-width', thin ? 1.5 : 3).attr('d', this.dotted(dots, y, from));
     else {
-      const points = thinned(curve, this.x), end = this.record.times[this.record.count];
+      const points = thinned(curve, this.x), end = this.known;
       if (points.length) points.push([end, points[points.length - 1][1]]);
+      // What is thin does not count for the scale: where it is above the frame it is not drawn, as a line there would be read as a value.
+      if (thin && !before) line.defined(([, value]) => y(value) >= from + EDGE);
       path.attr('d', points.length ? line(points) : null).attr('stroke', colour).attr('stroke-dasharray', dash || null).attr('stroke-width', thin ? 1 : 1.7)
         .attr('class', thin ? 'thin' : outline ? 'outline' : null);
     }
@@ -192,45 +244,56 @@ class Chart {
   }
   // Marks in their order; those of a kind that lie upon each other are one, which says how many.
   drawMarks(marks, y, from, to) {
-    const last = new Map();
+    const last = new Map(), made = [];
     for (const {kind, time, value, name} of marks) {
       const x = this.within(time), before = last.get(kind);
       if (before && x - before.x < TOGETHER && (value === undefined || Math.abs(y(value) - before.y) < TOGETHER)) {
         before.count += 1;
-        before.title.text(`${before.name}, and ${before.count} more`);
         continue;
       }
       const at = value === undefined ? to - MARK - 1 : Math.max(from, y(value)), path = this.marks.append(kind === 'again' ? 'circle' : 'path').attr('class', kind);
       if (kind === 'timeout') path.attr('d', `M${x} ${from}V${to}`);
       else if (kind === 'again') path.attr('cx', x).attr('cy', at).attr('r', MARK + 1).attr('fill', 'none');
-      else path.attr('d', `M${x} ${at}${SIGNS[kind] || SIGNS.full}`);
-      last.set(kind, {x, y: at, name, count: 0, title: path.append('title').text(name)});
+      else for (const each of [this.marks.insert('path', 'path:last-child').attr('class', 'halo'), path]) each.attr('d', `M${x} ${at}${SIGNS[kind] || SIGNS.full}`);
+      last.set(kind, {x, y: at, name, count: 0, title: path.append('title')});
+      made.push(last.get(kind));
     }
+    for (const {title, name, count} of made) title.text(count ? `${name}, and ${count} more` : name);
   }
-  // What bands and marks mean, beside the title, as far as there is room.
+  // What bands and marks mean: beside the title, and below it in as many rows as leave room for curves. Of the titles the longest with
+  // which the most has room, in the fewest rows.
   drawKey(key) {
     const words = JSON.stringify(key);
     if (words === this.keyed) return;           // as it was
     this.keyed = words;
     this.key.selectAll('*').remove();
-    const y = this.top - 5, texts = key.map(([, words]) => this.key.append('text').attr('class', 'key').attr('y', y).text(words));
-    const widths = texts.map(text => text.node().getComputedTextLength());
-    this.chooseTitle(key.length ? d3.sum(widths, wide => wide + KEY_SIGN) + CHART.right + CHART.apart : 0);
-    let x = this.wide - CHART.right;
-    key.forEach(([kind, , colour], k) => {
-      const at = x - widths[k] - 9;
-      if (at - 8 < this.titleWide + CHART.apart) { texts.splice(k).forEach(text => text.remove()); x = -Infinity; return; }
-      texts[k].attr('x', x - widths[k]);
-      if (['stall', 'recovery', 'flow'].includes(kind)) this.key.append('rect').attr('class', kind).attr('fill', colour || null).attr('x', at - 4).attr('y', y - 9).attr('width', 10).attr('height', 10);
-      else if (kind === 'again') this.key.append('circle').attr('class', kind).attr('cx', at).attr('cy', y - 4).attr('r', MARK).attr('fill', 'none');
-      else this.key.append('path').attr('class', kind).attr('d', kind === 'timeout' ? `M${at} ${y - 10}v11` : `M${at} ${y - 4}${SIGNS[kind] || SIGNS.full}`);
-      x -= widths[k] + KEY_SIGN;
+    const texts = key.map(([, words]) => this.key.append('text').attr('class', 'key').text(words)), row = ROW_OF_KEY * this.letters;
+    const widths = texts.map(text => this.widthOf(text)), room = this.wide - CHART.right, most = 1 + Math.max(0, Math.floor((this.tall - this.head - this.bottom - LEAST_OF_CURVES * this.letters) / row));
+    const made = this.titles.filter(([, wide], k) => wide <= this.wide - 6 || k === this.titles.length - 1).map(([title, wide]) => ({title, rows: rowsOfKey(widths, room - wide - CHART.apart, room)}));
+    const cost = ({rows}) => rows.slice(most).flat().length * 100 + rows.length, {title, rows} = made.reduce((best, one) => cost(one) < cost(best) ? one : best);
+    this.title.text(title);
+    rows.forEach((ones, r) => {
+      let x = room;
+      for (const k of ones) {
+        if (r >= most) { texts[k].remove(); continue; }
+        this.drawSign(key[k], texts[k], x - widths[k], this.head - 5 + r * row);
+        x -= widths[k] + KEY_SIGN;
+      }
     });
+    this.layTop(this.head + (Math.min(most, rows.length) - 1) * row);
+  }
+  // A sign before its words.
+  drawSign([kind, , colour], text, x, y) {
+    const at = x - 9;
+    text.attr('x', x).attr('y', y);
+    if (['stall', 'recovery', 'flow'].includes(kind)) this.key.append('rect').attr('class', kind).attr('fill', colour || null).attr('x', at - 4).attr('y', y - 9).attr('width', 10).attr('height', 10);
+    else if (kind === 'again') this.key.append('circle').attr('class', kind).attr('cx', at).attr('cy', y - 4).attr('r', MARK).attr('fill', 'none');
+    else this.key.append('path').attr('class', kind).attr('d', kind === 'timeout' ? `M${at} ${y - 10}v11` : `M${at} ${y - 4}${SIGNS[kind] || SIGNS.full}`);
   }
   mark(time) {
     this.time = time;
     const x = this.within(time).toFixed(1);
-    this.present.style.transform = `translateX(${x * this.shown / this.wide}px)`;
+    this.present.style.transform = `translateX(${x * this.box.width / this.wide}px)`;
     this.present.dataset.time = time;
   }
 }

@@ -46,7 +46,7 @@ class CriticalPath {
       return step;
     }
     if (kind === 'delack') return waited({kind: DELAY}, receiver, record.delayedSince(event));
-    const link = words[3] - 1, track = record.tracks[link], k = words[4] - 1 - track.sentBefore, entry = track.sent[k], cause = record.offeredBy(track, entry);
+    const link = words[3] - 1, track = record.tracks[link], k = words[4] - 1 - track.sentBefore, entry = track.entryOf(k), cause = record.offeredBy(track, entry);
     if (cause === undefined) return {event, cause};
     const {name: at, delay} = facts.links[link], begun = track.begun(k), sent = time - delay, what = {link, entry, k};
     const waits = this.waits(track, k, track.entered(entry)).map(wait => ({part: {kind: QUEUE, at, behind: facts.flows[wait.flow].name}, ...wait, ...what}));
@@ -65,7 +65,7 @@ class CriticalPath {
   waits(track, k, since) {
     const found = [];
     for (let until = track.begun(k), j = k - 1; until > since; j--) {
-      const begin = Math.max(track.begun(j), since), flow = track.flow[track.sent[j]];
+      const begin = Math.max(track.begun(j), since), flow = track.flow[track.entryOf(j)];
       if (found.length && found[0].flow === flow) found[0].begin = begin; else found.unshift({flow, begin, end: until});
       until = begin;
     }

@@ -43,11 +43,13 @@ function inLines(words, most, font) {
   return lines;
 }
 
-function textWidth(text, font) {
-  const canvas = textWidth.canvas || (textWidth.canvas = document.createElement('canvas').getContext('2d'));
+// What words take. An element that were asked for it would have the browser lay out the page.
+function measured(text, font) {
+  const canvas = measured.canvas || (measured.canvas = document.createElement('canvas').getContext('2d'));
   canvas.font = font;
-  return canvas.measureText(text).width;
+  return canvas.measureText(text);
 }
+function textWidth(text, font) { return measured(text, font).width; }
 
 // The column of each node: one more than that of the node before it on a flow's way of data, or behind it
 // on a way of acknowledgements. A link that would lead back to an earlier node counts for nothing.
@@ -262,7 +264,7 @@ class Layout {
   scale(panelWide, panelTall) {
     const {least: length} = this;
     this.nameSize = NAME_SIZE;
-    this.fit(panelWide, panelTall, length);
+    this.needs = this.fit(panelWide, panelTall, length);
     // Names of a net that is drawn small are larger beside all else.
     const least = LEAST_NAME / (this.wide ? panelWide / this.wide : 1);
     if (least > NAME_SIZE) {
@@ -271,7 +273,8 @@ class Layout {
     }
   }
 
-  // The widths of nodes and columns, the gaps between these, and how large all is drawn, as `wide` and `tall` say.
+  // The widths of nodes and columns, the gaps between these, and how large all is drawn, as `wide` and `tall` say. Answers the width and
+  // height that it takes to be drawn in its own size.
   fit(panelWide, panelTall, length) {
     const {facts, tracks, column, sizes} = this;
     this.nodeWide = facts.nodes.map((node, n) => {
@@ -285,11 +288,12 @@ class Layout {
       tracks.every(t => t.stub || !(column[t.a] <= c && column[t.b] > c)) ? sizes.stub.length : length);
     const least = d3.sum(this.columnWide) + d3.sum(gaps) + 2 * sizes.edge;
     const [top, bottom] = this.reach();
-    const scale = Math.min(panelTall / Math.max(LEAST_ROWS * this.row, bottom - top), panelWide / least);
+    const high = Math.max(LEAST_ROWS * this.row, bottom - top), scale = Math.min(panelTall / high, panelWide / least);
     this.wide = panelWide / scale; this.tall = panelTall / scale;
     const more = this.wide - least, share = d3.sum(gaps, gap => gap === length ? 1 : 0) || gaps.length;
     this.gaps = gaps.map(gap => gap + (gap === length || share === gaps.length ? more / share : 0));
     this.pixels = scale;
+    return [Math.ceil(least), Math.ceil(high)];
   }
 
   // From where to where all reaches, with the counts at stubs, from the top of the rows.

@@ -3,9 +3,11 @@
 // drops that fall. What is drawn says its numbers in data- attributes.
 
 const NAMES_WIDE = [94, 130];           // units of a name's line on a slide with a long net, whichever makes it larger
-const DECK = 4, MOST_IN_A_DECK = 5;    // how far apart drops of one event lie
+const DECK = 9, MOST_IN_A_DECK = 5;    // how far apart drops of one event lie
+const CROSS = 'm-4-3l1-1 3 3 3-3 1 1-3 3 3 3-1 1-3-3-3 3-1-1 3-3z';       // a drop's mark, 8 units wide
 // Of a queue: squares at least, and what it takes of its link besides these and its count, and besides its count alone.
 const LEAST_BOXES = 4, QUEUE_ROOM = 20, APART_ROOM = 8;
+const EDGE_OF_ROOM = 80;                // pixels that are shown beside a node to which the room scrolls
 const MOST_BOXES = 30, MOST_ON_A_LINK = 240, MOST_FALLING = 12;
 // Packets carry their flow's mark besides its colour.
 const colourOf = flow => `var(--flow-${flow % LOOKS.flows})`, inkOf = flow => `var(--on-flow-${flow % LOOKS.flows})`;
@@ -33,24 +35,26 @@ function isSmall(layout) { return LETTERS * layout.pixels < (isSlide() ? SLIDE_L
 class Net {
   // `fold` says whether ends are stubs; where it is not given they are in a net of many, and where its letters were small.
   constructor(svg, record, show, fold) {
-    this.record = record; this.facts = record.facts; this.show = show;
+    this.show = show;
     svg.selectAll('*').remove();
-    this.reasonWide = this.widestReason();
-    this.countsWide = this.facts.links.map((_, l) => this.widestCount(l));
-    const box = svg.node().getBoundingClientRect(), layoutOf = stubs => this.layoutIn(box.width || 1264, box.height || 340, stubs);
+    this.take(record);
+    const room = this.room = svg.node().parentNode;
+    room.classList.remove('larger');
+    svg.style('width', null).style('height', null);
+    const {clientWidth, clientHeight} = room, layoutOf = stubs => this.layoutIn(clientWidth || 1264, clientHeight || 340, stubs);
     let layout = layoutOf(false);
     this.canFold = layout.rows > MOST_ROWS || isSmall(layout);
     if (fold === undefined ? this.canFold : fold) layout = layoutOf(true);
     this.folded = layout.stubs;
-    Object.assign(this, {places: layout.places, tracks: layout.tracks, row: layout.row, nameSize: layout.nameSize, sizes: layout.sizes, pixels: layout.pixels});
+    layout = this.readable(layout, svg);
+    Object.assign(this, {places: layout.places, tracks: layout.tracks, row: layout.row, nameSize: layout.nameSize, sizes: layout.sizes, pixels: layout.pixels, needs: layout.needs});
     this.svg = svg.attr('viewBox', `0 0 ${layout.wide} ${layout.tall}`);
     this.world = this.svg.append('g').attr('class', 'world');
-    this.svg.call(d3.behavior.zoom().scaleExtent([0.5, 40]).on('zoom', () =>
+    if (this.larger) this.svg.on('.zoom', null); else this.svg.call(d3.behavior.zoom().scaleExtent([0.5, 40]).on('zoom', () =>
       this.world.attr('transform', `translate(${d3.event.translate}) scale(${d3.event.scale})`)))
       .on('dblclick.zoom', null);
     this.lines = [];
     for (const track of this.tracks) for (const l of track.links) this.lines[l] = this.lineOf(track, l);
-    this.everUsed = this.facts.links.map((_, l) => record.longest[l] > 0);
     this.drawLinks(); this.drawNodes();
     this.moving = this.world.append('g').attr('class', 'moving').node();
     this.falling = this.world.append('g').attr('class', 'falling').node();
@@ -58,6 +62,30 @@ class Net {
     this.drawn = new Map();       // packets under way that have an element
   }
 
+  // What of a run says where all stands.
+  take(record) {
+    this.record = record; this.facts = record.facts;
+    this.reasonWide = this.widestReason();
+    this.countsWide = this.facts.links.map((_, l) => this.widestCount(l));
+    const {nodes, links, flows, ways} = this.facts;
+    return this.stands = JSON.stringify([nodes, links.map(({name, from, to, rate, delay}) => [name, from, to, rate, delay]),
+      flows.map(({name, sender, receiver}) => [name, sender, receiver]), ways, this.reasonWide, this.countsWide]);
+  }
+  // Another run takes this one's place, whose room is the same; answers whether it can, as all stands where it stood.
+  replace(record) {
+    const {stands, facts: {links}} = this;
+    if (this.take(record) !== stands || !this.isSeen) return false;
+    this.moving.textContent = this.falling.textContent = '';
+    this.fallen.clear(); this.drawn.clear(); this.follow(null);
+    for (const track of this.tracks) for (const l of track.links) {
+      if (this.facts.links[l].limit === links[l].limit) { this.queues[l].replace(record); continue; }
+      this.queues[l].group.remove();
+      this.lines[l] = this.lineOf(track, l);
+      this.drawQueue(l);
+    }
+    for (const {sender} of this.facts.flows) this.nodes[sender].dataset.una = '';
+    return true;
+  }
   // Where all stands in a panel of this size, with its ends as stubs or whole.
   layoutIn(panelWide, panelTall, stubs) {
     const {facts, reasonWide, countsWide} = this, made = sizes => new Layout(facts, panelWide, panelTall, track => Math.max(
@@ -66,6 +94,26 @@ class Net {
     if (!isSmall(first)) return first;
     const others = [ON_SLIDE, ...NAMES_WIDE.map(mostName => ({...ON_LONG_SLIDE, mostName}))].map(sizes => made(sizesFor(sizes, marks)));
     return [first, ...others].reduce((best, one) => one.pixels > best.pixels ? one : best);
+  }
+  // A layout whose letters would be smaller than a page's is made anew as large as they need it: then the net is larger than its room.
+  readable(layout, svg) {
+    const {room, facts} = this;
+    this.isSeen = room.clientWidth > 0;
+    this.larger = this.isSeen && LETTERS * layout.pixels < PAGE_LETTERS - 1e-6;
+    if (!this.larger) return layout;
+    const [wide, tall] = layout.needs, {sizes, leastLength, stubs} = layout;
+    // A scroll bar takes its room from the other way.
+    room.classList.add('larger');
+    svg.style('width', `${wide}px`).style('height', `${tall}px`);
+    const made = [Math.max(wide, room.clientWidth), Math.max(tall, room.clientHeight)];
+    svg.style('width', `${made[0]}px`).style('height', `${made[1]}px`);
+    return new Layout(facts, ...made, leastLength, stubs, sizes);
+  }
+  // Scrolls to a node where it is not in sight.
+  reveal(n) {
+    if (!this.larger || !this.nodes[n]) return;
+    const {room} = this, node = this.nodes[n].getBoundingClientRect(), seen = room.getBoundingClientRect(), by = (low, high, from, to) => low < from ? low - from - EDGE_OF_ROOM : high > to ? high - to + EDGE_OF_ROOM : 0;
+    room.scrollBy(by(node.left, node.right, seen.left, seen.right), by(node.top, node.bottom, seen.top, seen.bottom));
   }
   // How large it would be drawn in such a panel.
   pixelsIn(panelWide, panelTall) { return this.layoutIn(panelWide, panelTall, this.folded).pixels; }
@@ -147,9 +195,10 @@ class Net {
         .attr('y', y - (track.name.length - 1 - k) * MORE_NAME)
         .attr('text-anchor', track.inside ? 'start' : 'middle').text(line));
     }
-    this.queues = this.facts.links.map((_, l) =>
-      new QueueView(this.groups[l], this.record, l, this.lines[l], this.everUsed[l], this.show, this.sizes));
+    this.queues = [];
+    this.facts.links.forEach((_, l) => this.drawQueue(l));
   }
+  drawQueue(l) { this.queues[l] = new QueueView(this.groups[l], this.record, l, this.lines[l], this.record.longest[l] > 0, this.show, this.sizes); }
 
   drawNodes() {
     const groups = this.world.selectAll('g.node').data(this.facts.nodes).enter().append('g')
@@ -215,7 +264,7 @@ class Net {
     this.followed.classList.add('on-path');
   }
   newPacket(l, k) {
-    const track = this.record.tracks[l], packet = this.record.packet(l, track.sent[k]);
+    const track = this.record.tracks[l], packet = this.record.packet(l, track.entryOf(k));
     const element = this.shape(packet);
     Object.assign(element.dataset, {link: l, flow: packet.flow, sort: packet.sort === DATA ? 'data' : 'ack',
       number: packet.number, count: k + track.sentBefore + 1, begun: track.begun(k), arrives: track.arrives(k),
@@ -256,7 +305,7 @@ class Net {
     });
   }
 
-  // The drops of the present event and of those shortly before it, red, each with its reason.
+  // The drops of the present event and of those shortly before it, each crossed out, with its reason.
   drawDrops(time, fall) {
     const drops = this.record.drops, at = this.record.at;
     let k = d3.bisector(drop => drop.event).right(drops, at) - 1, last = null;
@@ -283,15 +332,15 @@ class Net {
   }
   // A drop's words; where there is no room for all of them, why it was dropped alone.
   reasonAt(drop, count) {
-    const words = reasonOf(this.facts, drop, count), {room} = this.lines[drop.link];
-    return this.sizes.counts === 'beside' || 2 * this.sizes.reason + textWidth(words, 'bold 12px sans-serif') <= room ? words :
+    const words = reasonOf(this.facts, drop, count), {room} = this.lines[drop.link], deck = DECK * Math.min(count - 1, MOST_IN_A_DECK);
+    return this.sizes.counts === 'beside' || 2 * this.sizes.reason + deck + textWidth(words, 'bold 12px sans-serif') <= room ? words :
       `\u2715 ${drop.reason}${count > 1 ? ` +${count - 1}` : ''}`;
   }
   // Drops of one event at one link lie as a deck; the last has the words of all.
   dropShape(drop, rank, count, sign) {
-    const group = this.shape(drop);
+    const group = this.shape(drop), [wide, tall] = this.sizes.square;
     group.setAttribute('class', 'drop');
-    group.querySelector('text').style.fill = '#000';
+    d3.select(group).append('path').attr('class', 'cross').attr('d', `M${-sign * wide / 2} ${-tall / 2}${CROSS}`);
     Object.assign(group.dataset, {link: drop.link, flow: drop.flow, number: drop.number, reason: drop.reason,
       event: drop.event, count});
     if (rank === count - 1)

@@ -13,7 +13,8 @@ function rowsOf(line, letters) {
 }
 
 function whereText(event, last, time) { return `event ${number(event)} of ${number(last)}   ${seconds(time)}`; }
-const PLAY = ['▶ play', '❚❚ pause'], LEAST_FONT = 12;
+const EVENT_AFTER = 100;                // ms: while it plays, its events are read no faster
+const PLAY = ['▶ play', '❚❚ pause'], LEAST_FONT = 12, LEAST_LINES = 6;
 
 // Takes smaller letters, down to LEAST_FONT, until an element's words have room in it.
 function fit(element) {
@@ -24,16 +25,29 @@ function fit(element) {
 }
 
 class Page {
-  // Shows a record in the elements of view.html, until `end`. A page around it that has an address of its own is `told` where
-  // this one is; `causes` says where a stall's cause is found, and `openTime` shows where the time went, or what was before.
-  constructor(record, {told = null, causes = 'tcpsim-stalls says why', openTime = () => this.toggleTime()} = {}) {
+  // Shows a record in the elements of view.html, until `end`: part by part, between which the browser answers and draws. Answers the page,
+  // or null where it is no more `wanted` before all is there. `choose` is given the panels, `fold` is as makeNet has it.
+  static async of(record, {wanted = () => true, choose = () => {}, fold, ...around} = {}) {
+    const page = new Page(record, around);
+    choose(page.panels);
+    for (const _ of page.parts(fold)) if (await pause(), !wanted()) { page.end(); return null; }
+    return page;
+  }
+  // A page around it that has an address of its own is `told` where this one is, and has `moved` to each event that is drawn; `causes`
+  // answers where a stall's cause is found, and `openTime` shows where the time went, or what was before.
+  constructor(record, {told = null, moved = () => {}, causes = () => 'tcpsim-stalls says why', openTime = () => this.toggleTime()} = {}) {
     this.ended = new AbortController();
-    Object.assign(this, {told, causes, openTime, went: null, record, facts: record.facts, time: record.times[0], playing: false, picked: null, frames: 0});
+    Object.assign(this, {told, moved, causes, openTime, went: null, record, facts: record.facts, time: record.times[0], playing: false, picked: null, frames: 0});
     this.sayLeft();
     this.panels = new Panels(record, time => this.goTo(time));
-    this.keepRoom();
-    this.makeNet();
-    this.panels.make(); this.makeLines(); this.makeControls();
+  }
+  *parts(fold) {
+    this.panels.layBar();
+    yield this.keepRoom();
+    yield this.makeNet(fold);
+    yield* this.panels.parts();
+    yield this.makeLines();
+    this.makeControls();
     this.fromAddress();
     this.onWindow('hashchange', () => this.fromAddress());
     this.onWindow('keydown', event => this.key(event));
@@ -42,13 +56,16 @@ class Page {
   makeNet(fold) {
     this.folds = fold;
     this.net = new Net(d3.select('#net'), this.record, what => this.pick(what), fold);
-    document.getElementById('fold').hidden = !this.net.canFold;
+    const button = document.getElementById('fold');
+    button.hidden = !this.net.canFold;
+    button.setAttribute('aria-pressed', this.net.folded);
   }
   // Lays all out anew, in the room that there is now.
   lay() {
     this.keepRoom();
     this.makeNet(this.folds);
     this.panels.make();
+    if (this.went) this.went.layParts();
     this.measure();
     this.show();
   }
@@ -59,10 +76,11 @@ class Page {
     if (timed) this.toggleTime();
     Object.assign(this, {record, facts: record.facts, picked: null});
     this.sayLeft();
-    this.makeNet(this.folds);
+    if (!this.net.replace(record)) this.makeNet(this.folds);
     this.panels.replace(record);
-    this.measure();
-    this.goTo(Math.min(this.time, record.times[record.count]));
+    record.go(record.eventsBefore(Math.round(Math.min(this.time, record.times[record.count]))));
+    this.time = Math.max(Math.min(this.time, record.times[record.count]), record.timeOf(record.at));
+    this.show();
     if (timed) this.toggleTime();
   }
   // Where the time of a flow went, in the place of the curves, and back.
@@ -103,6 +121,7 @@ class Page {
       element.textContent = now;
     };
     room('where', whereText(record.last, record.last, record.times[record.count]));
+    document.getElementById('under').style.setProperty('--where', `${document.getElementById('where').offsetWidth}px`);
     room('play', ...PLAY);
     room('pace', '0.001 ×', '10000 a second');
     fit(document.getElementById('under'));
@@ -119,7 +138,7 @@ class Page {
   // The moment `time`, as `until` of the debugger goes there: events before it are done.
   goTo(time) {
     this.record.go(this.record.eventsBefore(Math.round(time)));
-    this.time = Math.max(time, this.record.timeOf(this.record.at));
+    this.time = Math.max(Math.min(time, this.record.times[this.record.count]), this.record.timeOf(this.record.at));
     this.show();
   }
   fromAddress() {
@@ -139,9 +158,16 @@ class Page {
 
   show() {
     this.draw();
+    if (!this.playing && this.record.at > this.record.first) this.net.reveal(+this.record.line(this.record.at).split(' ')[2]);
     this.address();
+    this.drawEvent();
+  }
+  // Clock, marked line and words, which are of one event whenever the page is seen.
+  drawEvent() {
+    this.drawWhere();
     this.drawLines();
-    if (!this.playing) this.drawWords();
+    this.drawWords();
+    this.moved(this.record.at);
   }
   draw() {
     const record = this.record;
@@ -149,10 +175,12 @@ class Page {
     this.net.follow(this.went && this.went.at(this.time));
     if (this.went) this.went.mark(this.time);
     this.panels.mark(this.time);
-    const where = document.getElementById('where');
-    where.textContent = whereText(record.at, record.last, this.time);
-    where.dataset.event = record.at;
-    document.documentElement.dataset.event = record.at;
+    if (!this.playing) this.drawWhere();
+  }
+  drawWhere() {
+    const {record: {at, last}} = this, where = document.getElementById('where');
+    where.textContent = whereText(at, last, this.time);
+    document.documentElement.dataset.event = where.dataset.event = at;
   }
   // A drop is seen to fall for 0.9 s of the reader's time.
   fallTime() {
@@ -165,10 +193,15 @@ class Page {
     this.list = document.getElementById('lines');
     this.columns = widthsOf(this.record);
     this.measure = () => {
-      this.fit = Math.min(41, Math.max(3, Math.floor((this.list.clientHeight - 4) / 16)));
       // Where the lines are not shown, as in a slide, their list has no width.
       this.letters = Math.max(1, Math.floor((this.list.clientWidth - 14) / textWidth('0', getComputedStyle(this.list).font)));
+      // Few lines have no heads above them.
+      const room = Math.floor((this.list.clientHeight - 4) / 16), most = room - rowsOf(heads.textContent, this.letters);
+      heads.hidden = most < LEAST_LINES;
+      this.fit = Math.min(41, Math.max(3, heads.hidden ? room : most));
     };
+    const heads = Object.assign(document.createElement('li'), {className: 'heads', textContent: inColumns(this.columns, HEADS)});
+    this.list.append(heads);
     this.measure();
     this.onWindow('resize', () => { this.measure(); this.panels.resize(); this.show(); });
     this.rows = d3.range(41).map(() => {
@@ -199,7 +232,7 @@ class Page {
       if (row.hidden === shown) row.hidden = !shown;
       if (!shown) { row.removeAttribute('data-event'); row.className = ''; return; }
       const line = record.line(event);
-      if (row.dataset.event !== String(event)) { row.textContent = readably(event); row.title = line; row.dataset.event = event; }
+      if (row.dataset.event !== String(event) || row.title !== line) { row.textContent = readably(event); row.title = line; row.dataset.event = event; }
       const look = (event === record.at ? 'present' : '') + (line.includes(' drop=') ? ' dropping' : '');
       if (row.className !== look) row.className = look;
       if (event === record.at) row.setAttribute('aria-current', 'true'); else row.removeAttribute('aria-current');
@@ -241,15 +274,15 @@ class Page {
     const event = what.event !== undefined ? what.event : this.record.at;
     const commands = document.createElement('p');
     const moment = this.record.timeOf(Math.min(this.record.last, Math.max(this.record.first, event)));
-    commands.append('tcpsim debug: ', code(`step ${event}`), ' to just after it, ', code(`until ${moment}`),
-      ' to before its moment');
+    commands.append('In the debugger ', code(`step ${event}`), ' leads just behind it, ', code(`until ${moment}`), ' just before its moment.');
     box.append(commands, table);
     fit(box);
     box.dataset.event = event;
   }
   lineRows(event) {
     if (event <= this.record.first) return [['', event ? `before the page's first line: ${number(event)} events were run` : 'before the first event', '']];
-    return explainLine(this.facts, this.record.line(event), this.before(event));
+    const line = this.record.line(event);
+    return explainLine(this.facts, line, line.includes(' ack ') ? this.before(event) : null);
   }
   // The sender's state before an event, for the words of an acknowledgement.
   before(event) {
@@ -331,8 +364,8 @@ class Page {
     this.jump(way > 0 ? d3.min(events) : d3.max(events));
     if (what === 'stall') {
       const stalls = this.record.stalls.filter(stall => stall.event === this.record.at);
-      this.say(stalls.map(stall => `${this.facts.flows[stall.flow].name}: no new acknowledgement for ${seconds(stall.to - stall.from)}`).join('; ') +
-        ` (${this.causes})`);
+      this.say(stalls.map(stall => `${this.facts.flows[stall.flow].name}: no new acknowledgement for ${seconds(stall.to - stall.from, isSlide() ? 3 : 6)}`).join('; ') +
+        ` (${this.causes()})`);
     }
   }
   nextPart(way) {
@@ -350,14 +383,15 @@ class Page {
     if (on && this.record.at === this.record.last) this.goEvent(this.record.first);
     this.playing = on;
     document.getElementById('play').textContent = PLAY[+on];
+    document.getElementById('words').setAttribute('aria-live', on ? 'off' : 'polite');
     if (!on) { this.show(); return; }
     this.picked = null; this.say('');
-    this.then = null; this.carry = 0;
+    this.then = null; this.carry = this.due = 0;
     requestAnimationFrame(now => this.frame(now));
   }
   frame(now) {
     if (!this.playing) return;
-    const passed = this.then === null ? 0 : Math.min(100, now - this.then), record = this.record;
+    const passed = this.then === null ? 0 : Math.min(100, now - this.then), {record} = this;
     this.then = now; this.frames += 1;
     if (this.unit.value === 'time') {
       this.time += passed * 1e6 * this.pace();
@@ -372,8 +406,8 @@ class Page {
     }
     if (record.at === record.last) { this.time = record.timeOf(record.last); this.play(false); return; }
     this.draw();
-    if (this.frames % 6 === 0) this.drawLines();
-    if (this.frames % 20 === 0) { this.address(); this.drawWords(); }
+    if (now >= this.due) { this.due = now + EVENT_AFTER; this.drawEvent(); }
+    if (this.frames % 20 === 0) this.address();
     requestAnimationFrame(then => this.frame(then));
   }
 }

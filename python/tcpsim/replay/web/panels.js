@@ -15,10 +15,10 @@ const flowName = (record, f) => record.facts.flows[f].name;
 // The packets of a flow that left a link's end up to the run's last event, in order, by what each is given.
 function arrivals(record, link, flow, sort) {
   const track = record.tracks[link], end = record.times[record.count], found = {times: [], values: []};
-  track.sent.forEach((entry, k) => {
-    if (track.flow[entry] !== flow || track.sort[entry] !== sort || track.arrives(k) > end) return;
+  for (let k = 0, entry; k < track.gone; k++) {
+    if (track.flow[entry = track.entryOf(k)] !== flow || track.sort[entry] !== sort || track.arrives(k) > end) continue;
     found.times.push(track.arrives(k)); found.values.push(track.number(entry));
-  });
+  }
   return found;
 }
 // What is acknowledged of a flow, by the acknowledgements that its sender has.
@@ -48,23 +48,23 @@ function timeoutMarks(record, f) {
   return record.timeouts.filter(event => +record.line(event).split(' ')[6] === f).map(event => ({kind: 'timeout', time: record.timeOf(event),
     name: `${flowName(record, f)}: the retransmission timer ends`}));
 }
-// Spans in which a flow is in recovery, or stalls. Those of several flows have a part of the panel's height each.
+// Spans in which a flow is in recovery, or stalls; in a panel of several flows they say whose they are.
 function spansOf(record, f, place = {}) {
   const {times, values} = record.curve(record.ofFlow(f, RECOVERY)), end = record.times[record.count], name = flowName(record, f);
-  const recoveries = times.flatMap((from, k) => values[k] ? [{kind: 'recovery', from, to: k + 1 < times.length ? times[k + 1] : end, name: `${name}: recovery`, ...place}] : []);
+  const recoveries = Array.from(times).flatMap((from, k) => values[k] ? [{kind: 'recovery', from, to: k + 1 < times.length ? times[k + 1] : end, name: `${name}: recovery`, ...place}] : []);
   return [...record.stalls.filter(({flow}) => flow === f).map(({from, to}) => ({kind: 'stall', from, to, name: `${name}: no new acknowledgement for ${seconds(to - from)}`, ...place})), ...recoveries];
 }
 // When each packet that entered a queue left it: for its link, or dropped at the head.
 function leavings(record, l) {
   const track = record.tracks[l], left = new Float64Array(track.flow.length).fill(Infinity), heads = record.drops.filter(({link, reason}) => link === l && !['full', 'lost'].includes(reason));
-  track.sent.forEach((entry, k) => { left[entry] = track.begun(k); });
+  for (let k = 0; k < track.gone; k++) left[track.entryOf(k)] = track.begun(k);
   for (let entry = 0, k = 0; k < heads.length && entry < left.length; entry++) if (left[entry] === Infinity) left[entry] = heads[k++].time;
   return left;
 }
 // How many packets of each flow wait in a queue, stacked: of each column of the picture the moment at which most wait.
 function stacked(record, l, x) {
   const track = record.tracks[l], left = leavings(record, l), now = record.facts.flows.map(() => 0), areas = now.map(() => []), end = record.times[record.count];
-  const [begin, last] = x.domain(), [from, to] = x.range(), across = (to - from) / (last - begin);
+  const [begin, last] = x.domain(), [from, right] = x.range(), across = (right - from) / (last - begin), to = Math.min(right, Math.ceil(x(end)));
   let waiting = 0, column = Math.floor(from), peak = -1, counts = null;
   const keep = () => { if (waiting > peak) { peak = waiting; counts = now.slice(); } };
   const close = next => {
@@ -76,14 +76,15 @@ function stacked(record, l, x) {
     }
     peak = -1;
   };
-  for (let entry = 0, out = 0; out < left.length;) {
+  for (let entry = 0, out = 0, comes = track.many ? track.entered(0) : Infinity; out < track.many;) {
     // At the same moment one leaves before another enters, but for one that does not wait.
-    const enters = entry < left.length && (entry === out || track.entered(entry) < left[out]), time = enters ? track.entered(entry) : left[out];
+    const enters = entry === out || comes < left[out], time = enters ? comes : left[out];
     if (time > end) break;
-    const next = Math.floor(from + (time - begin) * across), f = track.flow[enters ? entry++ : out++];
+    const next = Math.floor(from + (time - begin) * across);
     if (next !== column) close(next);
     if (!enters) keep();
-    now[f] += enters ? 1 : -1; waiting += enters ? 1 : -1;
+    now[track.flow[enters ? entry++ : out++]] += enters ? 1 : -1; waiting += enters ? 1 : -1;
+    if (enters) comes = entry < track.many ? track.entered(entry) : Infinity;
   }
   close(to);
   return areas;
@@ -102,18 +103,18 @@ const windowOf = (record, f) => [[CWND, 'cwnd'], [SSTHRESH, 'ssthresh']].map(([w
   colour: colourOf(f), thin: what === SSTHRESH, dash: dashOf(f), name: `${name} of ${flowName(record, f)}`}));
 const lossesOf = (record, f) => [...timeoutMarks(record, f), ...dropMarks(record, ({flow, sort}) => flow === f && sort === DATA)];
 const PANELS = {
-  windows: {says: 'windows', of: 'flows', titles: [`${LOOKS.panels.window}: cwnd (thick), ssthresh (thin), bytes`, 'cwnd (thick), ssthresh (thin), bytes', 'cwnd, ssthresh, bytes'],
+  windows: {says: 'windows', of: 'flows', titles: [`${LOOKS.panels.window}: cwnd (thick), ssthresh (thin), bytes`, 'cwnd (thick), ssthresh (thin), bytes', 'cwnd thick, ssthresh thin'],
     lanes: (record, flows) => flows.length > 2 ? flows.map(f => ({name: flowName(record, f), colour: colourOf(f), series: windowOf(record, f), bands: spansOf(record, f), marks: lossesOf(record, f)})) :
-      [{series: flows.flatMap(f => windowOf(record, f)), bands: flows.flatMap((f, lane) => spansOf(record, f, {lane, lanes: flows.length})), marks: flows.flatMap(f => lossesOf(record, f))}]},
+      [{series: flows.flatMap(f => windowOf(record, f)), bands: flows.flatMap(f => spansOf(record, f, flows.length > 1 ? {whose: {name: flowName(record, f), mark: markOf(record.facts, f), colour: colourOf(f)}} : {})), marks: flows.flatMap(f => lossesOf(record, f))}]},
   lengths: {says: 'queues', of: 'links', titles: [LOOKS.panels.queue, 'packets that wait'],
     lanes: (record, links, x) => links.map(l => ({name: record.facts.links[l].name, colour: linkColourOf(l), marks: dropMarks(record, ({link}) => link === l), series: [
       ...stacked(record, l, x).map((area, f) => ({area, most: 0, flow: f, colour: colourOf(f), name: `packets of ${flowName(record, f)} in the queue of ${record.facts.links[l].name}`})).filter(({area}) => area.length),
       {curve: record.queueCurve(l), colour: linkColourOf(l), outline: true, name: `queue of ${record.facts.links[l].name}`}]}))},
-  delays: {says: 'delay', of: 'links', whole: false, titles: [`${LOOKS.panels.delay}, ms`, 'delay of each packet, ms', 'delay, ms'], lanes: (record, links) => links.map(l => {
-    const track = record.tracks[l], of = record.facts.flows.map(() => ({times: [], values: []}));
-    track.sent.forEach((entry, k) => { const one = of[track.flow[entry]]; one.times.push(track.entered(entry)); one.values.push((track.begun(k) - track.entered(entry)) / 1e6); });
-    return {name: record.facts.links[l].name, colour: linkColourOf(l), marks: dropMarks(record, ({link}) => link === l), series: of.map((dots, f) => ({dots, curve: dots, flow: f, colour: colourOf(f),
-      name: `delay of packets of ${flowName(record, f)} at ${record.facts.links[l].name}`})).filter(({dots}) => dots.times.length)};
+  delays: {says: 'delay', of: 'links', hides: 'flows', whole: false, text: ns => ns ? waitText(ns) : '0', titles: [LOOKS.panels.delay, 'delay of each packet', 'delay'], lanes: (record, links, x, flows) => links.map(l => {
+    const track = record.tracks[l], of = record.facts.flows.map(() => ({times: [], values: []})), shown = new Set(flows);
+    for (let k = 0; k < track.gone; k++) { const entry = track.entryOf(k), one = of[track.flow[entry]]; one.times.push(track.entered(entry)); one.values.push(track.begun(k) - track.entered(entry)); }
+    return {name: record.facts.links[l].name, colour: linkColourOf(l), marks: dropMarks(record, ({link, flow}) => link === l && shown.has(flow)), series: of.map((dots, f) => ({dots, curve: dots, flow: f, colour: colourOf(f),
+      name: `delay of packets of ${flowName(record, f)} at ${record.facts.links[l].name}`})).filter(({dots, flow}) => dots.times.length && shown.has(flow))};
   })},
   sequence: {says: 'sequence numbers', of: 'flows', titles: [`${LOOKS.panels.sequence}: sent (dots), acknowledged (line), bytes`, `${LOOKS.panels.sequence}, bytes`], lanes: (record, flows) => flows.map(f => {
     const {all, again} = sent(record, f), name = flowName(record, f);
@@ -129,13 +130,13 @@ const PANELS = {
 function dashed(series, x) {
   const end = x.domain()[1], upTo = ({times, values}) => { const k = d3.bisectRight(times, end); return {times: times.slice(0, k), values: values.slice(0, k)}; };
   return series.filter(({dots, area, thin}) => !dots && !area && !thin)
-    .map(one => ({...one, curve: upTo(one.curve), dash: BEFORE, thin: true, outline: false, name: `${one.name}, before`}));
+    .map(one => ({...one, curve: upTo(one.curve), dash: BEFORE, thin: true, before: true, outline: false, name: `${one.name}, before`}));
 }
 
 class Panels {
   // `go` is given a moment that is clicked.
   constructor(record, go) {
-    Object.assign(this, {record, go, shown: ['windows', 'lengths'], charts: {}, first: {}});
+    Object.assign(this, {record, go, shown: ['windows', 'lengths'], charts: {}, first: {}, kept: {}});
     this.bar = document.getElementById('panel-bar');
     this.place = document.getElementById('charts');
     this.boxes = {};
@@ -167,7 +168,8 @@ class Panels {
       Object.assign(box, {type: 'checkbox', checked: ticked(k, place)});
       box.dataset.index = k;
       box.addEventListener('change', () => this.draw(id));
-      Object.assign(text, {textContent: name, className: 'dash', title: `${id === 'flows' ? 'flow' : 'link'} ${name}; pressed twice, it comes before the others`});
+      Object.assign(text, {textContent: name, className: 'dash'});
+      label.title = `shows or hides ${id === 'flows' ? 'flow' : 'link'} ${name} in the panels; pressed twice, the name comes before the others`;
       text.style.borderBottom = `3px ${lineStyle(k)} ${colour}`;
       text.addEventListener('dblclick', () => { this.first[id] = k; this.draw(id); });
       label.append(box, text);
@@ -184,29 +186,37 @@ class Panels {
   // A button for the names that are not shown at first.
   foldNames(place, count) {
     const button = document.createElement('button');
-    button.textContent = `${count} more`;
+    Object.assign(button, {textContent: `${count} more`, title: 'shows the boxes of all'});
     button.addEventListener('click', () => { place.querySelectorAll('label').forEach(label => { label.hidden = false; }); button.remove(); });
     place.append(button);
   }
-  // Shows these panels, each a name, or a name with those of the flows or links that it is about, which are ticked then.
-  choose(panels) {
+  // Shows these panels, each a name, or a name with those of the flows or links that it is about, which are ticked then; the first of them
+  // comes before the others.
+  choose(panels) { this.name(panels); this.make(); }
+  name(panels) {
     this.shown = panels.map(panel => {
       const [name, ...ones] = [panel].flat(), {of} = PANELS[name];
-      if (ones.length)
+      if (ones.length) {
         document.querySelectorAll(`#${of} input`).forEach(box => { box.checked = ones.includes(this.record.facts[of][+box.dataset.index].name); });
+        this.first[of] = this.record.facts[of].findIndex(one => one.name === ones[0]);
+      }
       return name;
     });
-    this.make();
   }
   // One more panel, or one less.
   toggle(name) {
     const others = this.shown.filter(one => one !== name);
     if (others.length === this.shown.length) this.choose([...this.shown, name]); else if (others.length) this.choose(others);
   }
-  // Makes the charts that are shown, in the room that there is.
-  make() {
+  // The buttons and boxes of what is shown, whose rows take room from the net.
+  layBar() {
     for (const button of document.querySelectorAll('#panels button')) button.setAttribute('aria-pressed', this.shown.includes(button.dataset.panel));
-    this.bar.dataset.of = [...new Set(this.shown.map(name => PANELS[name].of))].join(' ');
+    this.bar.dataset.of = [...new Set(this.shown.flatMap(name => [PANELS[name].of, PANELS[name].hides]).filter(Boolean))].join(' ');
+  }
+  // Makes the charts that are shown, in the room that there is, one after another.
+  make() { for (const _ of this.parts()); }
+  *parts() {
+    this.layBar();
     // As many as have room.
     const {clientWidth, clientHeight} = this.place, columns = Math.max(1, Math.floor((clientWidth + 8) / LEAST_WIDE));
     const seen = this.shown.slice(0, clientHeight ? columns * Math.max(1, Math.floor(clientHeight / LEAST_TALL)) : this.shown.length);
@@ -216,26 +226,36 @@ class Panels {
       if (before) before.remove();
       d3.select(box.firstChild).selectAll('*').remove();
     }
-    this.charts = Object.fromEntries(seen.map(name => [name, new Chart(d3.select(this.boxes[name].firstChild), this.record, PANELS[name].titles, this.go, PANELS[name].whole)]));
-    this.draw('flows');
-    this.draw('links');
+    this.charts = {};
+    for (const name of seen) {
+      this.charts[name] = new Chart(d3.select(this.boxes[name].firstChild), this.record, PANELS[name].titles, this.go, PANELS[name]);
+      yield yield* this.drawing(name);
+    }
   }
   // Another run of the same net: the curves of the one before lie behind, dashed.
   replace(record) {
     Object.assign(this, {before: this.record, record});
     for (const chart of Object.values(this.charts)) chart.replace(record);
-    this.draw('flows');
-    this.draw('links');
+    this.draw();
   }
-  // Draws the panels of flows, or those of links, anew.
-  draw(of) {
-    for (const [name, chart] of Object.entries(this.charts)) {
-      if (PANELS[name].of !== of) continue;
-      const lanes = PANELS[name].lanes(this.record, this.ticked[of](), chart.x);
-      if (this.before) PANELS[name].lanes(this.before, this.ticked[of](), chart.x).forEach((lane, k) => lanes[k].series.unshift(...dashed(lane.series, chart.x)));
-      chart.show(lanes, keyOf(lanes, this.record));
-      if (this.time !== undefined) chart.mark(this.time);
+  // Draws the panels anew, or those that the boxes of flows, or of links, are about.
+  draw(boxes) {
+    for (const name of Object.keys(this.charts)) {
+      const {of, hides} = PANELS[name];
+      if (!boxes || boxes === of || boxes === hides) for (const _ of this.drawing(name));
     }
+  }
+  *drawing(name) {
+    const chart = this.charts[name], {of, hides, lanes: made} = PANELS[name], ticked = [this.ticked[of](), chart.x, hides && this.ticked[hides]()];
+    const lanes = made(this.record, ...ticked), {record, ones, series} = this.kept[name] || {}, now = String([ticked[0], '', ticked[2]]);
+    const kept = this.kept[name] = {record: this.record, ones: now, series: lanes.map(lane => [...lane.series])};
+    // What was drawn last is most often what lies behind.
+    const behind = !this.before ? [] : record === this.before && ones === now ? series : made(this.before, ...ticked).map(lane => lane.series);
+    yield;
+    if (this.kept[name] !== kept) return;       // it was drawn anew meanwhile
+    behind.forEach((before, k) => lanes[k].series.unshift(...dashed(before, chart.x)));
+    chart.show(lanes, keyOf(lanes, this.record));
+    if (this.time !== undefined) chart.mark(this.time);
   }
   resize() { for (const chart of Object.values(this.charts)) chart.resize(); }
   mark(time) {

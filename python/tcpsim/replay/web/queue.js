@@ -35,6 +35,11 @@ class QueueView {
     queue.attr('tabindex', used ? 0 : null).attr('role', 'button').attr('aria-label', `the queue of ${this.link.name}`);
     queue.on('click', () => show({link: l})).on('keydown', () => { if (d3.event.key === 'Enter') show({link: l}); });
   }
+  // Another run takes this one's place.
+  replace(record) {
+    Object.assign(this, {record, link: record.facts.links[this.l], sums: [0], head: -1, tail: -1});
+    for (const box of this.boxes) box.removeAttribute('data-packet');
+  }
   // Where the k-th square stands, or what is `wide`, from the queue's corner.
   at(k, wide = this.sizes.box.wide) { return this.line.sign * this.sizes.box.step * k - (this.line.sign > 0 ? 0 : wide); }
 

@@ -10,6 +10,7 @@ const UNA = 0, NXT = 1, HIGH = 2, CWND = 3, SSTHRESH = 4, RECOVERY = 5, DUPS = 6
 const DRAWN = [CWND, SSTHRESH, RECOVERY];       // what of a flow has a curve
 const FREE = 0, START = 1, RTO = 2, DELACK = 3, CAME_DATA = 4, CAME_ACK = 5, WIDTHS = [5, 6, 4, 7, 5, 4];      // with the space behind
 const ROUTER = 0, RECEIVER = 1, SENDER = 2, PHASE = 8;  // of nodes; letters of `phase=ss`
+const SHORTEST_STATE = 30;              // letters of a sender's state before its phase
 const SPACE = 32, ZERO = 48, NINE = 57, COLON = 58;
 const [LETTER_A, LETTER_C, LETTER_D, LETTER_E, LETTER_F, LETTER_P, LETTER_R, LETTER_S] = [...'acdefprs'].map(it => it.charCodeAt(0));
 
@@ -20,14 +21,14 @@ function timeOnLink(size, rate) {
   return Number((BigInt(size) * 8000000000n + BigInt(rate) - 1n) / BigInt(rate));
 }
 
-// Packets that entered a link's queue, one entry each, in order, and which of them were sent. When that was is kept as the number of
-// the event; of those from before the record as the moment. A packet's number is kept in segments.
+// Packets that entered a link's queue, one entry each, in order, and which of them were sent: `sent` is null while all were. When that was
+// is kept as the number of the event; of those from before the record as the moment. A packet's number is kept in segments.
 class Track {
   constructor(link, flows, base) {
-    Object.assign(this, {link, base, sentBefore: base.arrived, many: 0, gone: 0, times: null});
+    Object.assign(this, {link, base, sentBefore: base.arrived, many: 0, gone: 0, times: null, sent: null});
     this.mss = flows.map(({mss}) => mss);
     Object.assign(this, {flow: new Uint8Array(16), sort: new Uint8Array(16), again: new Uint8Array(16), segment: new Uint32Array(16),
-      enteredAt: new Uint32Array(16), sent: new Uint32Array(16), begunAt: new Uint32Array(16)});
+      enteredAt: new Uint32Array(16), begunAt: new Uint32Array(16)});
     for (const [flow, sort, number, , , again] of base.under_way) { this.enter(flow, sort, number, again, 0); this.send(this.many - 1, 0); }
     for (const [flow, sort, number, , again] of base.waiting) this.enter(flow, sort, number, again, 0);
   }
@@ -39,12 +40,13 @@ class Track {
   }
   send(entry, at) {
     const k = this.gone;
-    if (k === this.sent.length) this.resize(['sent', 'begunAt'], 2 * k);
-    this.sent[k] = entry; this.begunAt[k] = at;
-    this.gone = k + 1;
+    if (k === this.begunAt.length) this.resize(['sent', 'begunAt'], 2 * k);
+    if (entry !== k && !this.sent) this.sent = this.begunAt.map((_, one) => one);
+    if (this.sent) this.sent[k] = entry;
+    this.begunAt[k] = at; this.gone = k + 1;
   }
   resize(names, length) {
-    for (const name of names) {
+    for (const name of names.filter(one => this[one])) {
       const more = new this[name].constructor(length);
       more.set(this[name].length > length ? this[name].subarray(0, length) : this[name]);
       this[name] = more;
@@ -55,6 +57,7 @@ class Track {
     this.resize(['flow', 'sort', 'again', 'segment', 'enteredAt'], this.many);
     this.resize(['sent', 'begunAt'], this.gone);
   }
+  entryOf(k) { return this.sent ? this.sent[k] : k; }
   number(entry) { return this.segment[entry] * this.mss[this.flow[entry]]; }
   size(entry) { return HEADER_BYTES + (this.sort[entry] === DATA ? this.mss[this.flow[entry]] : 0); }
   entered(entry) {
@@ -65,14 +68,14 @@ class Track {
   begun(k) { return k < this.base.under_way.length ? this.base.under_way[k][3] : this.times[this.begunAt[k]]; }
   arrives(k) {
     const {under_way: first} = this.base;
-    return k < first.length ? first[k][4] : this.begun(k) + timeOnLink(this.size(this.sent[k]), this.link.rate) + this.link.delay;
+    return k < first.length ? first[k][4] : this.begun(k) + timeOnLink(this.size(this.entryOf(k)), this.link.rate) + this.link.delay;
   }
 }
 
 // Where a number changed, by the number of the event, and to what.
 class Curve {
-  constructor(value) {
-    Object.assign(this, {at: new Column(Uint32Array), values: new Column(Uint32Array)});
+  constructor(value, Kind = Uint32Array) {
+    Object.assign(this, {at: new Column(Uint32Array), values: new Column(Kind)});
     this.push(0, value);
   }
   push(at, value) { this.at.push(at); this.values.push(value); }
@@ -82,9 +85,9 @@ class Curve {
 // A sender's timer: by which event it was set (RFC 6298 section 5), and how often it was doubled since a round trip was measured.
 class SenderTimer {
   constructor(mss) { Object.assign(this, {mss, runs: false, set: 0, partial: false, timed: null, unmeasured: false, doubled: 0}); }
-  // Takes a sender's line: `una` and `recovery` after it, the state before it, the segments that it sends. Where the timer ended it
+  // Takes a sender's line: `una` and `recovery` after it, the state before it, and so many segments that it sends. Where the timer ended it
   // answers by which event it was set, 0 where that is before the record, and how often it had been doubled.
-  take(event, kind, una, recovery, row, base, numbers) {
+  take(event, kind, una, recovery, row, base, numbers, many) {
     const partial = recovery && row[base + RECOVERY];
     let ended = null;
     if (una > row[base + UNA]) {
@@ -99,7 +102,8 @@ class SenderTimer {
       this.begin(event);
     } else if (recovery && !row[base + RECOVERY]) this.partial = false;
     let high = row[base + HIGH];
-    for (const number of numbers) {
+    for (let k = 0; k < many; k++) {
+      const number = numbers[k];
       if (number < high) this.timed = null;
       else { high = number + this.mss; if (this.timed === null) this.timed = high; }
       if (!this.runs) this.begin(event);
@@ -131,7 +135,7 @@ class Record {
       again: new Column(Uint8Array), number: new Column(Float64Array), reason: new Column(Uint8Array)};
     this.reasons = ['lost', 'full', 'codel'];
     this.timeouts = [];       // event numbers
-    // Of each timeout {set, doubled}; of each answer that was delayed its event and that of the segment that made it wait. Numbers of
+    // Of each timeout {set, doubled, since}, the last the event since which una did not rise; of each answer that was delayed its event and that of the segment that made it wait. Numbers of
     // events here are 0 where that is before the record.
     this.timers = facts.flows.map(({mss}) => new SenderTimer(mss));
     this.timerEnds = [];
@@ -163,7 +167,7 @@ class Record {
     this.snapshots = new Column(Float64Array, 4 * row.length);
     this.keepRow();
     this.curves = flows.map((_, f) => DRAWN.map(what => new Curve(row[this.ofFlow(f, what)])));
-    this.queues = base.links.map(link => new Curve(link.waiting.length));
+    this.queues = base.links.map((link, l) => new Curve(link.waiting.length, this.facts.links[l].limit < 65536 ? Uint16Array : Uint32Array));
     this.longest = base.links.map(link => link.waiting.length);
     // Since when each flow's una did not rise: the event, 0 where that is before the record, and the moment.
     this.movedAt = flows.map(() => 0); this.moved = flows.map(() => 0);
@@ -173,6 +177,8 @@ class Record {
     while (snapshots.all.length < snapshots.length + row.length) snapshots.grow();
     snapshots.all.set(row, snapshots.length);
     snapshots.length += row.length;
+    this.keptAt = this.count + this.every;
+    this.digits = String(this.first + this.count).length;     // of the number of each line from here on, at least
   }
 
   // ---- the lines, as bytes
@@ -181,15 +187,13 @@ class Record {
   take(bytes, at, piece, most = Infinity) {
     for (let left = most; left && at < bytes.length; left--) {
       if (bytes[at] === LETTER_E) { this.facts.whole = true; return bytes.length; }
-      this.lines.note(this.count, piece, at);
-      at = this.step(bytes, at, true);
+      if (this.count % BLOCK === 0) this.lines.note(piece, at);
+      at = this.step(bytes, at + this.digits, true);
       this.count += 1;
-      if (this.count % this.every === 0) this.keepRow();
+      if (this.count === this.keptAt) this.keepRow();
     }
     return at;
   }
-
-
   // One line: changes the row, and keeps what is kept of an event if that is wanted. Answers where the next line begins.
   step(bytes, at, keep) {
     let time = 0, node = 0, source = 0, byte = 0;
@@ -239,7 +243,7 @@ class Record {
     if (role === ROUTER || this.over) return;
     const {bytes} = this;
     let at = this.cursor;
-    if (role === SENDER) { while (bytes[at] !== LETTER_P) at += 1; at += PHASE; } else while (bytes[at] > SPACE) at += 1;
+    if (role === SENDER) { at += SHORTEST_STATE; while (bytes[at] !== LETTER_P) at += 1; at += PHASE; } else while (bytes[at] > SPACE) at += 1;
     this.over = bytes[at] === NEWLINE;
     this.cursor = at + 1;
   }
@@ -264,7 +268,7 @@ class Record {
 
   // A packet is at its link's end; answers whether it was one sent again.
   arrive(link) {
-    const slot = link * OF_LINK + ARRIVED, track = this.tracks[link], entry = track.sent[this.row[slot] - track.sentBefore];
+    const slot = link * OF_LINK + ARRIVED, track = this.tracks[link], entry = track.entryOf(this.row[slot] - track.sentBefore);
     this.row[slot] += 1;
     return track.again[entry];
   }
@@ -284,25 +288,24 @@ class Record {
     this.cursor += 9;
     const sent = row[base + NXT], high = row[base + HIGH], link = this.hops[this.hopKey(flow.sender, f, DATA)];
     const {sends} = this;
-    let dups = row[base + DUPS];
-    sends.length = 0;
+    let dups = row[base + DUPS], many = 0;
     if (kind === RTO) {
       dups = 0;
-      sends.push(una);
+      sends[many++] = una;
     } else if (acked && ack <= before && recovery && !row[base + RECOVERY]) {
       dups += 1;
-      sends.push(una);
+      sends[many++] = una;
     } else if (acked && ack > before && recovery) {
-      sends.push(una);
-      if (nxt > sent) sends.push(sent);
+      sends[many++] = una;
+      if (nxt > sent) sends[many++] = sent;
     } else {
-      for (let no = Math.max(sent, ack); no < nxt; no += flow.mss) sends.push(no);
+      for (let no = Math.max(sent, ack); no < nxt; no += flow.mss) sends[many++] = no;
       if (acked) dups = ack > before ? 0 : ack === before && before < sent ? dups + 1 : dups;
     }
-    for (const no of sends) this.offer(link, f, DATA, no, no < high);
+    for (let k = 0; k < many; k++) this.offer(link, f, DATA, sends[k], sends[k] < high);
     if (this.keep) {
-      const ended = this.timers[f].take(this.now, kind, una, recovery, row, base, sends);
-      if (ended) { this.timeouts.push(this.first + this.now); this.timerEnds.push(ended); }
+      const ended = this.timers[f].take(this.now, kind, una, recovery, row, base, sends, many);
+      if (ended) { this.timeouts.push(this.first + this.now); this.timerEnds.push({...ended, since: this.movedAt[f]}); }
       const [windows, thresholds, recoveries] = this.curves[f];
       if (una > before || kind === START) this.moves(f, time);
       if (cwnd !== row[base + CWND]) windows.push(this.now, cwnd);
@@ -385,26 +388,14 @@ class Record {
   // ---- stalls
 
   // A start or a new acknowledgement. Spans of a flow without one that are longer than LONGER are stalls, by the rule of stalls.py: from
-  // the flow's start or a new acknowledgement to the next one, or to the run's end while bytes are left. A start's first round trip
-  // counts where it is so much longer than the empty way takes.
+  // the flow's start or a new acknowledgement to the next one, or to the run's end while bytes are left.
   moves(f, time) {
     this.spanTo(f, time);
     this.movedAt[f] = this.now; this.moved[f] = time;
   }
   spanTo(f, to) {
     const from = this.moved[f], at = this.movedAt[f];
-    if (!at || to - from <= LONGER) return;
-    if (from !== this.facts.flows[f].start || to - from > LONGER + this.emptyRoundTrip(f)) this.stalls.push({flow: f, event: this.first + at, from, to});
-  }
-  // What a segment and its acknowledgement take where no packet waits, in nanoseconds.
-  emptyRoundTrip(f) {
-    const {mss} = this.facts.flows[f];
-    let sum = 0;
-    this.facts.ways[f].forEach((way, sort) => way.forEach(l => {
-      const {delay, rate} = this.facts.links[l];
-      sum += delay + Math.ceil((HEADER_BYTES + (sort === DATA ? mss : 0)) * 8e9 / rate);
-    }));
-    return sum;
+    if (at && to - from > LONGER) this.stalls.push({flow: f, event: this.first + at, from, to});
   }
 
   // ---- what is kept, whole
@@ -522,5 +513,5 @@ class Record {
     return this.drawn(this.curves[f][DRAWN.indexOf(slot - this.ofFlow(f, 0))]);
   }
   queueCurve(l) { return this.drawn(this.queues[l]); }
-  drawn({at, values}) { return {times: Array.from(at.all, event => this.times[event]), values: Array.from(values.all)}; }
+  drawn({at: {all: at}, values: {all: values}}) { return {times: new Float64Array(at.length).map((_, k) => this.times[at[k]]), values}; }
 }

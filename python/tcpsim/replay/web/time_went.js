@@ -18,7 +18,7 @@ class TimeWent {
       return made;
     };
     this.make = make;
-    this.select = make('select', {ariaLabel: 'the flow whose time is shown'}, ...this.facts.flows.map(({name}, f) => new Option(name, f)));
+    this.select = make('select', {ariaLabel: 'the flow whose time is shown', title: 'the flow whose time is shown'}, ...this.facts.flows.map(({name}, f) => new Option(name, f)));
     this.select.addEventListener('change', () => this.choose(+this.select.value));
     this.said = make('span', {className: 'said'});
     this.bar = make('div', {className: 'gantt'});
@@ -29,7 +29,7 @@ class TimeWent {
     // One who shows the record before goes with its listener.
     place.onclick = ({target}) => {
       const at = target.closest('[data-event]');
-      if (at && place.contains(at)) this.go(+at.dataset.event, at.title);
+      if (at && place.contains(at)) this.go(+at.dataset.event, at.dataset.said || at.title);
     };
     this.choose(this.chosen);
   }
@@ -62,10 +62,10 @@ class TimeWent {
     this.bar.setAttribute('role', 'img');
     this.bar.ariaLabel = `the parts of ${name}'s time in their order`;
     this.parts.replaceChildren(...parts.map(one => {
-      const swatch = make('i'), button = make('button', {title: described(one)}, swatch, make('b', {textContent: waitText(one.ns)}),
+      const swatch = make('i'), button = make('button', {title: `goes there: ${described(one)}`}, swatch, make('b', {textContent: waitText(one.ns)}),
         make('span', {textContent: one.ns ? share(one.ns) : ''}), make('span', {textContent: partText(one.part, name)}));
       this.paint(swatch, this.lookOf(one.part));
-      Object.assign(button.dataset, {event: one.event, ns: one.ns, part: partText(one.part, name)});
+      Object.assign(button.dataset, {event: one.event, ns: one.ns, said: described(one), part: partText(one.part, name)});
       return button;
     }));
     this.mark(this.time);
@@ -87,6 +87,11 @@ class TimeWent {
   paint(element, look) {
     element.className = look.startsWith('of-') ? 'waits' : look;
     if (look.startsWith('of-')) element.style.background = colourOf(+look.slice(3));
+  }
+  // On a slide a part that the lower edge would cut is not shown.
+  layParts() {
+    const {bottom} = this.place.getBoundingClientRect();
+    for (const part of this.parts.children) part.style.visibility = isSlide() && part.getBoundingClientRect().bottom > bottom ? 'hidden' : '';
   }
   // The next piece of the bar that begins after the present moment, or the last one before it.
   next(way, event) {

@@ -46,9 +46,8 @@ class Lines {
     this.rest = bytes.slice(end);
     return bytes.length - end > end ? bytes.slice(0, end) : bytes.subarray(0, end);
   }
-  // A line begins here, in a piece of this number.
-  note(k, piece, at) {
-    if (k % BLOCK) return;
+  // The next of the lines whose place is kept begins here, in a piece of this number.
+  note(piece, at) {
     this.pieceOf.push(piece);
     this.startOf.push(at);
   }

@@ -30,7 +30,13 @@ function packetName(facts, packet) {
   return `${sortName(packet.sort)} ${number(packet.number)} of ${facts.flows[packet.flow].name}`;
 }
 
-// A line with names and units beside its numbers, in columns: number, moment, node, what happens to which flow or link, the state.
+// A row of columns: number, moment, node, what happens to which flow or link, the state.
+function inColumns(wide, [n, time, node, what, state]) {
+  return `${n.padStart(wide.number)}  ${time.padStart(wide.time)}  ${node.padEnd(wide.node)}  ${what.padEnd(wide.what)}  ${state}`;
+}
+const HEADS = ['event', 'time', 'node', 'kind, flow, byte', 'state, sends, drops'];
+const EXACT_HEADS = 'n time node source number KIND AFTER ACTS';       // docs/FORMATS.md
+// A line with names and units beside its numbers.
 function readable(facts, line, wide) {
   const [n, time, node, , , kind, name, ...rest] = line.split(' '), packet = kind === 'data' || kind === 'ack';
   const whose = kind === 'free' ? facts.links[name].name : `${facts.flows[name].name}${packet ? ` ${number(rest.shift())}` : ''}`;
@@ -40,13 +46,12 @@ function readable(facts, line, wide) {
     if (key === 'drop') return `drops ${facts.flows[flow].name} ${number(seq)} (${first})`;
     return key === 'phase' ? word : `${key}=${number(value)} B`;
   });
-  return `${number(n).padStart(wide.number)}  ${seconds(+time, 6).padStart(wide.time)}  ${facts.nodes[node].name.padEnd(wide.node)}  ` +
-    `${`${kind} ${whose}`.padEnd(wide.what)}  ${state.join('  ')}`;
+  return inColumns(wide, [number(n), seconds(+time, 6), facts.nodes[node].name, `${kind} ${whose}`, state.join('  ')]);
 }
 // How wide the columns are of a record's lines.
 function widthsOf({facts, last, times, count}) {
-  const name = ones => Math.max(...ones.map(({name: one}) => one.length));
-  return {number: number(last).length, time: seconds(times[count], 6).length, node: name(facts.nodes),
+  const name = ones => Math.max(...ones.map(({name: one}) => one.length)), [n, , node] = HEADS;
+  return {number: Math.max(n.length, number(last).length), time: seconds(times[count], 6).length, node: Math.max(node.length, name(facts.nodes)),
     what: Math.max(name(facts.flows) + 16, name(facts.links) + 5)};
 }
 
