@@ -24,6 +24,7 @@ import hashlib
 import json
 import os
 import re
+import resource
 import shlex
 import shutil
 import signal
@@ -119,7 +120,7 @@ def jobs_at_once(asked):
     if asked:
         return asked
     with open("/proc/meminfo", encoding="ascii") as file:
-        free = 1024 * int(re.search(r"MemAvailable:\s+(\d+)", file.read())[1])
+        free = 1024 * int(re.findall(r"MemAvailable:\s+(\d+)", file.read())[0])
     return max(1, min(len(os.sched_getaffinity(0)), free // JOB_MEMORY))
 
 
@@ -258,7 +259,9 @@ class Crate:
         self.waits = [it for it in libraries[name] if it in libraries]
         # The lines of this crate and of the longest chain of those that wait for it, one behind the other.
         self.chain = 0
-        self.prover, self.begun, self.usage = None, 0, None
+        self.prover: subprocess.Popen[bytes] | None = None
+        self.begun, self.status = 0.0, 0
+        self.usage: resource.struct_rusage
 
     def mark(self):
         return f"{KEPT}/{self.name}.stamp"
@@ -278,14 +281,16 @@ class Crate:
             os.remove(self.mark())
         self.begun = time.time()
         with open(f"{KEPT}/{self.name}.log", "w", encoding="utf-8") as log:
-            how = {"stdin": subprocess.DEVNULL, "stdout": log, "stderr": subprocess.STDOUT}
-            self.prover = subprocess.Popen(words, cwd=TOP, start_new_session=True, **how)
+            self.prover = subprocess.Popen(words, cwd=TOP, start_new_session=True, stdin=subprocess.DEVNULL, stdout=log,
+                                           stderr=subprocess.STDOUT)
 
     def has_ended(self):
         """Whether its prover has ended; what it used is then known."""
+        if self.prover is None:
+            return False
         ended, status, self.usage = os.wait4(self.prover.pid, os.WNOHANG)
         if ended:
-            self.prover.returncode = os.waitstatus_to_exitcode(status)
+            self.prover.returncode = self.status = os.waitstatus_to_exitcode(status)
         return bool(ended)
 
     def mark_as_kept(self):
@@ -313,7 +318,7 @@ def prove(crates, count, jobs, words_for):
     begun = told = time.time()
     done = {it.name for it in crates if it.is_kept()}
     left = [it for it in crates if it.name not in done]
-    running = []
+    running: list[Crate] = []
     while left or running:
         ready = [it for it in left if all(name in done for name in it.waits)]
         for at, it in enumerate(ready[: jobs - len(running)]):
@@ -324,7 +329,7 @@ def prove(crates, count, jobs, words_for):
             running.append(it)
         for it in [it for it in running if it.has_ended()]:
             running.remove(it)
-            if it.prover.returncode:
+            if it.status:
                 return it
             it.keep()
             done.add(it.name)
@@ -351,7 +356,7 @@ def link(kit):
 
 def sums_of(names, kit, libraries):
     """The sum of each of the crates, which come each behind those that it stands on."""
-    sums = {}
+    sums: dict[str, str] = {}
     for name in names:
         sums[name] = sum_of(name, kit, sums, libraries)
     return sums
@@ -390,7 +395,7 @@ def left_by_the_gate(names):
     """Where `rt ci` left the statements of these crates, which come each behind those that it stands on, by name; None where
     one is not there, or was put there before a file or a folder of its crate or of one before it was changed. (What it kept
     of an earlier run are links to older files in a new folder.)"""
-    places, newest = {}, 0
+    places, newest = {}, 0.0
     for it in names:
         places[it] = f"{TOP}/crates/{it}/out/rlib"
         files = [*files_of(it)]
@@ -447,7 +452,7 @@ def prove_last(kit, libraries, stamp, places, asked):
             time.sleep(0.1)
     finally:
         crate.stop()
-    if crate.prover.returncode:
+    if crate.status:
         print(crate.said(), end="")
         print(f"{name} is not proved, and no module is kept")
         return 1

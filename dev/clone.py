@@ -55,8 +55,8 @@ def example(name):
 def ran(*words, **more):
     """A process that has ended; what it wrote is kept, and there is nothing to read unless it is given."""
     streams = {} if 'input' in more else {'stdin': subprocess.DEVNULL}
-    streams.update({name: subprocess.PIPE for name in ('stdout', 'stderr')})
-    return subprocess.run(list(words), check=False, **{'timeout': PATIENCE, **streams, **more})
+    more = {**streams, 'timeout': PATIENCE, 'stdout': subprocess.PIPE, 'stderr': subprocess.PIPE, **more}
+    return subprocess.run(list(words), check=False, **more)
 
 
 def tool_words(name):
@@ -78,7 +78,8 @@ def outcome(words, given=b'', **more):
 def of_model(words, given=b''):
     """The same of the model, in this process."""
     from tcpsim_model import command_line
-    written, told = [], []
+    written: list[bytes] = []
+    told: list[bytes] = []
     status, note = command_line.main(words, given, written.append, told.append)
     return status, b''.join(told) + (f'{note}\n'.encode() if note else b''), b''.join(written)
 

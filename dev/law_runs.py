@@ -13,6 +13,7 @@ import importlib.abc
 import importlib.util
 import random
 import sys
+from collections.abc import Callable
 from types import SimpleNamespace
 
 import build
@@ -20,7 +21,7 @@ import wrong_tables
 
 MODEL, EVENTS, SEEDS = f'{build.TOP}/python', 3000, 60
 MOST_COUNT, MOST_CWND, SECOND = 4_294_967_295, 2**40, 10**9
-LAWS = {}
+LAWS: dict[str, Callable] = {}
 
 
 def law(check):
@@ -93,7 +94,9 @@ def end_seen(end):
 
 def watched(simulate):
     """A network that keeps what it is told to send, and what becomes of packets."""
-    class Watched(simulate.Network):
+    network: type = simulate.Network
+
+    class Watched(network):           # that of the model as it is, or with a mistake
         def at_sender(self, node, now, numbers):
             self.row = list(numbers)
             return super().at_sender(node, now, self.row)

@@ -60,13 +60,15 @@ def shown_by(text, known, shown):
 
 def statement(law):
     """A law's clauses, and the texts of all definitions that they go by."""
-    known, shown = definitions(), set()
+    known: dict[str, tuple] = definitions()
+    shown: set[str] = set()
     clauses = next(clauses for name, _, clauses in laws() if name == law)
     return [*clauses, *(known[it][0] for clause in clauses for it in shown_by(clause, known, shown))]
 
 
 def page():
-    known, shown, lines = definitions(), set(), [HEAD]
+    known, lines = definitions(), [HEAD]
+    shown: set[str] = set()
     for name, words, clauses in laws():
         lines += [f'## {name}', '', words, '', '```', *(line for it in clauses for line in wrapped(it)), '```', '']
         used = [it for clause in clauses for it in shown_by(clause, known, shown)]

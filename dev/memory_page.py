@@ -14,7 +14,7 @@ TOP = os.path.dirname(os.path.dirname(os.path.abspath(__file__)))
 PAGE = os.path.join(TOP, 'docs', 'MEMORY.md')
 BEGIN, END = '<!-- {} of dev/memory_page.py -->\n', '<!-- its end -->'
 # Crates that have tests alone and what these run by, and the program, which has no call but `main`.
-WITHOUT_CALLS = {'end_tests', 'text_tests', 'part_tests', 'net_tests', 'engine_tests', 'program_tests', 'tcpsim'}
+WITHOUT_CALLS = {'tests_ends', 'tests_texts', 'tests_parts', 'tests_nets', 'tests_engine', 'tests_program', 'tcpsim'}
 # Types that are numbers or the like: who gives one keeps it.
 PLAIN = re.compile(r'(u8|u16|u32|u64|u128|usize|bool|Global|Time|Key|Break|Packet|Action|Limits|Subcommand|LoadFault)$')
 # The page's tables that are written by hand.
@@ -68,7 +68,7 @@ def call_at(crate, file, owner, lines, at):
     head = until_body(lines, at)
     words = [line for line in head if not re.match(r'\s*(ensures|requires|decreases|//|ghost)', line)]
     said = ' '.join(' '.join(words).split()).rstrip('{}; ')
-    name = re.search(r'fn (\w+)', said)[1]
+    name = re.findall(r'fn (\w+)', said)[0]
     rest = said[said.index(name) + len(name):]
     if rest.startswith('<'):
         rest = rest[end_of(rest.replace('->', '  '), '<', '>'):]
@@ -102,9 +102,9 @@ def public_calls(crate):
                 if head.startswith('<'):
                     head = head[end_of(head, '<', '>'):]
                 of_trait = ' for ' in head
-                owner, is_trait = re.match(r'\s*(?:&(?:mut )?)?(\w+)', head.rpartition(' for ')[2])[1], False
-            elif re.match(r'pub trait ', line):
-                owner, is_trait, of_trait = re.match(r'pub trait (\w+)', line)[1], True, False
+                owner, is_trait = re.findall(r'^\s*(?:&(?:mut )?)?(\w+)', head.rpartition(' for ')[2])[0], False
+            elif trait := re.match(r'pub trait (\w+)', line):
+                owner, is_trait, of_trait = trait[1], True, False
             elif line == '}':
                 owner, is_trait, of_trait = None, False, False
             found = re.match(r'( *)(pub )?(?:const )?fn (\w+)', line)

@@ -126,12 +126,12 @@ class Provers:
 
     def run(self, words, folder):
         """Runs one; its exit status and the lines that it printed, or None where it was ended, or time is over."""
-        how = {'stdin': subprocess.DEVNULL, 'stdout': subprocess.PIPE, 'stderr': subprocess.STDOUT, 'text': True, 'errors': 'replace'}
         with self.lock:
             left = None if self.until is None else self.until - time.time()
             if left is not None and left <= 0:
                 return None
-            prover = subprocess.Popen(words, cwd=folder, start_new_session=True, **how)
+            prover = subprocess.Popen(words, cwd=folder, start_new_session=True, stdin=subprocess.DEVNULL, stdout=subprocess.PIPE,
+                                      stderr=subprocess.STDOUT, text=True, errors='replace')
             self.running.add(prover)
         try:
             said = prover.communicate(timeout=left)[0].splitlines()
@@ -217,7 +217,7 @@ class Tried:
             # What is not refused over what was kept is tried once more, from nothing.
             for folder in ('kept', file):
                 done = self.check(texts, folder)
-                told[file] = verdict(*done, texts) if done else None
+                told[file] = verdict(done[0], done[1], texts) if done else None
                 if told[file] in (REFUSED, None):
                     break
         shutil.rmtree(self.folder, ignore_errors=True)

@@ -101,7 +101,8 @@ def main():
             os.remove(it)
     facts = {'commit': said('git', 'rev-parse', 'HEAD') or 'none', 'toolchain': said('rt', 'version') or 'none',
              'crates': sum_of_crates()}
-    last, of, lines, gates, asked = '', '', [], [], []
+    last, of, lines, asked = '', '', [], []
+    gates: list[subprocess.Popen[bytes]] = []
     ended = threading.Event()
     watcher = threading.Thread(target=watch, args=[ended])
 
@@ -118,7 +119,7 @@ def main():
         gate.send_signal(number)
     signal.signal(signal.SIGINT, signal.SIG_IGN)        # of a terminal it comes to the gate too
     watcher.start()
-    for line in gate.stdout:
+    for line in gate.stdout or ():
         sys.stdout.buffer.write(line)
         sys.stdout.buffer.flush()
         last = line.decode('utf-8', 'replace').strip() or last

@@ -17,6 +17,7 @@ import argparse
 import contextlib
 import glob
 import os
+import resource
 import shutil
 import signal
 import subprocess
@@ -32,7 +33,7 @@ LONG = ('dev/test_page.py', 'dev/test_page_lecture.py', 'dev/test_page_debugger.
         'python/tests/test_ends.py', 'python/tests/test_inputs.py', 'python/tests/test_debug.py', 'dev/test_shell.py', 'dev/test_systematic.py',
         'dev/test_compare.py', 'python/tests/test_sweep_engines.py', 'python/tests/test_sweep_means.py', 'python/tests/test_sweep_files.py',
         'python/tests/test_sweep.py', 'python/tests/test_trace.py', 'python/tests/test_plot.py', 'dev/test_bounds.py',
-        'dev/refuse_tests.sh', 'dev/test_helgrind.py', 'dev/test_dist.py')
+        'dev/refuse_tests.sh', 'dev/test_helgrind.py', 'dev/test_dist.py', 'dev/test_types.py')
 LEFT_OUT = 'LEFT OUT', 'SKIPPED'            # how a line begins that says so: ours, and pytest's
 # How long what was ended may take to end, in seconds.
 GRACE = 5
@@ -50,7 +51,9 @@ class Test:
     def __init__(self, name, python, folder):
         self.name, self.folder = name, f'{folder}/{os.path.basename(name)}'
         self.words = [f'./{name}'] if name.endswith('.sh') else [python, '-m', 'pytest', name]
-        self.process, self.seconds, self.begun, self.usage = None, 0, 0, None
+        self.process: subprocess.Popen[bytes] | None = None
+        self.status, self.seconds, self.begun = 0, 0.0, 0.0
+        self.usage: resource.struct_rusage
 
     def start(self):
         os.mkdir(self.folder)
@@ -61,9 +64,11 @@ class Test:
                                             env={**os.environ, 'TMPDIR': self.folder})
 
     def has_ended(self):
+        if self.process is None:
+            return False
         ended, status, self.usage = os.wait4(self.process.pid, os.WNOHANG)
         if ended:
-            self.process.returncode = os.waitstatus_to_exitcode(status)
+            self.process.returncode = self.status = os.waitstatus_to_exitcode(status)
             self.seconds = time.monotonic() - self.begun
         return bool(ended)
 
@@ -85,11 +90,11 @@ class Test:
             return file.read()
 
     def passed(self):
-        return self.process.returncode == 0
+        return self.status == 0
 
     def tell(self):
         """Prints what it said."""
-        how = 'passed' if self.passed() else f'FAILED, status {self.process.returncode}'
+        how = 'passed' if self.passed() else f'FAILED, status {self.status}'
         took = f'{self.seconds:.0f} s, {self.spent():.0f} s of processors'
         print(f'== {self.name}: {how} ({took})\n{self.said()}', end='', flush=True)
 
@@ -117,7 +122,8 @@ def run(tests, jobs):
     """Runs the tests, so many at once, and tells of each once those before it were told; answers those that failed."""
     rank = {name: at for at, name in enumerate(LONG)}
     left = sorted(tests, key=lambda it: rank.get(it.name, len(LONG)))
-    running, untold, failed = [], list(tests), []
+    running: list[Test] = []
+    untold, failed = list(tests), []
     try:
         while untold:
             while left and len(running) < jobs:

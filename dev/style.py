@@ -16,7 +16,7 @@ TOP = os.path.dirname(os.path.dirname(os.path.abspath(__file__)))
 ALLOWED = os.path.join(TOP, 'dev', 'style.txt')
 WORDS, CHARACTERS = 25, 400
 NEW = 0, WORDS, 0, CHARACTERS      # what a new page is allowed
-PAGES = '*.md', 'docs/*.md', 'bench/*.md', 'dev/*.md', 'python/*.md', 'python/tcpsim_model/*.md', 'editors/*.md'
+PAGES = '*.md', 'crates/*.md', 'docs/*.md', 'bench/*.md', 'dev/*.md', 'python/*.md', 'python/tcpsim_model/*.md', 'editors/*.md'
 HEAD = '# page: sentences of more than 25 words, the longest, lines of more than 400 characters, the longest (dev/style.py)\n'
 # Where a sentence ends: behind its last sign, which brackets and quotes may follow, before a word that begins another.
 END = re.compile(r'(?:(?<=[^.]\.)|(?<=[!?]))[)\]*"_]*\s+(?=[\W_]*[A-Z0-9`])')
@@ -73,7 +73,7 @@ def main(words):
         with open(ALLOWED, 'w', encoding='utf-8') as file:
             file.write(HEAD)
             for page, numbers in now.items():
-                kept = map(max, NEW, map(min, numbers, least[page]))
+                kept = [max(new, min(number, most)) for new, number, most in zip(NEW, numbers, least[page])]
                 file.write(' '.join([page, *map(str, kept)]) + '\n')
     named = [os.path.relpath(os.path.abspath(it), TOP) for it in words if it != '--write']
     for page in named or now:

@@ -158,3 +158,15 @@ def test_what_the_gate_left_is_used_while_it_is_newer(clone):
     later = os.path.getmtime(f'{places["high"]}/high.rlib') + 5
     os.utime(f'{build.TOP}/crates/low/src', (later, later))
     assert build.left_by_the_gate(names) is None
+
+
+def test_the_parts_of_a_function():
+    for module, whose, part in (
+        ('Rattle-low-proofs.part.Kind.made.Lts', 'part.Kind.made', 'walk'),
+        ('Rattle-low-proofs.part.Kind.made.Lts.View', 'part.Kind.made', 'walk'),
+        ('Rattle-low-proofs.part.Kind.made.Kinds-2-0-0-1', 'part.Kind.made', 'others'),
+        ('Rattle-low-proofs.made.Answers', 'made', 'goals'),
+        ('Rattle-low-proofs.Lemmas', 'Rattle-low-proofs.Lemmas', 'others'),
+    ):
+        assert functions.part_of(module) == (whose, part)
+    assert [functions.used_at(it, [(1, 0), (3, 4)]) for it in (0, 1, 2, 3, 9)] == [0, 0, 2, 4, 4]

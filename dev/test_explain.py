@@ -90,10 +90,10 @@ class TestExplained(Folder):
         assert lines == [explained(code).splitlines()[0] for code in CODES]
 
     def test_a_refusal_of_no_line_shows_what_the_page_says(self):
-        """The rows of docs/FORMATS.md that change a line of its text: the witness and the statement."""
+        """The rows of docs/COMMANDS.md that change a line of the text of docs/FORMATS.md: the witness and the statement."""
         page = read_text('docs', 'FORMATS.md')
         right = re.search(r'^The examples change one line of this text.*?```\n(.*?)```', page, re.M | re.S)[1]
-        table = re.search(r'^\| Fault \| Changed \| Shown \|\n(?:\|.*\n)+', page, re.M)[0]
+        table = re.search(r'^\| Fault \| Changed \| Shown \|\n(?:\|.*\n)+', read_text('docs', 'COMMANDS.md'), re.M)[0]
         rows = re.findall(r'^\| (\w+) \| line (\d+): `(.*?)` \| `(.*?)`; `(.*?)` \|$', table, re.M)
         assert len(rows) >= 4
         for code, place, line, witness, statement in rows:
@@ -115,8 +115,8 @@ class TestExplained(Folder):
                 assert len(line) <= 110
 
     def test_the_page_has_each_code_with_the_same_reason(self):
-        """A row of a table of docs/FORMATS.md has the code and the reason of the list."""
-        rows = [line for line in read_text('docs', 'FORMATS.md').splitlines() if line.startswith('|')]
+        """A row of a table of docs/FORMATS.md or docs/COMMANDS.md has the code and the reason of the list."""
+        rows = [line for page in ('FORMATS.md', 'COMMANDS.md') for line in read_text('docs', page).splitlines() if line.startswith('|')]
         for line in explained().splitlines():
             code, reason = line.split(': ', 1)
             assert any(re.match(rf'\| `?(refused )?{code}`? \| {re.escape(reason)}', row) for row in rows), reason

@@ -116,9 +116,9 @@ def traced(tmp_path, *words, **more):
     return done, re.findall(r'^\d+ +(\w+)\((.*)$', log.read_text(), re.M)
 
 
-def named_in_formats():
-    """The files that docs/FORMATS.md names."""
-    with open(os.path.join(TOP, 'docs', 'FORMATS.md'), encoding='utf-8') as file:
+def named_in_commands():
+    """The files that docs/COMMANDS.md names."""
+    with open(os.path.join(TOP, 'docs', 'COMMANDS.md'), encoding='utf-8') as file:
         return set(re.findall(r'`(/(?:dev|sys|proc|etc)/[\w/.]+)`', file.read()))
 
 
@@ -138,7 +138,7 @@ def test_it_opens_no_file_that_formats_does_not_name(name, wide, tmp_path):
     done, found = traced(tmp_path, *words, stdin=subprocess.DEVNULL)
     assert done.returncode in (0, 1, 2, 3)
     assert [call for call, _ in found].count('execve') == 1
-    known, given = named_in_formats(), set(words)
+    known, given = named_in_commands(), set(words)
     assert known == {'/dev/null', '/sys/devices/system/cpu/online', '/sys/fs/cgroup/cpu.max'}
     opened = 0
     for call, arguments in found:

@@ -1,4 +1,4 @@
-"""Tests of what docs/FORMATS.md says of the debugger's prompt, by the model of python/tcpsim_model: names cut short, times,
+"""Tests of what docs/COMMANDS.md says of the debugger's prompt, by the model of python/tcpsim_model: names cut short, times,
 and an example of each refusal. And of what docs/DEBUGGING.md shows of it."""
 import os
 import re
@@ -6,14 +6,12 @@ import re
 from clone import TOP, paths, read, read_text
 from tcpsim_model import prompt
 from tcpsim_model.scenario import Refused
-from tcpsim_model.texts import topics_in
+from tcpsim_model.texts import TOPICS
 from tcpsim_model.command_line import read as scenario_in
-
-SHOWN = 14      # of the grammar's steps, those that the page has
 
 
 def session():
-    return prompt.Prompt(scenario_in(read(paths('two_timeouts_in_a_row')[0])), SHOWN)
+    return prompt.Prompt(scenario_in(read(paths('two_timeouts_in_a_row')[0])))
 
 
 def refusal(line):
@@ -26,8 +24,8 @@ def refusal(line):
 
 
 def tables():
-    """The tables of the part of docs/FORMATS.md on the prompt, by the first cell of their heads: of each row the cells."""
-    part = read_text('docs', 'FORMATS.md').partition('\n### At the prompt\n')[2].partition('\n## ')[0]
+    """The tables of the part of docs/COMMANDS.md on the prompt, by the first cell of their heads: of each row the cells."""
+    part = read_text('docs', 'COMMANDS.md').partition('\n### At the prompt\n')[2].partition('\n## ')[0]
     found = {}
     for text in re.findall(r'(?:^\|.*\n)+', part, re.M):
         head, _, *rows = [[cell.strip() for cell in line.strip('|').split('|')] for line in text.splitlines()]
@@ -47,12 +45,12 @@ def test_names():
             found.append(name.encode())
             short = [name[:size] for size in range(1, len(name))]
             assert words(also) == [it for it in short if at_prompt.name_of(it.encode()) == name.encode()]
-    assert found == [name for name, step in prompt.NAMES.items() if step <= SHOWN]
+    assert found == [*prompt.NAMES]
 
 
 def test_topics():
     row, = (cells for cells in tables()['Line'] if 'help numbers' in cells[0])
-    assert words(row[0]) == [f'help {topic.decode()}' for topic in topics_in(SHOWN)]
+    assert words(row[0]) == [f'help {topic.decode()}' for topic in TOPICS]
     for topic in words(row[0]):
         assert refusal(topic) is None
 
@@ -96,7 +94,7 @@ def test_what_the_hunts_show():
     (_, *hunts), _ = page()
     assert len(hunts) == 5
     for path, lines, (answer,) in hunts:
-        typed = prompt.Prompt(scenario_in(read(path)), SHOWN)
+        typed = prompt.Prompt(scenario_in(read(path)))
         assert re.fullmatch(answer, ''.join(map(typed.answer, lines))), path
     text = read_text('docs', 'DEBUGGING.md')
     assert all(block.count('\n(tcpsim) ') <= 5 for block in re.findall(r'^```\n\$ crates/(.*?)^```$', text, re.M | re.S))

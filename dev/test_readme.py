@@ -90,7 +90,7 @@ def test_commands_are_found():
 def test_the_index_has_each_page_once():
     found = re.findall(r'^- \[[^]]+\]\(([^)]+)\): .', read_text('docs', 'index.md'), re.M)
     wanted = [name for name in os.listdir(os.path.join(TOP, 'docs')) if name.endswith('.md') and name != 'index.md']
-    wanted += [f'../bench/{name}' for name in os.listdir(os.path.join(TOP, 'bench')) if name.endswith('.md')]
+    wanted += ['../crates/README.md', *(f'../bench/{name}' for name in os.listdir(os.path.join(TOP, 'bench')) if name.endswith('.md'))]
     assert sorted(found) == sorted(wanted)
 
 

@@ -20,9 +20,6 @@ from tcpsim.sweeps.columns import FROM
 from tcpsim_model import conditions, figures, grammar, image, missing, prompt, texts
 from tcpsim_model.text import assemble
 
-MISSING = 12        # the number of the prompt from which on `why` tells what is missing
-DISPLAYS = 13       # the number from which on there are displays
-EXPECTED = 14       # the number from which on a refusal tells what is expected
 BY_TIME = 4         # the number of the figures' format from which on they are there by time and with names
 SAMPLES = 'three_losses', 'newreno_in_a_network', 'codel_drops_before_it_sends', 'two_flows_over_a_router', 'delayed_acknowledgement'
 # Of each format, what its samples come to under each number that it had. A row stays; a change adds one.
@@ -34,13 +31,9 @@ SUMS = {
                 2: 'a5a273eacd6ae41ac1b2500ada1b4a7f1c60579914ef3d0a89cc3b62cebb035c',
                 3: '9a91d5ca7836e1db6338b0c9b9abbaa4966552d9744570a8f1eee96d5727dca2',
                 4: 'bf2d1450e862c4265a6f7b480fba19cbdcef70af53146c9474878741151a30d5'},
-    'prompt': {8: '591e69b6d09eb58b3a7706631c570633ae5cbb70f80251582ec97e076f89f2be',
-               9: '2b3ffb7d232e7f32ed4c4fdef66fa8fb9482c1ae70ba3c084103ccf6512d9213',
-               10: 'cff69870124a5b401b163837671e65512d3d52bcf73fde372ebe619b716632c3',
-               11: 'fe1e51fe010477e647b1fc14b05a0ced0f6a31bdefda7804b66192481e6be577',
-               12: '23c350c43fc0e83f030db4aa4c8329e64c2746bce63438ea117cb4a7e69c58ba',
-               13: '62508fa529c07614945c53bebc6f8b35ae0341feaa659ad1287491a4f3300237',
-               14: '8f275a90dcfefad7280bfa709142274ce0d2a80f288e3db2991de693f45324e7'},
+    # No number of the prompt below 14 was released, and their rows went with the model's grammars of those numbers. The sum
+    # of 14 had the number with which each name came; now it has the names alone, and no answer changed.
+    'prompt': {14: 'be25e20e35bec77dcb69e86a14ad6ca42421ce0907a9cb271d53104f57386364'},
 }
 
 
@@ -52,13 +45,10 @@ def images(version):
     return [image.save(assemble(text), version) for text in samples('txt')]
 
 
-def prompt_words(number):
-    """All that the prompt's grammar has: its names with the steps that they came with, conditions, topics."""
-    names = sorted((name, step) for name, step in grammar.NAMES.items() if step <= number)
-    fates = [repr(missing.FATES).encode()] if number >= MISSING else []
-    displays = [*conditions.DISPLAYED, *conditions.VALUE_WORDS] if number >= DISPLAYS else []
-    expected = [repr((texts.EXPECTED_TOLD, texts.THERE_TOLD)).encode()] if number >= EXPECTED else []
-    return [repr(names).encode(), *conditions.behind(number), *sorted(texts.topics_in(number)), *fates, *displays, *expected]
+def prompt_words():
+    """All that the prompt's grammar has: names, conditions, topics, fates of packets, displays, and what refusals expect."""
+    told = missing.FATES, texts.EXPECTED_TOLD, texts.THERE_TOLD, texts.USES_TOLD
+    return [*grammar.NAMES, *conditions.OF_VALUES, *texts.TOPICS, *conditions.DISPLAYED, *conditions.VALUE_WORDS, repr(told).encode()]
 
 
 def named_by_time(scenario):
@@ -70,7 +60,7 @@ def named_by_time(scenario):
 def sum_of(format_, number):
     """What the samples of a format come to."""
     first = assemble(read('examples', 'one_segment.txt'))
-    parts = {'trace': lambda: samples('trace'), 'image': lambda: images(number), 'prompt': lambda: prompt_words(number),
+    parts = {'trace': lambda: samples('trace'), 'image': lambda: images(number), 'prompt': prompt_words,
              'figures': lambda: [re.sub(r'[^,]*$', '', figures.figures(first), flags=re.M).encode(),
                                  *([figures.figures(first, 2_000_000).encode()] if number >= FROM else []),
                                  *([named_by_time(first)] if number >= BY_TIME else [])]}[format_]()
@@ -104,7 +94,7 @@ def test_images_of_the_first_version_are_what_they_were():
 
 
 def test_the_model_has_the_same_numbers():
-    assert FORMATS['prompt'] == prompt.BUILT <= prompt.STEPS
+    assert FORMATS['prompt'] == prompt.FORMAT
     assert FORMATS['image'] == max(image.MAGIC)
 
 

@@ -3,7 +3,7 @@ beside it, by hand from docs/MODEL.md or by the model of python/tcpsim_model, de
 what was worked out by hand, and the texts, images and words of the tables there and below against their faults. The model has
 to come to the same, wherever it knows the words. Figures are in python/tests/test_figures.py.
 
-They were tests of the crate program_tests. On bytes alone they try the program as it is run, and the prover need
+They were tests of the crate tests_program. On bytes alone they try the program as it is run, and the prover need
 not prove them.
 """
 import glob

@@ -12,6 +12,7 @@ peer is not there keeps its numbers, which the page names with version and date.
 import argparse
 import os
 import sys
+from collections.abc import Callable
 
 TOP = os.path.dirname(os.path.dirname(os.path.abspath(__file__)))
 sys.path.insert(0, os.path.join(TOP, 'python'))
@@ -27,7 +28,7 @@ def versions(**peers):
 
 
 # Of each row: the peers that are there, and what measures it.
-ROWS = {
+ROWS: dict[str, tuple[Callable, Callable]] = {
     'rules': (lambda: versions(ns_2=rules.version), lambda _: rules.measure()),
     'codel': (lambda: versions(Linux=codel.linux_version, ns_3=codel.ns3_version), codel.measure_all),
     'laws': (dict, laws.measure),

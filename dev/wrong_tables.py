@@ -40,7 +40,10 @@ class Table:
 
     def __init__(self, block):
         self.name, *lines = block.split('\n')
-        self.laws, self.pairs, self.model, crate, path, old = [], {}, [], '', '', ''
+        self.laws: list[str] = []
+        self.pairs: dict[str, list[tuple[str, str, str]]] = {}
+        self.model: list[tuple[str, str, str]] = []
+        crate = path = old = ''
         for line in lines:
             word, _, rest = line.partition(': ')
             if word == 'laws':
@@ -142,8 +145,9 @@ def prove(kit, libraries, sources, laws, pairs=()):
             for path, text in texts.items():
                 with open(f'{folder}/{crate}/{path}', 'w', encoding='utf-8') as file:
                     file.write(text)
-        how = {'stdin': subprocess.DEVNULL, 'stdout': subprocess.PIPE, 'stderr': subprocess.STDOUT, 'text': True, 'errors': 'replace'}
-        said = subprocess.run(check_words(kit, libraries, sources, folder, laws), cwd=build.TOP, check=False, **how).stdout.splitlines()
+        done = subprocess.run(check_words(kit, libraries, sources, folder, laws), cwd=build.TOP, stdin=subprocess.DEVNULL,
+                              stdout=subprocess.PIPE, stderr=subprocess.STDOUT, text=True, errors='replace')
+        said = done.stdout.splitlines()
     faults = [at for at in map(mutants.FAULT.match, said) if at]
     # A definition with a fault is no table at all, wrong or right.
     unread = [at for at in faults if '/specs/' in at[1]]
@@ -185,7 +189,7 @@ def main():
     toolchain = subprocess.run(['rt', 'version'], capture_output=True, text=True, check=True).stdout.strip()
     lock, refused = threading.Lock(), 0
     with concurrent.futures.ThreadPoolExecutor(build.jobs_at_once(given.lanes)) as pool:
-        plain = {}
+        plain: dict[tuple[str, ...], set[str]] = {}
         for it in chosen:
             if not it.fault():
                 plain.setdefault(it.sources(libraries), set()).update(it.laws)

@@ -70,7 +70,8 @@ class Pseudocode:
 
     def __init__(self, target, interval, maxpacket):
         self.target, self.interval, self.maxpacket = target / S, interval / S, maxpacket
-        self.entries, self.bytes = deque(), 0
+        self.entries: deque[tuple[int, float]] = deque()
+        self.bytes = 0
         self.first_above_time = self.drop_next = 0.0
         self.count = self.lastcount = 0
         self.dropping = False
@@ -113,7 +114,7 @@ class Pseudocode:
                 else:
                     self.drop_next = self.control_law(self.drop_next, self.count)
         elif ok_to_drop:
-            dropped.append(None)
+            dropped.append(0)           # counted below
             packet, ok_to_drop = self.dodequeue(now)
             self.dropping = True
             delta = self.count - self.lastcount
@@ -145,7 +146,8 @@ class OfModel:
 
 def drops_at_link(queue, offered, rate):
     """What a queue of Python drops before a link: (ns, count)."""
-    drops, free_at = [], None
+    drops: list[tuple[int, int]] = []
+    free_at = None
 
     def take(now):
         dropped, size = queue.take(now)
@@ -177,7 +179,7 @@ def headers():
 def linux_version():
     if headers() is None or shutil.which('cc') is None:
         return None
-    return re.search('linux-headers-([0-9.]+-[0-9]+)', headers())[1]
+    return re.findall('linux-headers-([0-9.]+-[0-9]+)', headers())[0]
 
 
 def ns3_version():
@@ -229,7 +231,7 @@ def beside(mine, theirs):
 
 def gaps_by_count(drops, limit=40):
     """Of each count the wait from its drop to the next in the same drop state, as the first drop state of that length has it."""
-    gaps = {}
+    gaps: dict[int, int] = {}
     for (time, count), (later, after) in zip(drops, drops[1:]):
         if after == count + 1 and count <= limit:
             gaps.setdefault(count, later - time)

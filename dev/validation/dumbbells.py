@@ -45,7 +45,7 @@ def of_tcpsim(dumbbell, program, more=()):
     done = subprocess.run([program, 'figures'], input=text.encode('ascii'), capture_output=True, check=True)
     run = EngineRun(Scenario(text), done.stdout.decode('ascii'))
     flows, link = run.flows[:dumbbell.flows], run.links[0]
-    shares = [run.goodput(number) for number in range(dumbbell.flows)]
+    shares = [run.goodput(number) or 0 for number in range(dumbbell.flows)]
     dropped = run.dropped(0)
     return {'goodput': sum(flow['delivered', 'bytes'] for flow in flows) * 8 / dumbbell.end,
             'loss': dropped / link['offered', 'packets'], 'timeouts': sum(flow['timeouts', 'times'] for flow in flows),

@@ -97,7 +97,7 @@ def debugged(net, program, commands, end=60 * S):
 
 def no_sample_of_a_resent_segment(program):
     said = debugged(flow([1], segments=1), program, 'step 1000000\nstate\n')
-    state = re.search(r'sender 0 una=500 .*', said)[0]
+    state = re.findall(r'sender 0 una=500 .*', said)[0]
     assert ' srtt=- ' in state and ' rto=2000000000 ' in state, state
     return 'no round trip is known after the one segment was sent again'
 
@@ -117,8 +117,7 @@ def round_trip_estimator(program):
     """The first measured round trip is the mean, and half of it the deviation (RFC 6298, 2.2)."""
     net = flow(segments=1, rate=10**12)
     said = debugged(net, program, 'step 1000000\nstate\n')
-    state = re.search(r' srtt=(\d+) rttvar=(\d+) ', said)
-    srtt, rttvar = int(state[1]), int(state[2])
+    srtt, rttvar = map(int, re.findall(r' srtt=(\d+) rttvar=(\d+) ', said)[0])
     assert 100 * MS <= srtt < 100 * MS + 20 and rttvar == srtt // 2
     return f'srtt {srtt} ns, rttvar {rttvar} ns'
 
@@ -134,7 +133,7 @@ def codel_drops_after_an_interval(program):
     net = flow(queue=Queue('codel', 1000, 5 * MS, 100 * MS, 540), rwnd=OPEN, segments=3000)
     text = trace(net, program)
     drops = [int(time) for time in re.findall(r'^\d+ (\d+) .* drop=codel', text, re.M)]
-    begun = int(re.search(r'^\d+ (\d+) 0 \S+ \S+ free .*', text, re.M)[1])
+    begun = int(re.findall(r'^\d+ (\d+) 0 \S+ \S+ free .*', text, re.M)[0])
     assert drops and drops[0] >= begun + 100 * MS
     packet, second = 540 * 8000, 70_710_678         # ns: of a packet, and interval / sqrt(2)
     assert 0 <= drops[1] - drops[0] - 100 * MS <= packet and 0 <= drops[2] - drops[0] - 100 * MS - second <= packet

@@ -5,6 +5,7 @@ Figures of a part of a run are those of the program for two ends, the second les
 import math
 import subprocess
 from collections import namedtuple
+from collections.abc import Callable
 
 from tcpsim.cli.net import scenario
 from tcpsim.engine import WAITED, EngineRun
@@ -164,8 +165,9 @@ def small_buffers(program):
     return points
 
 
-LAWS = {'utilization by buffer': utilization, 'a standing queue': standing, 'square root': square_root,
-        'rounds of slow start': slow_start, 'fairness with CoDel': fairness}
+LAWS: dict[str, Callable] = {
+    'utilization by buffer': utilization, 'a standing queue': standing, 'square root': square_root,
+    'rounds of slow start': slow_start, 'fairness with CoDel': fairness}
 
 
 def is_kept(point):

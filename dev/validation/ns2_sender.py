@@ -116,7 +116,7 @@ class Ns2Sender(Sender):
         return self.nxt + self.mss <= self.una + window * self.mss and self.nxt < self.total
 
     def fill(self, now, most=None):
-        sent = []
+        sent: list[int] = []
         while self.may_send(self.window()) and (most is None or len(sent) < most):
             sent.append(self.send_next(now))
         return sent

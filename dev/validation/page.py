@@ -1,6 +1,7 @@
 """Writes the tables of docs/VALIDATION.md from the numbers that are kept; its text around them is written by hand."""
 import os
 import re
+from collections.abc import Callable
 
 from validation import stored
 from validation.ns2_sender import SWITCHES
@@ -102,8 +103,9 @@ def newreno(kept):
 
 def aggregates(kept):
     numbers, lines = kept['numbers'], [made(kept), '']
-    forms = (('goodput', 'Goodput, Mbit/s', lambda value: f'{value / 1e6:.2f}'), ('loss', 'Loss, %', lambda value: f'{100 * value:.2f}'),
-             ('timeouts', 'Timeouts', '{:,}'.format), ('jain', 'Jain', '{:.3f}'.format), ('queue', 'Mean queue', '{:.1f}'.format))
+    forms: tuple[tuple[str, str, Callable[[float], str]], ...] = (
+        ('goodput', 'Goodput, Mbit/s', lambda value: f'{value / 1e6:.2f}'), ('loss', 'Loss, %', lambda value: f'{100 * value:.2f}'),
+        ('timeouts', 'Timeouts', '{:,}'.format), ('jain', 'Jain', '{:.3f}'.format), ('queue', 'Mean queue', '{:.1f}'.format))
     return lines + table(('Dumbbell of 16 flows', *(title for _, title, _ in forms)),
                          [(row['name'], *(f'{form(row["tcpsim"][key])} / {form(row["ns-2"][key]) if "ns-2" in row else "-"}'
                                           for key, _, form in forms)) for row in numbers])

@@ -114,14 +114,15 @@ def newreno_open_window(program):
     """The same flow with an open window and with the one that tcpsim-net writes."""
     with tempfile.TemporaryDirectory() as folder:
         paths = []
-        for name, words in (('open', ['--rwnd', str(2**30)]), ('bounded', [])):
+        windows: list[tuple[str, list[str]]] = [('open', ['--rwnd', str(2**30)]), ('bounded', [])]
+        for name, words in windows:
             paths.append(os.path.join(folder, name + '.txt'))
             with open(paths[-1], 'w', encoding='ascii') as file:
                 file.write(scenario([*OPEN, *words]))
-        words = plot.words_of([paths[0], '--beside', paths[1], '--panels', 'window,sequence', '--names', 'open window,window of 61 kB',
+        given = plot.words_of([paths[0], '--beside', paths[1], '--panels', 'window,sequence', '--names', 'open window,window of 61 kB',
                                '--program', program, '--title', 'NewReno before 10 Mbit/s, 20 ms and 24 places', '-o',
                                path('newreno_open_window')])
-        figure = plot.figure_of(words)
+        figure = plot.figure_of(given)
         plot.save(figure, path('newreno_open_window'))
         plt.close(figure)
     return path('newreno_open_window')

@@ -93,7 +93,8 @@ class Logged(Network):
         return event
 
     def at_sender(self, node, now, numbers):
-        acts, mss = [], self.flows[0].mss
+        acts: list[str] = []
+        mss = self.flows[0].mss
         for seq in numbers:
             header = 0 if seq == 0 and 'segment 0 has no header' in self.on else HEADER_BYTES
             self.sends.append((now, seq // mss))
@@ -173,7 +174,7 @@ def compared(case, wanted=True):
 def ties_that_differ(case, sends):
     """How many moments at which an acknowledgement comes as the link becomes free have to go the other way for the model, with
     ns-2's rules, to send what ns-2 does; None where none were found. Each step turns the one that leads furthest."""
-    other_way = frozenset()
+    other_way: frozenset[int] = frozenset()
     for _ in range(12):
         run = Logged(case, ALL, other_way).run()
         far = first_other(run.sends, sends)
@@ -187,7 +188,7 @@ def ties_that_differ(case, sends):
             ahead[turned] = 10**9 if reached is None else reached
         if not ahead or max(ahead.values()) <= far:
             return None
-        other_way = max(ahead, key=ahead.get)
+        other_way = max(ahead, key=ahead.__getitem__)
     return None
 
 
