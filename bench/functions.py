@@ -1,7 +1,7 @@
 #!/usr/bin/env python3
 """What the proof of each function of a crate costs, in seconds of one processor.
 
-    bench/functions.py [--anew] [--least SECONDS] [CRATE ..]
+    bench/functions.py [--anew | --parts] [--least SECONDS] [CRATE ..]
 
 Prints what `dev/build.py --functions` counted last of each crate that is named. With none it prints the dearest
 twenty of all crates, as the table of bench/GATE.md. With --anew each crate is counted now, over the statements that
@@ -11,8 +11,15 @@ their sum is told.
 The prover says when it is done with a function, and what it has used since it said so before is the cost. So a
 function has with its own what stands before it: the lemmas that it cites first, and the statements of its module.
 What comes before the end of the first one, mostly reading the libraries, is told apart.
+
+What stands before a small function may be a part of a dear one: the prover walks through the bodies of those that call
+a function before it is done with it. With --parts each crate is counted now by the modules that the prover makes, from
+the moments at which it keeps them: of each function the walk through its body (Lts), its goals (Proof, with their answers),
+and all others. A module of no function, as a lemma file, has a line of its own.
 """
 import argparse
+import bisect
+import collections
 import contextlib
 import json
 import os
@@ -20,6 +27,9 @@ import re
 import shutil
 import subprocess
 import sys
+import tempfile
+import threading
+import time
 
 TOP = os.path.dirname(os.path.dirname(os.path.abspath(__file__)))
 sys.path.insert(0, f"{TOP}/dev")
@@ -28,6 +38,9 @@ import build  # pylint: disable=wrong-import-position
 DONE = re.compile(r"checked (\S+), \d+ of \d+$")
 TICKS = os.sysconf("SC_CLK_TCK")
 DEAREST = 20
+# The modules that the prover makes of a function, by what they are counted as.
+PARTS = {"Lts": "walk"} | dict.fromkeys(("Proof", "Answers", "Goals", "Invariants", "Given"), "goals")
+PARTS |= dict.fromkeys("Carried Code Kinds Layout Met Named Reads Statement Symbol TheLink Tie".split(), "others")
 
 
 def used(pid):
@@ -57,6 +70,60 @@ def count(name, words):
     if not prover.returncode:
         with open(f"{build.KEPT}/{name}.functions", "w", encoding="utf-8") as file:
             json.dump({"seconds": round(usage.ru_utime + usage.ru_stime, 2), "first": first, "functions": costs}, file, indent=1)
+    return prover.returncode
+
+
+def sampled(prover, samples):
+    """Notes every tenth of a second what a prover has used."""
+    while prover.returncode is None:
+        with contextlib.suppress(OSError):
+            samples.append((time.time(), used(prover.pid)))
+        time.sleep(0.1)
+
+
+def used_at(moment, samples):
+    """What was used up to a moment, between the two samples beside it."""
+    at = bisect.bisect(samples, (moment,))
+    (begun, before), (ended, after) = samples[max(0, at - 1)], samples[min(at, len(samples) - 1)]
+    return before + (after - before) * (min(max(0, moment - begun) / (ended - begun), 1) if ended > begun else 0)
+
+
+def part_of(module):
+    """Whose a module is, and as what it is counted."""
+    names = module.partition("-proofs.")[2].split(".")
+    for at, it in enumerate(names):
+        if at and it.partition("-")[0] in PARTS:
+            return ".".join(names[:at]), PARTS[it.partition("-")[0]]
+    return module, "others"
+
+
+def tell_parts(name, words, least):
+    """Runs the check of a crate, and prints of each function what its parts cost, the dearest first; answers the status."""
+    costs, samples = collections.defaultdict(collections.Counter), []
+    with tempfile.TemporaryDirectory() as folder, tempfile.TemporaryFile("w+", errors="replace") as said:
+        how = {"stdin": subprocess.DEVNULL, "stdout": said, "stderr": subprocess.STDOUT}
+        with subprocess.Popen([*words, "--incremental", folder], **how) as prover:
+            watch = threading.Thread(target=sampled, args=(prover, samples))
+            watch.start()
+            prover.wait()
+            watch.join()
+        if prover.returncode:
+            said.seek(0)
+            print(said.read(), end="")
+        files = [(os.stat(f"{at}/{it}").st_mtime, it.removesuffix(".oantt"))
+                 for at, _, found in os.walk(folder) if not at.endswith("/records") for it in found if it.endswith(".oantt")]
+    before = 0
+    for moment, module in sorted(files):
+        whose, part = part_of(module)
+        now = used_at(moment, samples)
+        costs[whose][part] += now - before
+        before = now
+    print(f"{name}: {samples[-1][1]:.0f} s\n     all    walk   goals  others")
+    for whose, parts in sorted(costs.items(), key=lambda it: -it[1].total()):
+        if parts.total() >= least:
+            print(f"{parts.total():8.1f}" + "".join(f"{parts[it]:8.1f}" for it in ("walk", "goals", "others")), whose)
+    sums = [sum(parts[it] for parts in costs.values()) for it in ("walk", "goals", "others")]
+    print(f"{sum(sums):8.1f}" + "".join(f"{it:8.1f}" for it in sums), "all of them", flush=True)
     return prover.returncode
 
 
@@ -112,6 +179,7 @@ def main():
     reader = argparse.ArgumentParser(description="What the proof of each function costs, in seconds.")
     reader.add_argument("crates", nargs="*", metavar="CRATE")
     reader.add_argument("--anew", action="store_true", help="count each crate now, over what `make run` keeps")
+    reader.add_argument("--parts", action="store_true", help="count each crate now, by the parts of each function's proof")
     reader.add_argument("--keep", action="store_true", help="the same, and keep its statements: what dev/build.py --functions does")
     reader.add_argument("--least", type=float, default=1, metavar="SECONDS", help="leave cheaper functions out")
     words = reader.parse_args()
@@ -120,13 +188,17 @@ def main():
         for crate in words.crates:
             if crate not in libraries:
                 raise build.Refused(f"there is no crate {crate}")
-            if words.keep:
+            check = build.check_words(crate, build.toolchain(), 1, libraries)
+            if words.parts:
+                status = tell_parts(crate, check, words.least)
+            elif words.keep:
                 status = proved(crate)
             else:
-                status = count(crate, build.check_words(crate, build.toolchain(), 1, libraries)) if words.anew else 0
+                status = count(crate, check) if words.anew else 0
             if status:
                 raise build.Refused(f"{crate} is not proved over what `make run` keeps")
-            tell(crate, words.least)
+            if not words.parts:
+                tell(crate, words.least)
         if not words.crates:
             tell_dearest(libraries)
     except build.Refused as why:

@@ -1,13 +1,14 @@
 #!/usr/bin/env python3
 """Measures the page with the simulator beside the native program and writes bench/PAGE.md:
-bench/page.py [--page FILE] [--rounds N] [--print]
+bench/page.py [--page FILE] [--rounds N] [--print] [--moved]
 
 Both do the same in turn in each round, on the same machine, and the least of all rounds counts. The browser is headless
-Chromium. A freeze is the longest task of the page's own thread while a run is read and shown (the Long Tasks API); memory is
-what the page's process holds more than before once it has read a trace, beside the trace's bytes. With --print nothing is
-written.
+Chromium; a number is moved in Firefox too. A freeze is the longest task of the page's own thread while a run is read and shown,
+by the clock and by the processor, as the browser traces it; memory is what the page's process holds more than before once it has
+read a trace, beside the trace's bytes. With --print nothing is written; --moved measures only the number that is moved.
 """
 import argparse
+import itertools
 import json
 import os
 import subprocess
@@ -27,10 +28,11 @@ MADE = os.path.join(TOP, 'out', 'page', 'tcpsim.html')
 # What is wanted: seconds of the first view and of the module, times the native seconds, seconds of a freeze, bytes an event beside the
 # trace, which is of runs with so many events.
 FIRST_VIEW, MODULE, FIGURES, RUN, FREEZE, MEMORY, MANY = 1.0, 4.0, 4, 6, 0.05, 24, 100_000
-STEPS, STEP = 200, 0.1      # steps of a number that is moved, and seconds of a step, at the 95th percentile
+STEPS, STEP, WAY = 200, 0.1, 8          # steps of a number that is moved, seconds of a step at the 95th percentile, and steps until it goes back
+# What is moved: a name, its text, and how the statement begins whose last number is moved.
+MOVED = (('bufferbloat', lambda: open(f'{TOP}/examples/bufferbloat.txt', encoding='ascii').read(), 'link a '),
+         ('dumbbell of 2 flows', lambda: disassemble(dumbbell(2, 1_350, droptail(50))).decode(), 'link l0 '))
 AFTER = 3               # seconds in which a worker is gone that was ended
-TASKS = '''window.longest = 0;
-new PerformanceObserver(list => { for (const task of list.getEntries()) longest = Math.max(longest, task.duration); }).observe({type: 'longtask'});'''
 READ = '''(async text => {
   const begun = performance.now(), run = simulator.engine.start(['run'], toBytes(text), {read: true}), record = new Record(factsOf(text, 'x'));
   await fill(record, run.pieces);
@@ -42,28 +44,22 @@ COUNT = '''(async text => {
   const begun = performance.now(), {status} = await simulator.engine.run(['figures'], toBytes(text));
   return [status, (performance.now() - begun) / 1000];
 })'''
-SHOW = '''(async text => {
-  simulator.editor.text = text;
-  await new Promise(done => setTimeout(done, 3000));
-  longest = 0;
+SHOW = '''(async () => {
   await simulator.start();
   await new Promise(done => setTimeout(done, 500));
-  return [simulator.page ? simulator.page.record.count : 0, longest / 1000];
-})'''
+  return simulator.page ? simulator.page.record.count : 0;
+})()'''
 
 
-# From the key until what it changes is drawn.
-MOVE = '''(async steps => {
-  const {box} = simulator.editor, line = simulator.editor.text.split('\\n').findIndex(it => it.startsWith('link a ')), took = [];
-  for (let k = 0; k < steps; k++) {
-    const begun = performance.now(), before = document.documentElement.dataset.explored;
-    box.setCursor({line, ch: box.getLine(line).length});
-    simulator.drag.key(-1);
-    while (document.documentElement.dataset.explored === before) await new Promise(done => setTimeout(done, 1));
-    await new Promise(done => requestAnimationFrame(() => requestAnimationFrame(done)));
-    took.push(performance.now() - begun);
-  }
-  return took.sort((a, b) => a - b);
+# From the key until the frame is out in which what it changes is drawn.
+MOVE = '''(async way => {
+  const {box} = simulator.editor, line = simulator.editor.text.split('\\n').findIndex(it => it.startsWith(window.moved)), begun = performance.now();
+  const drawn = new Promise(done => new MutationObserver(done).observe(document.documentElement, {attributeFilter: ['data-explored']}));
+  box.setCursor({line, ch: box.getLine(line).length});
+  simulator.drag.key(way);
+  await drawn;
+  await new Promise(done => requestAnimationFrame(() => { const {port1, port2} = new MessageChannel(); port1.onmessage = done; port2.postMessage(0); }));
+  return performance.now() - begun;
 })'''
 
 
@@ -90,7 +86,7 @@ def held(browser):
 
 
 def opened(path, folder):
-    browser = browsers.Chromium(folder, before=TASKS)
+    browser = browsers.Chromium(folder)
     browser.open(f'file://{path}')
     browser.wait('document.documentElement.dataset.ready')
     return browser
@@ -103,7 +99,7 @@ def measured(path, rounds):
              'one flow': disassemble(one_flow(130_000)).decode(), 'dumbbell of 8 flows': disassemble(dumbbell(8, 20_000, droptail(50))).decode()}
     first, ready, rows = [], [], []
     for _ in range(rounds):
-        with tempfile.TemporaryDirectory() as folder:
+        with tempfile.TemporaryDirectory(ignore_cleanup_errors=True) as folder:
             browser = opened(path, folder)
             shown, done = (int(browser.value(f'document.documentElement.dataset.{it}')) / 1000 for it in ('shown', 'ready'))
             first.append(shown)
@@ -112,7 +108,7 @@ def measured(path, rounds):
             browser.close()
     for name, text in texts.items():
         given, best = saved(f'page {name}', text), {}
-        with tempfile.TemporaryDirectory() as folder:
+        with tempfile.TemporaryDirectory(ignore_cleanup_errors=True) as folder:
             browser = opened(path, folder)
             words = json.dumps(text)
             for _ in range(rounds):
@@ -123,7 +119,7 @@ def measured(path, rounds):
                 for key, value in (('figures', figures), ('run', run), ('page figures', counted), ('page run', read)):
                     best[key] = min(value, best.get(key, value))
             browser.close()
-        with tempfile.TemporaryDirectory() as folder:
+        with tempfile.TemporaryDirectory(ignore_cleanup_errors=True) as folder:
             browser = opened(path, folder)
             browser.json(f'({READ})({words})')      # the code for it stays
             browser.value('window.kept = null')
@@ -131,30 +127,56 @@ def measured(path, rounds):
             browser.json(f'({READ})({words})')
             time.sleep(AFTER)
             beside = (held(browser) - before - size) / events
-            shown, longest = browser.json(f'({SHOW})({words})')
+            browser.value(f'simulator.openText({words}, "x")')
+            time.sleep(AFTER)
+            shown, *longest = browser.longest_task(SHOW)
             assert shown == events, (shown, events)
             browser.close()
         rows.append((name, events, size, best, longest, beside))
     return min(first), min(ready), rows, verdict
 
 
+def threads(browser):
+    """The seconds of the processor that the page's own thread took so far; only Chromium says them."""
+    if isinstance(browser, browsers.Firefox):
+        return None
+    return next(it['value'] for it in browser.call('Performance.getMetrics')['metrics'] if it['name'] == 'TaskDuration')
+
+
 def moved(path):
-    """Of both browsers the seconds of the steps of a queue of bufferbloat, from the least to the greatest."""
-    for kind in (browsers.Chromium, browsers.Firefox):
-        with tempfile.TemporaryDirectory() as folder:
+    """Of both browsers, and of runs below the bound of events: a name, the events, and of each step the seconds until it is seen and those
+    that the page's own thread took of the processor."""
+    for (name, text, begin), kind in itertools.product(MOVED, (browsers.Chromium, browsers.Firefox)):
+        with tempfile.TemporaryDirectory(ignore_cleanup_errors=True) as folder:
             browser = kind(folder)
             browser.size(1400, 900)
             browser.open(f'file://{path}')
             browser.wait('document.documentElement.dataset.ready')
-            browser.value('simulator.openExample("bufferbloat")')
+            browser.value(f'window.moved = {json.dumps(begin)}; simulator.openText({json.dumps(text())}, "moved")')
             browser.wait('document.documentElement.dataset.judged === "0"')
-            browser.value('simulator.start()')
-            yield kind.__name__, [took / 1000 for took in browser.json(f'({MOVE})({STEPS})')]
+            browser.json('simulator.start().then(() => page.play(false))')
+            events, took, own = browser.value('page.record.count'), [], []
+            if kind is browsers.Chromium:
+                browser.call('Performance.enable', timeDomain='threadTicks')
+            for step in range(STEPS):
+                before = threads(browser)
+                took.append(browser.json(f'({MOVE})({1 if step // WAY % 2 else -1})') / 1000)
+                if before is not None:
+                    own.append(threads(browser) - before)
             browser.close()
+            yield f'{name}, {kind.__name__}', events, sorted(took), sorted(own)
 
 
 def judged(value, most, text):
     return text if value <= most else f'**{text}**'
+
+
+def rows_of_moved(path):
+    yield from table((f'A queue is moved, {STEPS} steps', 'Events', 'Seen after, median, ms', '95th percentile, ms', 'Of the page\'s own thread, median, ms', '95th percentile, ms', 'Load'), (
+        (name, f'{events:,}', f'{1000 * took[len(took) // 2]:.0f}', judged(took[len(took) * 95 // 100], STEP, f'{1000 * took[len(took) * 95 // 100]:.0f}'),
+         *((f'{1000 * own[len(own) // 2]:.0f}', f'{1000 * own[len(own) * 95 // 100]:.0f}') if own else ('-', '-')), f'{os.getloadavg()[0]:.1f}')
+        for name, events, took, own in moved(path)))
+    yield f'The bound is {1000 * STEP:.0f} ms. Beside other work on the machine a step waits for a processor; what its own thread takes of one does not grow so.'
 
 
 def written(path, rounds):
@@ -179,14 +201,12 @@ def written(path, rounds):
         for name, events, size, best, _, _ in rows))
     yield f'The bounds are {FIGURES} and {RUN} times.'
     yield ''
-    yield from table(('Run', 'Shown with its figures, longest task, ms', 'Read, bytes an event beside the trace'), (
-        (name, judged(longest, FREEZE, f'{1000 * longest:.0f}'), judged(beside, MEMORY, f'{beside:.0f}') if events > MANY else '-')
+    yield from table(('Run', 'Shown with its figures, longest task, ms', 'of a processor, ms', 'Read, bytes an event beside the trace'), (
+        (name, *(judged(it, FREEZE, f'{1000 * it:.0f}') for it in longest), judged(beside, MEMORY, f'{beside:.0f}') if events > MANY else '-')
         for name, events, _, _, longest, beside in rows))
     yield f'The bounds are {1000 * FREEZE:.0f} ms, and {MEMORY} bytes an event where there are more than {MANY:,}.'
     yield ''
-    yield from table((f'A queue of bufferbloat is moved, {STEPS} steps', 'Median, ms', '95th percentile, ms', 'At most'), (
-        (name, f'{1000 * took[len(took) // 2]:.0f}', judged(took[len(took) * 95 // 100], STEP, f'{1000 * took[len(took) * 95 // 100]:.0f}'), f'{1000 * STEP:.0f}')
-        for name, took in moved(path)))
+    yield from rows_of_moved(path)
 
 
 def main():
@@ -194,14 +214,16 @@ def main():
     reader.add_argument('--page', default=MADE)
     reader.add_argument('--rounds', type=int, default=5)
     reader.add_argument('--print', action='store_true')
+    reader.add_argument('--moved', action='store_true')
     words = reader.parse_args()
     if not os.path.exists(words.page):
         sys.exit(f'{words.page} is not there: make page')
     lines = []
-    for line in written(os.path.abspath(words.page), words.rounds):
+    path = os.path.abspath(words.page)
+    for line in rows_of_moved(path) if words.moved else written(path, words.rounds):
         print(line, flush=True)
         lines.append(line)
-    if not words.print:
+    if not (words.print or words.moved):
         with open(PAGE, 'w', encoding='utf-8') as file:
             file.write('\n'.join(lines).rstrip('\n') + '\n')
 
