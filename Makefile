@@ -96,9 +96,10 @@ install:
 	install -D -m 644 "$$it" "$$ROOT/lib/tcpsim/$${it#python/}" || exit 1; done
 	install -m 755 $(TOOLS:%=bin/tcpsim-%) "$$ROOT/bin"
 	install -m 644 man/*.1 "$$ROOT/share/man/man1"
-	@for it in README.md CHANGELOG.md CONTRIBUTING.md SECURITY.md THIRD-PARTY LICENSE-MIT LICENSE-APACHE docs/*.md docs/pictures/* \
+	@for it in README.md CHANGELOG.md CONTRIBUTING.md SECURITY.md THIRD-PARTY LICENSE-MIT LICENSE-APACHE docs/*.md docs/pictures/* crates/README.md \
 	bench/*.md examples/* dev/README.md python/README.md python/tcpsim_model/README.md $$(find editors -type f); do \
 	install -D -m 644 "$$it" "$$ROOT/$(DOCUMENTS)/$$it" || exit 1; done
+	@python3 dev/crates_page.py --files "$$ROOT/$(DOCUMENTS)/docs/FILES.md" && chmod 644 "$$ROOT/$(DOCUMENTS)/docs/FILES.md"
 	install -m 644 completions/tcpsim.bash "$$ROOT/$(BASH_COMPLETIONS)/tcpsim"
 	install -D -m 644 completions/_tcpsim "$$ROOT/$(ZSH_COMPLETION)"
 	install -m 644 completions/tcpsim.fish "$$ROOT/$(FISH_COMPLETIONS)/tcpsim.fish"
