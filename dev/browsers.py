@@ -3,6 +3,7 @@ both over a web socket (python3-websockets). Each has `open`, `value`, `click`, 
 """
 import asyncio
 import base64
+import contextlib
 import json
 import os
 import re
@@ -15,7 +16,7 @@ from collections.abc import Callable
 CHROMIUM = next((it for it in map(shutil.which, ('chromium', 'chromium-browser', 'google-chrome')) if it), None)
 FIREFOX = next((it for it in map(shutil.which, ('firefox-esr', 'firefox')) if it), None)
 # How long a browser may take to start, and a command to be answered, in seconds.
-START, ANSWER = 120, 600
+START, ANSWER = 120, 300
 
 
 class Gone(Exception):
@@ -29,6 +30,7 @@ class Wire:
         self._loop = asyncio.new_event_loop()
         threading.Thread(target=self._loop.run_forever, daemon=True).start()
         self._count, self.events = 0, []
+        self.silent = False         # once a command had no answer
         self._socket = self._wait(self._connect(address), START)
 
     @staticmethod
@@ -38,7 +40,11 @@ class Wire:
             address, max_size=None, open_timeout=START, ping_interval=None)
 
     def _wait(self, task, seconds):
-        return asyncio.run_coroutine_threadsafe(task, self._loop).result(seconds)
+        """What a task gives; after so many seconds it is ended, so that the next command reads its own answer."""
+        try:
+            return asyncio.run_coroutine_threadsafe(asyncio.wait_for(task, seconds), self._loop).result()
+        except asyncio.TimeoutError:
+            raise Gone(f'the browser gives no answer in {seconds} seconds') from None
 
     async def _ask(self, message):
         await self._socket.send(json.dumps(message))
@@ -51,10 +57,14 @@ class Wire:
                 await self._socket.send(json.dumps({'id': 0, 'method': 'Page.handleJavaScriptDialog', 'params': {'accept': True},
                                                     'sessionId': answer['sessionId']}))
 
-    def ask(self, message):
+    def ask(self, message, seconds=ANSWER):
         """Sends a command; answers its answer."""
         self._count += 1
-        return self._wait(self._ask({**message, 'id': self._count}), ANSWER)
+        try:
+            return self._wait(self._ask({**message, 'id': self._count}), seconds)
+        except Gone:
+            self.silent = self.silent or seconds == ANSWER
+            raise
 
     def close(self):
         """Closes the socket."""
@@ -105,15 +115,17 @@ class Browser:
     def reload(self):
         """Loads the page anew, as the key F5 does; where it asks, whoever uses it wants to leave."""
         self.value('(window.loaded = 1) && setTimeout(() => location.reload(), 0)')
+        self.wait_loaded('!window.loaded')
+
+    def wait_loaded(self, which):
+        """Waits until the page is loaded of which an expression is true. What is asked between two pages may have no answer."""
         until = time.monotonic() + START
         while time.monotonic() < until:
-            try:
-                if self.value('!window.loaded && document.readyState === "complete"'):
+            with contextlib.suppress(Gone):
+                if self.value(f'{which} && document.readyState === "complete"', 10):
                     return
-            except Gone:        # between both
-                pass
             time.sleep(.1)
-        raise Gone('the page is not loaded anew')
+        raise Gone('the page is not loaded')
 
     def middle(self, script):
         """The middle of an element, brought into view."""
@@ -150,11 +162,11 @@ class Chromium(Browser):
             self.call('Page.addScriptToEvaluateOnNewDocument', source=before)
         self.size(1280, 800)
 
-    def call(self, method, **given):
+    def call(self, method, seconds=ANSWER, **given):
         message = {'method': method, 'params': given}
         if self.session:
             message['sessionId'] = self.session
-        answer = self.wire.ask(message)
+        answer = self.wire.ask(message, seconds)
         if 'error' in answer:
             raise Gone(answer['error'])
         return answer['result']
@@ -168,10 +180,10 @@ class Chromium(Browser):
         self.value('window.onbeforeunload = null')      # a page that would ask keeps the answer to the command back
         self.call('Page.navigate', url='about:blank')
         self.call('Page.navigate', url=address)
-        self.wait('location.href !== "about:blank" && document.readyState === "complete"')
+        self.wait_loaded('location.href !== "about:blank"')
 
-    def value(self, script):
-        answer = self.call('Runtime.evaluate', expression=script, awaitPromise=True, returnByValue=True,
+    def value(self, script, seconds=ANSWER):
+        answer = self.call('Runtime.evaluate', seconds, expression=script, awaitPromise=True, returnByValue=True,
                            allowUnsafeEvalBlockedByCSP=False)
         if 'exceptionDetails' in answer:
             raise Gone(json.dumps(answer['exceptionDetails'])[:800])
@@ -248,8 +260,8 @@ class Firefox(Browser):
             self.call('script.addPreloadScript', functionDeclaration=f'() => {{ {before} }}')
         self.size(1280, 800)
 
-    def call(self, method, **given):
-        answer = self.wire.ask({'method': method, 'params': given})
+    def call(self, method, seconds=ANSWER, **given):
+        answer = self.wire.ask({'method': method, 'params': given}, seconds)
         if answer.get('type') == 'error':
             raise Gone(f'{answer["error"]}: {answer["message"]}'[:800])
         return answer['result']
@@ -260,11 +272,14 @@ class Firefox(Browser):
 
     def open(self, address):
         """Opens a page, and waits until it is loaded."""
-        self.call('browsingContext.navigate', context=self.context, url='about:blank', wait='complete')
-        self.call('browsingContext.navigate', context=self.context, url=address, wait='complete')
+        # Firefox that is to answer once the page is loaded gives no answer now and then.
+        self.call('browsingContext.navigate', context=self.context, url='about:blank', wait='none')
+        self.wait_loaded('location.href === "about:blank"')
+        self.call('browsingContext.navigate', context=self.context, url=address, wait='none')
+        self.wait_loaded('location.href !== "about:blank"')
 
-    def value(self, script):
-        answer = self.call('script.evaluate', expression=script, target={'context': self.context}, awaitPromise=True)
+    def value(self, script, seconds=ANSWER):
+        answer = self.call('script.evaluate', seconds, expression=script, target={'context': self.context}, awaitPromise=True)
         if answer['type'] == 'exception':
             raise Gone(answer['exceptionDetails']['text'][:800])
         return answer['result'].get('value')

@@ -9,8 +9,8 @@ After `make run` alone leave it out, by naming the others. Each test has a folde
 ended, and the folders taken away, where this script is interrupted. --python has pytest; where it is empty what wants
 that is left out. What all of them cost is kept for the table of bench/gate.py.
 
-A test that fails beside others may have lacked time alone: it is run once more when nothing else runs, and fails where it
-does so again. The last lines say which tests passed alone only. The last of all is 'N tests passed, N failed', and the status
+A test that fails beside others may have lacked time alone: what failed of it is run once more when nothing else runs, and
+fails where it does so again. The last lines say which tests passed alone only. The last of all is 'N tests passed, N failed', and the status
 is 1 where one failed; where CI=true also where something was left out.
 """
 import argparse
@@ -34,7 +34,10 @@ LONG = ('dev/test_page.py', 'dev/test_page_lecture.py', 'dev/test_page_debugger.
         'dev/test_compare.py', 'python/tests/test_sweep_engines.py', 'python/tests/test_sweep_means.py', 'python/tests/test_sweep_files.py',
         'python/tests/test_sweep.py', 'python/tests/test_trace.py', 'python/tests/test_plot.py', 'dev/test_bounds.py',
         'dev/refuse_tests.sh', 'dev/test_helgrind.py', 'dev/test_dist.py', 'dev/test_types.py')
+# Those that have browsers, each of several threads, and how many of them are run at once.
+BROWSERS, BROWSERS_AT_ONCE = 'dev/test_page', 2
 LEFT_OUT = 'LEFT OUT', 'SKIPPED'            # how a line begins that says so: ours, and pytest's
+ADDED = '-q -rs --no-header --tb=short'     # as pytest.ini has it, but for the cache, which says what failed
 # How long what was ended may take to end, in seconds.
 GRACE = 5
 
@@ -48,9 +51,12 @@ def all_tests():
 class Test:
     """One test, its process while it runs, and what it said."""
 
-    def __init__(self, name, python, folder):
+    def __init__(self, name, python, folder, again=False):
         self.name, self.folder = name, f'{folder}/{os.path.basename(name)}'
-        self.words = [f'./{name}'] if name.endswith('.sh') else [python, '-m', 'pytest', name]
+        # What failed is kept where both find it: the test, and the test run again.
+        kept = f'{folder}/{".." if again else "."}/{os.path.basename(name)}.failed'
+        words = ['-o', f'addopts={ADDED}', '-o', f'cache_dir={os.path.normpath(kept)}', *['--last-failed'] * again]
+        self.words = [f'./{name}'] if name.endswith('.sh') else [python, '-m', 'pytest', *words, name]
         self.process: subprocess.Popen[bytes] | None = None
         self.status, self.seconds, self.begun = 0, 0.0, 0.0
         self.usage: resource.struct_rusage
@@ -62,6 +68,9 @@ class Test:
             self.process = subprocess.Popen(self.words, cwd=TOP, stdin=subprocess.DEVNULL, stdout=said,
                                             stderr=subprocess.STDOUT, preexec_fn=os.setpgrp,
                                             env={**os.environ, 'TMPDIR': self.folder})
+
+    def has_browsers(self):
+        return self.name.startswith(BROWSERS)
 
     def has_ended(self):
         if self.process is None:
@@ -126,9 +135,13 @@ def run(tests, jobs):
     untold, failed = list(tests), []
     try:
         while untold:
-            while left and len(running) < jobs:
-                running.append(left.pop(0))
-                running[-1].start()
+            browsers = sum(it.has_browsers() for it in running)
+            fit = [it for it in left if browsers < BROWSERS_AT_ONCE or not it.has_browsers()]
+            if fit and len(running) < jobs:
+                left.remove(fit[0])
+                fit[0].start()
+                running.append(fit[0])
+                continue
             running = [it for it in running if not it.has_ended()]
             while untold and untold[0].process and untold[0] not in running:
                 test = untold.pop(0)
@@ -155,7 +168,7 @@ def main():
         first = run(tests, max(1, words.jobs))
         alone = os.path.join(folder, 'alone')
         os.mkdir(alone, 0o711)
-        failed = run([Test(it.name, python or sys.executable, alone) for it in first], 1)
+        failed = run([Test(it.name, python or sys.executable, alone, True) for it in first], 1)
         out = [line for it in tests for line in it.said().splitlines() if line.startswith(LEFT_OUT)]
     if not words.names and not failed:
         build.keep_cost('tools', 'tests', sum(it.spent() for it in tests), 0)
