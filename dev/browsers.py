@@ -15,8 +15,9 @@ from collections.abc import Callable
 
 CHROMIUM = next((it for it in map(shutil.which, ('chromium', 'chromium-browser', 'google-chrome')) if it), None)
 FIREFOX = next((it for it in map(shutil.which, ('firefox-esr', 'firefox')) if it), None)
-# How long a browser may take to start, and a command to be answered, in seconds.
-START, ANSWER = 120, 300
+# How long a browser may take to start, a command to be answered, and a page to be loaded, in seconds. Now and then a browser of
+# either kind loads nothing of a page: it is asked so many times.
+START, ANSWER, LOAD, TRIES = 120, 300, 60, 4
 
 
 class Gone(Exception):
@@ -79,6 +80,7 @@ class Browser:
     """What both have in common: a process with a profile of its own, and the address that it says. Each has its `value`."""
 
     value: Callable[..., str]
+    navigate: Callable[[str], None]
 
     def __init__(self, words, folder, said, environment=None):
         self.log = open(os.path.join(folder, 'browser.log'), 'w+', encoding='utf-8', errors='replace')
@@ -112,6 +114,17 @@ class Browser:
             time.sleep(.1)
         raise Gone(f'it does not become true: {script}')
 
+    def open(self, address):
+        """Opens a page, and waits until it is loaded."""
+        for _ in range(TRIES):
+            with contextlib.suppress(Gone):
+                self.navigate('about:blank')
+                self.wait_loaded('location.href === "about:blank"')
+                self.navigate(address)
+                self.wait_loaded('location.href !== "about:blank"')
+                return
+        raise Gone('the page is not loaded')
+
     def reload(self):
         """Loads the page anew, as the key F5 does; where it asks, whoever uses it wants to leave."""
         self.value('(window.loaded = 1) && setTimeout(() => location.reload(), 0)')
@@ -119,7 +132,7 @@ class Browser:
 
     def wait_loaded(self, which):
         """Waits until the page is loaded of which an expression is true. What is asked between two pages may have no answer."""
-        until = time.monotonic() + START
+        until = time.monotonic() + LOAD
         while time.monotonic() < until:
             with contextlib.suppress(Gone):
                 if self.value(f'{which} && document.readyState === "complete"', 10):
@@ -175,12 +188,10 @@ class Chromium(Browser):
         """The size of what is seen."""
         self.call('Emulation.setDeviceMetricsOverride', width=width, height=height, deviceScaleFactor=1, mobile=mobile)
 
-    def open(self, address):
-        """Opens a page, and waits until it is loaded."""
-        self.value('window.onbeforeunload = null')      # a page that would ask keeps the answer to the command back
-        self.call('Page.navigate', url='about:blank')
-        self.call('Page.navigate', url=address)
-        self.wait_loaded('location.href !== "about:blank"')
+    def navigate(self, address):
+        """Begins to load a page; one that would ask whether to leave it is not asked, since it keeps the answer back."""
+        self.value('window.onbeforeunload = null', 10)
+        self.call('Page.navigate', LOAD, url=address)
 
     def value(self, script, seconds=ANSWER):
         answer = self.call('Runtime.evaluate', seconds, expression=script, awaitPromise=True, returnByValue=True,
@@ -270,13 +281,9 @@ class Firefox(Browser):
         """The size of what is seen."""
         self.call('browsingContext.setViewport', context=self.context, viewport={'width': width, 'height': height})
 
-    def open(self, address):
-        """Opens a page, and waits until it is loaded."""
-        # Firefox that is to answer once the page is loaded gives no answer now and then.
-        self.call('browsingContext.navigate', context=self.context, url='about:blank', wait='none')
-        self.wait_loaded('location.href === "about:blank"')
-        self.call('browsingContext.navigate', context=self.context, url=address, wait='none')
-        self.wait_loaded('location.href !== "about:blank"')
+    def navigate(self, address):
+        """Begins to load a page."""
+        self.call('browsingContext.navigate', LOAD, context=self.context, url=address, wait='none')
 
     def value(self, script, seconds=ANSWER):
         answer = self.call('script.evaluate', seconds, expression=script, target={'context': self.context}, awaitPromise=True)
