@@ -31,7 +31,7 @@ class Wire:
         self._loop = asyncio.new_event_loop()
         threading.Thread(target=self._loop.run_forever, daemon=True).start()
         self._count, self.events = 0, []
-        self.silent = False         # once a command had no answer
+        self.silent = False
         self._socket = self._wait(self._connect(address), START)
 
     @staticmethod
@@ -139,6 +139,11 @@ class Browser:
                     return
             time.sleep(.1)
         raise Gone('the page is not loaded')
+
+    @property
+    def silent(self):
+        """Whether a command had no answer."""
+        return self.wire is not None and self.wire.silent
 
     def middle(self, script):
         """The middle of an element, brought into view."""

@@ -25,10 +25,10 @@ def made(tmp_path_factory):
 @pytest.fixture(scope='session')
 def opened(made, tmp_path_factory):
     """A browser of a kind with the page ready; each is started once, and anew where it gave no answer."""
-    started = {}
+    started: dict[str, browsers.Browser] = {}
 
     def of(kind):
-        if kind in started and started[kind].wire.silent:
+        if kind in started and started[kind].silent:
             started.pop(kind).close()
         if kind not in started:
             wanted(KINDS[kind], f'no {kind}: apt-get install {"chromium" if kind == "Chromium" else "firefox-esr"}')
