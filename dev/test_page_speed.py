@@ -36,7 +36,7 @@ SEEN = '''(() => {
 })()'''
 # What each frame shows until a script is done.
 FRAMES = '''(async () => {
-  const seen = [], look = () => ''' + SEEN + ''';
+  const seen = [], look = () => %s;
   let goes = true;
   const frame = () => { seen.push(look()); if (goes) requestAnimationFrame(frame); };
   requestAnimationFrame(frame);
@@ -44,6 +44,12 @@ FRAMES = '''(async () => {
   await new Promise(done => setTimeout(done, 300));
   goes = false;
   return [...new Map(seen.map(it => [JSON.stringify(it), it])).values()];
+})()'''
+# What is seen of two runs that are compared: in both nets, the curves' names and the figures.
+BOTH_SEEN = '''(() => {
+  const place = document.getElementById('both'), all = (of, css) => [...of.querySelectorAll(css)].map(it => it.textContent).join('|');
+  return place.firstChild && getComputedStyle(place).visibility === 'visible' ? [...[...place.querySelectorAll('iframe')].map(
+    it => it.contentDocument ? all(it.contentDocument, 'h1, #net .node .name, #net .queue > title, #where') : ''), all(place, '.charts path > title, .charts label'), all(place, 'td')] : null;
 })()'''
 # A run is begun; while it is built another scenario is opened, and run.
 IN_BETWEEN = '''async () => {
@@ -59,6 +65,21 @@ IN_BETWEEN = '''async () => {
   await second;
   watch.disconnect();
   page.play(false);
+}'''
+# Two runs are compared; while they are shown, part by part, others are.
+BOTH_IN_BETWEEN = '''async () => {
+  const {compare} = simulator, place = document.getElementById('both'), pauses = pause;
+  let parts = 0, second = null, wrong = null;
+  pause = () => {
+    if (place.classList.contains('building') && ++parts === %d) { compare.choose('example two_flows_share_fairly'); second = compare.start(); }
+    return pauses();
+  };
+  compare.choose('example bufferbloat_with_codel');
+  compare.start().catch(it => { wrong = it; });
+  while (!second) await new Promise(done => setTimeout(done, 20));
+  await second;
+  pause = pauses;
+  if (wrong) throw wrong;
 }'''
 
 
@@ -81,18 +102,36 @@ def times_of_pace(browser, script):
     return least[0] / least[1]
 
 
+def by_parts(browser, script):
+    """No task of a script is long, whose code is compiled by now; without a pause between its parts one is."""
+    browser.value(script + AFTER)
+    assert times_of_pace(browser, script) < 1
+    browser.value('window.pauses = pause; pause = async () => {}; 0')
+    try:
+        assert times_of_pace(browser, script) > 1
+    finally:
+        browser.value('pause = pauses; 0')
+
+
 def test_no_task_is_long_after_a_run(chromium):
-    """By the processor's time of the page's own thread, of a run of 30,000 events; without a pause between its parts one is."""
+    """By the processor's time of the page's own thread, of a run of 30,000 events in five panels."""
     chromium.size(1400, 1600)
     opens(chromium, dumbbell(*RUN))
-    chromium.value('simulator.choosePanels = panels => panels.name(Object.keys(PANELS).slice(0, 5)); simulator.start()' + AFTER)     # its code is compiled
-    assert 25_000 < chromium.value('page.record.count') <= 30_000
-    assert times_of_pace(chromium, 'simulator.start()') < 1
-    chromium.value('window.pauses = pause; pause = async () => {}; 0')
+    chromium.value('simulator.choosePanels = panels => panels.name(Object.keys(PANELS).slice(0, 5)); 0')
     try:
-        assert times_of_pace(chromium, 'simulator.start()') > 1
+        by_parts(chromium, 'simulator.start()')
     finally:
-        chromium.value('pause = pauses; delete simulator.choosePanels')
+        chromium.value('delete simulator.choosePanels')
+    assert 25_000 < chromium.value('page.record.count') <= 30_000
+
+
+def test_no_task_is_long_where_two_runs_are_compared(chromium, texts):
+    """Both are built part by part, as one is."""
+    chromium.size(1400, 900)
+    opens(chromium, texts[0])
+    chromium.value('simulator.showTab("compare"); simulator.compare.choose("example bufferbloat_with_codel"); 0')
+    by_parts(chromium, 'simulator.compare.start()')
+    chromium.value('simulator.compare.end(); simulator.showTab("net")')
 
 
 @pytest.mark.parametrize('parts', [1, 4, 8])
@@ -102,10 +141,23 @@ def test_no_frame_has_parts_of_two_runs(browser, texts, parts):
     first, second = (shown(browser, text) for text in texts)
     assert first and second and all(one != two for one, two in zip(first, second))
     opens(browser, texts[0])
-    frames = browser.json(FRAMES % (IN_BETWEEN % (parts, json.dumps(texts[1]))))
+    frames = browser.json(FRAMES % (SEEN, IN_BETWEEN % (parts, json.dumps(texts[1]))))
     assert [it for it in frames if it not in (None, first, second)] == []
     assert frames[-1] == second and first not in frames
     assert browser.value('!document.getElementById("tab-net").classList.contains("building") && simulator.list.record === page.record')
+
+
+@pytest.mark.parametrize('parts', [1, 7, 10])
+def test_no_frame_has_parts_of_two_comparisons(browser, texts, parts):
+    """Newer ones that come while older ones are built, in the frames, in figures or curves, end these."""
+    browser.size(1400, 900)
+    opens(browser, texts[0])
+    browser.value('simulator.showTab("compare")')
+    both = [browser.json(f'(simulator.compare.choose("example {name}"), simulator.compare.start()).then(() => {BOTH_SEEN})') for name in ('bufferbloat_with_codel', 'two_flows_share_fairly')]
+    assert all(both) and all(one != two for one, two in zip(both[0][1:], both[1][1:]))
+    frames = browser.json(FRAMES % (BOTH_SEEN, BOTH_IN_BETWEEN % parts))
+    assert [it for it in frames if it not in (None, both[1])] == [] and frames[-1] == both[1]
+    browser.value('simulator.compare.end(); simulator.showTab("net")')
 
 
 @pytest.mark.parametrize('link, word, event', [('a', 7, 4000), ('sp', 4, 0)], ids=['capacity', 'rate'])
@@ -117,7 +169,7 @@ def test_no_frame_of_a_drag_has_parts_of_two_runs(browser, texts, link, word, ev
     at = f'const {{box}} = simulator.editor, line = simulator.editor.text.split("\\n").findIndex(it => it.startsWith("link {link} ")); box.setCursor({{line, ch: [...box.getLine(line).matchAll(/[^ ]+/g)][{word}].index}});'
     move = f'async () => {{ {at} for (let k = 0; k < 3; k++) {{ simulator.drag.key(1); while (simulator.exploring) await new Promise(done => setTimeout(done, 20)); window.steps.push({SEEN}); }} }}'
     browser.value(f'window.steps = [{SEEN}]')
-    frames = browser.json(FRAMES % move)
+    frames = browser.json(FRAMES % (SEEN, move))
     steps = browser.json('window.steps')
     assert len({json.dumps(it) for it in steps}) == 4
     assert [it for it in frames if it not in steps] == []

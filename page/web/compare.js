@@ -118,7 +118,7 @@ class Compare {
       runs.push(await this.second(first));
       if (this.token !== token) return;
       await this.show(runs);
-      this.say('');
+      if (this.token === token) this.say('');
     } catch (wrong) {
       if (!(wrong instanceof Wrong)) throw wrong;
       if (this.token === token) this.say(wrong.message);
@@ -147,22 +147,29 @@ class Compare {
 
   // ---- showing both
 
+  // Part by part, and not seen before all is there; a newer run ends it.
   async show(runs) {
-    this.place.append(byId('both-view').content.cloneNode(true));
-    const frames = this.frames = [...this.place.querySelectorAll('iframe')];
-    const pages = await Promise.all(frames.map((frame, k) => this.pageIn(frame, runs[k].record)));
+    const {token, place} = this, wanted = () => this.token === token;
+    place.classList.add('building');
+    place.append(byId('both-view').content.cloneNode(true));
+    const frames = this.frames = [...place.querySelectorAll('iframe')];
+    const pages = await Promise.all(frames.map((frame, k) => this.pageIn(frame, runs[k].record, wanted)));
+    if (wanted() && await inParts(this.parts(runs, pages), wanted)) place.classList.remove('building');
+  }
+  *parts(runs, pages) {
+    const {frames} = this;
     this.runs = runs;
     this.records = runs.map(({record}) => record);
     for (const frame of frames) frame.contentWindow.addEventListener('keydown', event => this.lecture.key(event), true);
     this.lecture.addKeys(this.at('keys'));
     const windows = [window, ...frames.map(frame => frame.contentWindow)];
     const within = event => event.view !== window || this.place.contains(event.target) || event.target === document.body && !this.place.closest('[hidden]');
-    this.drawCharts();
+    yield this.drawFigures(runs);
+    this.charts = [];
     this.clock = new Clock(pages, {at: this.at, windows, told: time => { this.charts.forEach(chart => chart.mark(time)); this.lecture.simulator.note(); },
       listens: event => within(event) && !['SELECT', 'TEXTAREA'].includes(event.target.tagName)});
-    this.drawFigures(runs);
     this.sayParting(this.records, this.token);
-    this.layNow();
+    yield* this.laying();
     this.sized = new ResizeObserver(() => this.lay());
     this.sized.observe(this.at('charts'));
     // A frame's net has its new size later than the page around it.
@@ -172,38 +179,45 @@ class Compare {
     clearTimeout(this.timer);
     this.timer = setTimeout(() => this.layNow(), LAY_AFTER);
   }
+  // Lays all out in the room that there is now; what was begun before ends.
   layNow() {
+    const mine = this.laid = {}, {clock} = this;
+    return inParts(this.laying(), () => this.laid === mine && this.clock === clock);
+  }
+  *laying() {
     const nets = this.place.querySelector('.nets');
     if (!this.clock || !nets.clientWidth) return;
-    this.clock.pages.forEach((page, k) => {
+    const {pages} = this.clock;
+    for (const [k, page] of pages.entries()) {
       const {classList} = this.frames[k].contentDocument.documentElement;
-      if (classList.contains('slide') === isSlide()) return;
+      if (classList.contains('slide') === isSlide()) continue;
       classList.toggle('slide', isSlide());
-      page.makeNet(this.folds(page.record));
-    });
+      yield page.makeNet(this.folds(page.record));
+    }
     // A lecture's nets lie below each other, or beside, as their letters are larger.
     const {width, height} = nets.getBoundingClientRect();
-    const pixels = (wide, tall) => Math.min(...this.clock.pages.map(({net}) => net.pixelsIn(wide, tall - HEAD)));
+    const pixels = (wide, tall) => Math.min(...pages.map(({net}) => net.pixelsIn(wide, tall - HEAD)));
     // Each has the height that it needs for letters that can be read, as far as both are seen then.
-    nets.style.minHeight = isSlide() ? '' : `${2 * Math.min(MOST_OF_FRAME, HEAD + d3.max(this.clock.pages, ({net}) => net.needs[1]))}px`;
+    nets.style.minHeight = isSlide() ? '' : `${2 * Math.min(MOST_OF_FRAME, HEAD + d3.max(pages, ({net}) => net.needs[1]))}px`;
     nets.classList.toggle('beside', isSlide() && pixels(width / 2, height) > pixels(width, height / 2));
-    this.clock.pages.forEach(page => page.lay());
+    for (const page of pages) yield page.lay();
     this.at('head').textContent = this.lecture.heading;
-    this.drawCharts();
+    for (const _ of this.drawingCharts()) yield;
     this.clock.go(this.clock.time);
   }
   // In half of the room the ends of a net of several flows are stubs.
   folds({facts: {flows, nodes}}) { return flows.length > MOST_WHOLE || (isNarrow() || isSlide()) && nodes.some(({kind}) => kind === 'router'); }
   // A page of the replay in a frame, which has style and scripts of this one.
-  pageIn(frame, record) {
+  pageIn(frame, record, wanted) {
     const script = id => `<script>${byId(id).textContent}</` + 'script>';
     return new Promise(done => {
       frame.title = record.facts.title;
-      frame.addEventListener('load', () => {
+      frame.addEventListener('load', async () => {
         const {contentDocument: inside, contentWindow: own} = frame;
         inside.querySelector('h1').textContent = record.facts.title;
         const page = new own.Page(record);
-        for (const _ of page.parts(this.folds(record) || undefined));
+        page.panels.name([]);
+        await inParts(page.parts(this.folds(record) || undefined), wanted);
         done(page);
       }, {once: true});
       frame.srcdoc = `<!DOCTYPE html><html lang="en" class="within overlaid${isSlide() ? ' slide' : ''}"><meta charset="utf-8"><title>a run</title><style>${byId('replay-style').textContent}` +
@@ -226,7 +240,8 @@ class Compare {
       return box.checked;
     });
   }
-  drawCharts() {
+  drawCharts() { for (const _ of this.drawingCharts()); }
+  *drawingCharts() {
     const {records} = this, time = this.clock ? this.clock.time : 0, begin = Math.min(...records.map(it => it.times[0]));
     const span = {times: [begin, Math.max(...records.map(it => it.times[it.count]))], count: 1, facts: {whole: true, end: Math.max(...records.map(({facts}) => facts.end))}};
     const names = (what, order) => [...new Set(records.flatMap(record => order(record).map(k => record.facts[what][k].name)))];
@@ -245,8 +260,9 @@ class Compare {
       return chart;
     };
     const said = 'solid the first run, dashed the second';
-    this.charts = [draw('windows', `cwnd in bytes: ${said}`, 'flows', flows, this.ticked('flows', flows, 2, colourOf), colourOf, (record, f) => record.curve(record.ofFlow(f, CWND))),
-      draw('lengths', `packets that wait: ${said}`, 'links', links, this.ticked('links', links, 1, linkColourOf), linkColourOf, (record, l) => record.queueCurve(l))];
+    this.charts[0] = draw('windows', `cwnd in bytes: ${said}`, 'flows', flows, this.ticked('flows', flows, 2, colourOf), colourOf, (record, f) => record.curve(record.ofFlow(f, CWND)));
+    yield;
+    this.charts[1] = draw('lengths', `packets that wait: ${said}`, 'links', links, this.ticked('links', links, 1, linkColourOf), linkColourOf, (record, l) => record.queueCurve(l));
   }
   // Where the runs part, and a button that goes there in both nets.
   async sayParting([one, two], token) {
@@ -279,5 +295,6 @@ class Compare {
     for (const page of this.clock ? this.clock.pages : []) page.end();
     this.clock = this.sized = null;
     this.place.textContent = '';
+    this.place.classList.remove('building');
   }
 }

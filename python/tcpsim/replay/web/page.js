@@ -24,14 +24,21 @@ function fit(element) {
     element.style.fontSize = `${size -= 0.5}px`;
 }
 
+// Does something part by part, between which the browser answers and draws; answers whether it is `wanted` to the end.
+async function inParts(parts, wanted) {
+  for (const _ of parts) if (await pause(), !wanted()) return false;
+  return true;
+}
+
 class Page {
-  // Shows a record in the elements of view.html, until `end`: part by part, between which the browser answers and draws. Answers the page,
+  // Shows a record in the elements of view.html, until `end`, part by part. Answers the page,
   // or null where it is no more `wanted` before all is there. `choose` is given the panels, `fold` is as makeNet has it.
   static async of(record, {wanted = () => true, choose = () => {}, fold, ...around} = {}) {
     const page = new Page(record, around);
     choose(page.panels);
-    for (const _ of page.parts(fold)) if (await pause(), !wanted()) { page.end(); return null; }
-    return page;
+    if (await inParts(page.parts(fold), wanted)) return page;
+    page.end();
+    return null;
   }
   // A page around it that has an address of its own is `told` where this one is, and has `moved` to each event that is drawn; `causes`
   // answers where a stall's cause is found, and `openTime` shows where the time went, or what was before.
