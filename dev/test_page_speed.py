@@ -27,7 +27,7 @@ PACE = '''new Promise(done => setTimeout(done, 100)).then(() => {
   svg.remove();
 })'''
 AFTER = '.then(() => new Promise(done => setTimeout(done, 500)))'
-RUN = '--flows', '2', '--rate', '50M', '--rtt', '20ms', '--queue', 'droptail:50', '--end', '2400ms'
+RUN = '--rate', '50M', '--rtt', '20ms', '--queue', 'droptail:50', '--flows'
 # What is seen of a run: in the net, the panels, the clock and the lines; null where nothing is.
 SEEN = '''(() => {
   const all = css => [...document.querySelectorAll(css)].map(it => it.textContent + (it.getAttribute('d') || '')).join('|');
@@ -116,13 +116,23 @@ def by_parts(browser, script):
 def test_no_task_is_long_after_a_run(chromium):
     """By the processor's time of the page's own thread, of a run of 30,000 events in five panels."""
     chromium.size(1400, 1600)
-    opens(chromium, dumbbell(*RUN))
+    opens(chromium, dumbbell(*RUN, '2', '--end', '2400ms'))
     chromium.value('simulator.choosePanels = panels => panels.name(Object.keys(PANELS).slice(0, 5)); 0')
     try:
         by_parts(chromium, 'simulator.start()')
     finally:
         chromium.value('delete simulator.choosePanels')
     assert 25_000 < chromium.value('page.record.count') <= 30_000
+
+
+@pytest.mark.parametrize('panel, of', [('lengths', 'links'), ('delays', 'links'), ('sequence', 'flows')])
+def test_a_panel_is_made_lane_by_lane(browser, texts, panel, of):
+    """What is counted of each link's or flow's packets grows with the run: the browser answers between two of them."""
+    browser.size(1400, 900)
+    opens(browser, texts[1])
+    browser.value(f'simulator.start().then(() => {{ page.play(false); page.panels.choose(["{panel}"]); document.querySelectorAll("#{of} input").forEach(box => {{ box.checked = true; }}); }})')
+    lanes = browser.value(f'page.facts.{of}.length')
+    assert lanes > 1 and browser.value(f'[...page.panels.drawing("{panel}")].length') == lanes + 1
 
 
 def test_no_task_is_long_where_two_runs_are_compared(chromium, texts):

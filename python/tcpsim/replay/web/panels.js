@@ -107,23 +107,31 @@ const PANELS = {
     lanes: (record, flows) => flows.length > 2 ? flows.map(f => ({name: flowName(record, f), colour: colourOf(f), series: windowOf(record, f), bands: spansOf(record, f), marks: lossesOf(record, f)})) :
       [{series: flows.flatMap(f => windowOf(record, f)), bands: flows.flatMap(f => spansOf(record, f, flows.length > 1 ? {whose: {name: flowName(record, f), mark: markOf(record.facts, f), colour: colourOf(f)}} : {})), marks: flows.flatMap(f => lossesOf(record, f))}]},
   lengths: {says: 'queues', of: 'links', titles: [LOOKS.panels.queue, 'packets that wait'],
-    lanes: (record, links, x) => links.map(l => ({name: record.facts.links[l].name, colour: linkColourOf(l), marks: dropMarks(record, ({link}) => link === l), series: [
+    lane: (record, l, x) => ({name: record.facts.links[l].name, colour: linkColourOf(l), marks: dropMarks(record, ({link}) => link === l), series: [
       ...stacked(record, l, x).map((area, f) => ({area, most: 0, flow: f, colour: colourOf(f), name: `packets of ${flowName(record, f)} in the queue of ${record.facts.links[l].name}`})).filter(({area}) => area.length),
-      {curve: record.queueCurve(l), colour: linkColourOf(l), outline: true, name: `queue of ${record.facts.links[l].name}`}]}))},
-  delays: {says: 'delay', of: 'links', hides: 'flows', whole: false, text: ns => ns ? waitText(ns) : '0', titles: [LOOKS.panels.delay, 'delay of each packet', 'delay'], lanes: (record, links, x, flows) => links.map(l => {
+      {curve: record.queueCurve(l), colour: linkColourOf(l), outline: true, name: `queue of ${record.facts.links[l].name}`}]})},
+  delays: {says: 'delay', of: 'links', hides: 'flows', whole: false, text: ns => ns ? waitText(ns) : '0', titles: [LOOKS.panels.delay, 'delay of each packet', 'delay'], lane: (record, l, x, flows) => {
     const track = record.tracks[l], of = record.facts.flows.map(() => ({times: [], values: []})), shown = new Set(flows);
     for (let k = 0; k < track.gone; k++) { const entry = track.entryOf(k), one = of[track.flow[entry]]; one.times.push(track.entered(entry)); one.values.push(track.begun(k) - track.entered(entry)); }
     return {name: record.facts.links[l].name, colour: linkColourOf(l), marks: dropMarks(record, ({link, flow}) => link === l && shown.has(flow)), series: of.map((dots, f) => ({dots, curve: dots, flow: f, colour: colourOf(f),
       name: `delay of packets of ${flowName(record, f)} at ${record.facts.links[l].name}`})).filter(({dots, flow}) => dots.times.length && shown.has(flow))};
-  })},
-  sequence: {says: 'sequence numbers', of: 'flows', titles: [`${LOOKS.panels.sequence}: sent (dots), acknowledged (line), bytes`, `${LOOKS.panels.sequence}, bytes`], lanes: (record, flows) => flows.map(f => {
+  }},
+  sequence: {says: 'sequence numbers', of: 'flows', titles: [`${LOOKS.panels.sequence}: sent (dots), acknowledged (line), bytes`, `${LOOKS.panels.sequence}, bytes`], lane: (record, f) => {
     const {all, again} = sent(record, f), name = flowName(record, f);
     return {name, colour: colourOf(f), bands: spansOf(record, f), marks: [...again, ...dropMarks(record, ({flow, sort}) => flow === f && sort === DATA, drop => drop.number), ...timeoutMarks(record, f)],
       series: [{dots: all, curve: all, most: Math.max(0, greatestOf(all.values)) + record.facts.flows[f].mss, colour: colourOf(f), name: `segments of ${name}`}, {curve: acknowledged(record, f), colour: 'var(--quiet)', thin: true, name: `acknowledged of ${name}`}]};
-  })},
+  }},
   progress: {says: 'progress', of: 'flows', titles: [LOOKS.panels.progress, 'bytes acknowledged'], lanes: (record, flows) => [{series: flows.map(f => ({
     curve: acknowledged(record, f), colour: colourOf(f), dash: dashOf(f), name: `bytes of ${flowName(record, f)} that are acknowledged`}))}]},
 };
+
+// The lanes of a panel of these flows or links, one after another where each is about one of them.
+function* lanesOf({lanes, lane}, record, ones, ...more) {
+  if (lanes) return lanes(record, ones, ...more);
+  const made = [];
+  for (const one of ones) { made.push(lane(record, one, ...more)); yield; }
+  return made;
+}
 
 // The panels of a page: which are shown, which flows and links are ticked, and their charts.
 // The curves of a run that is no more, as far as the axis of time goes.
@@ -246,11 +254,12 @@ class Panels {
     }
   }
   *drawing(name) {
-    const chart = this.charts[name], {of, hides, lanes: made} = PANELS[name], ticked = [this.ticked[of](), chart.x, hides && this.ticked[hides]()];
-    const lanes = made(this.record, ...ticked), {record, ones, series} = this.kept[name] || {}, now = String([ticked[0], '', ticked[2]]);
-    const kept = this.kept[name] = {record: this.record, ones: now, series: lanes.map(lane => [...lane.series])};
+    const chart = this.charts[name], {of, hides} = PANELS[name], ticked = [this.ticked[of](), chart.x, hides && this.ticked[hides]()], now = String([ticked[0], '', ticked[2]]);
+    const {record, ones, series} = this.kept[name] || {}, kept = this.kept[name] = {record: this.record, ones: now};
+    const lanes = yield* lanesOf(PANELS[name], this.record, ...ticked);
+    kept.series = lanes.map(lane => [...lane.series]);
     // What was drawn last is most often what lies behind.
-    const behind = !this.before ? [] : record === this.before && ones === now ? series : made(this.before, ...ticked).map(lane => lane.series);
+    const behind = !this.before ? [] : record === this.before && ones === now && series ? series : (yield* lanesOf(PANELS[name], this.before, ...ticked)).map(lane => lane.series);
     yield;
     if (this.kept[name] !== kept) return;       // it was drawn anew meanwhile
     behind.forEach((before, k) => lanes[k].series.unshift(...dashed(before, chart.x)));

@@ -513,5 +513,9 @@ class Record {
     return this.drawn(this.curves[f][DRAWN.indexOf(slot - this.ofFlow(f, 0))]);
   }
   queueCurve(l) { return this.drawn(this.queues[l]); }
-  drawn({at: {all: at}, values: {all: values}}) { return {times: new Float64Array(at.length).map((_, k) => this.times[at[k]]), values}; }
+  drawn({at: {all: at}, values: {all: values}}) {
+    const times = new Float64Array(at.length);
+    for (let k = 0; k < at.length; k++) times[k] = this.times[at[k]];
+    return {times, values};
+  }
 }
