@@ -14,7 +14,7 @@ from collections import deque
 
 from tcpsim.cli.net import scenario
 from tcpsim.scenario.text import Scenario
-from tcpsim.trace import Reader
+from tcpsim.traces.reader import Reader
 from tcpsim.whole_trace import running
 from tcpsim_model.queues import Codel
 

@@ -10,7 +10,7 @@ from collections import namedtuple
 from collections.abc import Callable
 from typing import TYPE_CHECKING
 
-from tcpsim.lives import CAME, PARTIAL, THIRD_DUPLICATE, Packet
+from tcpsim.traces.lives import CAME, PARTIAL, THIRD_DUPLICATE, Packet
 
 if TYPE_CHECKING:
     from tcpsim.stalls import Stall

@@ -29,10 +29,10 @@ from collections import Counter, namedtuple
 from collections.abc import Iterable, Iterator, Sequence
 
 from tcpsim.causes import PARTITION, is_dropped, is_lost, lost_acknowledgement, name_of
-from tcpsim.lives import ACK, AFTER_TIMEOUT, ALARM, DATA, TIMEOUT, FlowState, Packet, Port, Watch
 from tcpsim.scenario.text import Scenario
 from tcpsim.stalls import Sendings, Spans, Stall
-from tcpsim.walk import check_byte
+from tcpsim.traces.lives import ACK, AFTER_TIMEOUT, ALARM, DATA, TIMEOUT, FlowState, Packet, Port, Watch
+from tcpsim.traces.walk import check_byte
 
 QUEUE, SERIALIZATION, PROPAGATION, TIMER, DELAY = \
     'queue', 'serialization', 'propagation', 'retransmission timer', 'delayed acknowledgement'

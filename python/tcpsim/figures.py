@@ -18,7 +18,7 @@ from tcpsim.fairness import Goodputs, compared, jain
 from tcpsim.samples import Sample
 from tcpsim.scenario.text import Flow, Link, Scenario, Unreadable
 from tcpsim.scenario.units import BITS_NS
-from tcpsim.trace import ACK, DATA, NEVER, FlowState, LinkState, Reader, Stream
+from tcpsim.traces.reader import ACK, DATA, NEVER, FlowState, LinkState, Reader, Stream
 
 S = 10**9
 HELD = 1 << 19          # numbers that all samples together hold in memory

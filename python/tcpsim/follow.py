@@ -12,9 +12,9 @@ from collections import namedtuple
 from collections.abc import Iterable
 
 from tcpsim.causes import counted, seconds
-from tcpsim.lives import ALARM, CAME, CODEL, DATA, FIRST, FULL, TIMEOUT, FlowState, Packet, Port, Watch
 from tcpsim.scenario.text import Scenario, Unreadable
-from tcpsim.walk import Walk, check_byte
+from tcpsim.traces.lives import ALARM, CAME, CODEL, DATA, FIRST, FULL, TIMEOUT, FlowState, Packet, Port, Watch
+from tcpsim.traces.walk import Walk, check_byte
 
 WAITED, SERIALIZED, UNDER_WAY, STOOD = 'waited', 'serialized', 'under way', 'stood still'
 WHY_AGAIN = {'third duplicate': 'the third duplicate', 'timeout': 'the timeout',

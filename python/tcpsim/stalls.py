@@ -8,9 +8,9 @@ from collections.abc import Iterable, Sequence
 
 from tcpsim.causes import cause_of, name_of
 from tcpsim.cycle import Cycle, cycle_of
-from tcpsim.lives import ACK, DATA, PARTIAL, FlowState, Packet, Port, Watch
 from tcpsim.scenario.text import Scenario
-from tcpsim.walk import Walk
+from tcpsim.traces.lives import ACK, DATA, PARTIAL, FlowState, Packet, Port, Watch
+from tcpsim.traces.walk import Walk
 
 LONGER = 200 * 10**6
 Timer = namedtuple('Timer', 'time line value doubled')

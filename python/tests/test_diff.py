@@ -16,7 +16,7 @@ from clone import PROGRAM, paths, read_text, ran, tool
 from tcpsim.cli import net
 from tcpsim.scenario.text import Scenario
 from tcpsim.sweeps.pattern import Pattern, settings_of
-from tcpsim.trace import Reader
+from tcpsim.traces.reader import Reader
 
 PAIRS = 40
 

@@ -1,5 +1,5 @@
 """Tests of a run's figures. On every example and on random scenarios the model's figures (python/tcpsim_model/figures.py),
-which it counts from its states, are those that tcpsim/trace.py and tcpsim-flows find in the trace; and the figures of the
+which it counts from its states, are those that tcpsim/traces/reader.py and tcpsim-flows find in the trace; and the figures of the
 built program are the model's, byte for byte. Some tables are worked out by hand. dev/compare.py sees a table that is wrong
 by one."""
 import os
@@ -15,7 +15,7 @@ from clone import NAMES, TOP, of_model as model, outcome, paths, ran
 from tcpsim.figures import Figures
 from tcpsim.samples import percentile
 from tcpsim.scenario.text import Scenario
-from tcpsim.trace import FlowState, Reader
+from tcpsim.traces.reader import FlowState, Reader
 from tcpsim_model import figures as classes, image, nets, simulate
 from tcpsim_model.figures import HEADING, figures
 from tcpsim_model.text import assemble, disassemble

@@ -1,5 +1,5 @@
 """Tests of `tcpsim figures --every D`, `--series` and `--names`, of the built program and of the model. Some rows are worked out by
-hand; on every example they are those that tcpsim/series.py finds in the trace, and sum to the table. test_figures.py has the
+hand; on every example they are those that tcpsim/traces/series.py finds in the trace, and sum to the table. test_figures.py has the
 table."""
 import re
 from collections import Counter

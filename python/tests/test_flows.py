@@ -1,4 +1,4 @@
-"""Tests of tcpsim-flows, tcpsim/trace.py and tcpsim/program.py. What is expected was worked out by hand from the lines of
+"""Tests of tcpsim-flows, tcpsim/traces/reader.py and tcpsim/program.py. What is expected was worked out by hand from the lines of
 TRACE, or is said by another way to the same number. test_trace.py has the account of TRACE, line by line; how the tool ends,
 and files that are none, are in test_ends.py.
 """
@@ -13,10 +13,10 @@ from clone import BIN, BUILT, MODEL, NAMES, PROGRAM, Folder, example, outcome, p
 import tcpsim
 from tcpsim import figures, program
 from tcpsim.program import NoProgram, find_program
-from tcpsim.curves import Run
 from tcpsim.fairness import jain
 from tcpsim.samples import Sample, percentile
 from tcpsim.scenario.text import Scenario, Unreadable
+from tcpsim.traces.curves import Run
 from test_trace import BY_HAND as SCENARIO, TRACE
 
 MS = 10**6

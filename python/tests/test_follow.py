@@ -1,5 +1,5 @@
-"""Tests of tcpsim-follow and tcpsim/lives.py. Every segment of every example
-is followed, and its sums are held against another reading of the trace: tcpsim/trace.py says when a packet
+"""Tests of tcpsim-follow and tcpsim/traces/lives.py. Every segment of every example
+is followed, and its sums are held against another reading of the trace: tcpsim/traces/reader.py says when a packet
 entered a queue and when it left it, and arithmetic when it is at the next one. Two tables were worked out by
 hand from the lines. Traces that are no scenario's, which tcpsim-stalls reads by the same module, are in test_stalls.py; files
 that are none are in test_ends.py.
@@ -11,14 +11,14 @@ from bisect import bisect_right
 from collections import defaultdict
 from functools import cache
 
-
 import clone
 from clone import NAMES, PROGRAM, Folder, paths, tool
-from tcpsim import follow, lives
-from tcpsim.curves import Run
+from tcpsim import follow
 from tcpsim.scenario.text import Scenario
 from tcpsim.scenario.units import HEADER_BYTES
-from tcpsim.trace import ACK, DATA, LinkState, Reader
+from tcpsim.traces import lives
+from tcpsim.traces.curves import Run
+from tcpsim.traces.reader import ACK, DATA, LinkState, Reader
 
 
 @cache
@@ -39,7 +39,7 @@ def followed(name, flow):
 
 @cache
 def run_of(name):
-    """tcpsim/trace.py's account of an example."""
+    """tcpsim/traces/reader.py's account of an example."""
     scenario, lines = example(name)
     return Run(scenario, iter(lines))
 
@@ -215,7 +215,7 @@ def test_waits_of_the_rows_are_those_of_the_queues():
 
 
 def test_why_segments_are_sent_again():
-    """As often in fast recovery, and as often after a timeout, as tcpsim/trace.py counts it."""
+    """As often in fast recovery, and as often after a timeout, as tcpsim/traces/reader.py counts it."""
     seen = set()
     for name, scenario, lines, flow in examples_flows():
         run = run_of(name).flows[flow]

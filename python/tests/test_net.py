@@ -12,8 +12,8 @@ import tcpsim
 from clone import BIN, PROGRAM
 from tcpsim.cli import net as command
 from tcpsim.scenario import net, units
-from tcpsim.curves import Run
 from tcpsim.scenario.text import Scenario
+from tcpsim.traces.curves import Run
 
 MS, US, S = 10**6, 10**3, 10**9
 

@@ -27,7 +27,7 @@ from matplotlib.figure import Figure  # noqa: E402
 from tcpsim import plot  # noqa: E402
 from tcpsim.plot import choice, clock, points, style  # noqa: E402
 from test_trace import BY_HAND, TRACE  # noqa: E402
-from tcpsim.curves import read_run  # noqa: E402
+from tcpsim.traces.curves import read_run  # noqa: E402
 
 MS, S = 10**6, 10**9
 

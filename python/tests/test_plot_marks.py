@@ -12,10 +12,10 @@ import numpy as np  # noqa: E402
 import pictures  # noqa: E402
 from clone import PROGRAM, TOP  # noqa: E402
 from matplotlib.patches import StepPatch  # noqa: E402
-from tcpsim.curves import read_run  # noqa: E402
 from tcpsim.plot import broken, link_panels, losses, spans, style, timers  # noqa: E402
 from tcpsim.plot.picture import FlowView, LinkView, Picture  # noqa: E402
-from tcpsim.walk import Walk  # noqa: E402
+from tcpsim.traces.curves import read_run  # noqa: E402
+from tcpsim.traces.walk import Walk  # noqa: E402
 from tcpsim.whole_trace import opened_run  # noqa: E402
 from test_plot import MS, Drawn, S, key_of, marks  # noqa: E402
 

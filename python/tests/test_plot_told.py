@@ -8,10 +8,10 @@ import pytest
 pytest.importorskip('matplotlib', reason='no matplotlib: apt-get install python3-matplotlib')
 import pictures  # noqa: E402
 from matplotlib.lines import TICKDOWN  # noqa: E402
-from tcpsim.curves import read_run  # noqa: E402
 from tcpsim.plot import notes, spans, style  # noqa: E402
 from tcpsim.plot.points import growth  # noqa: E402
 from tcpsim.scenario.text import Scenario  # noqa: E402
+from tcpsim.traces.curves import read_run  # noqa: E402
 from test_plot import MS, Drawn, S, key_of, marks  # noqa: E402
 from test_trace import TRACE  # noqa: E402
 

@@ -27,7 +27,7 @@ from clone import CHROMIUM, NAMES, PROGRAM, TOP, Folder, example, outcome, paths
 from tcpsim.replay import page, recording
 from tcpsim.scenario import units
 from tcpsim.scenario.text import Scenario, Unreadable
-from tcpsim.curves import read_run
+from tcpsim.traces.curves import read_run
 
 PICTURES = os.path.join(TOP, 'docs', 'pictures')
 IN_BROWSER = pytest.mark.skipif(not CHROMIUM or not importlib.util.find_spec('websockets'),

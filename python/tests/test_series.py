@@ -1,4 +1,4 @@
-"""Tests of `tcpsim-flows --series` and tcpsim/series.py. A small run's rows were worked out by hand; on every example and on
+"""Tests of `tcpsim-flows --series` and tcpsim/traces/series.py. A small run's rows were worked out by hand; on every example and on
 random scenarios the rows sum to the table that the model counts from its states (python/tcpsim_model/figures.py)."""
 import random
 
@@ -6,9 +6,10 @@ import pytest
 
 import clone
 from clone import NAMES, Folder, paths, tool
-from tcpsim import samples, series
+from tcpsim import samples
 from tcpsim.figures import Figures
 from tcpsim.scenario.text import Scenario, Unreadable
+from tcpsim.traces import series
 from tcpsim_model import figures as model, nets, simulate
 from tcpsim_model.text import assemble, disassemble
 from test_engine import PAST_THE_LAST

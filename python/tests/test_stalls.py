@@ -1,4 +1,4 @@
-"""Tests of tcpsim-stalls, tcpsim/causes.py and tcpsim/lives.py. The
+"""Tests of tcpsim-stalls, tcpsim/causes.py and tcpsim/traces/lives.py. The
 spans are held against another reading of the traces in examples/, a few lines of regular expressions; the causes against
 what was found by hand."""
 import csv
@@ -11,7 +11,7 @@ from tcpsim import causes, follow, stalls
 from tcpsim.cli import follow as cli_follow, stalls as cli_stalls
 from test_follow import moments_of, run_of
 from tcpsim.scenario.text import Scenario, Unreadable
-from tcpsim.trace import ACK, DATA
+from tcpsim.traces.reader import ACK, DATA
 
 MS = 10**6
 # Which example has which cause, among its spans longer than 200 ms.

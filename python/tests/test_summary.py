@@ -7,12 +7,12 @@ import sys
 
 import pytest
 from clone import BIN, TOP
-from tcpsim.curves import read_run
 from tcpsim.engine import EngineRun
 from tcpsim.figures import Figures, figures
 from tcpsim.samples import percentile
 from tcpsim.scenario.text import Scenario
 from tcpsim.stalls import stalls_of
+from tcpsim.traces.curves import read_run
 from test_trace import BY_HAND, TRACE
 
 S = 10**9

@@ -1,4 +1,4 @@
-"""Tests of tcpsim/trace.py, tcpsim-flows and tcpsim-plot.
+"""Tests of tcpsim/traces/reader.py, tcpsim-flows and tcpsim-plot.
 
 The first run is computed by hand, event by event. Data packets take 1.04 ms on link a (1,040 bytes at
 8 Mbit/s), acknowledgements 0.04 ms on link b; both delays are 1 ms, and a's queue holds two packets.
@@ -40,9 +40,9 @@ from tcpsim.fairness import jain
 from tcpsim.figures import Figures
 from tcpsim.samples import percentile
 from tcpsim.figures import figures as trace_figures
-from tcpsim.curves import Run
 from tcpsim.scenario.text import Scenario, Unreadable
-from tcpsim.curves import read_run
+from tcpsim.traces.curves import Run
+from tcpsim.traces.curves import read_run
 
 MS = 10**6
 BY_HAND = '''sim 12000000

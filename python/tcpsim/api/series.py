@@ -10,7 +10,7 @@ from tcpsim.api.errors import ByName, wanted
 from tcpsim.engine import WAITED
 from tcpsim.figures import S
 from tcpsim.scenario.units import BITS_NS
-from tcpsim.series import DELIVERED, GREATEST, Series, Step
+from tcpsim.traces.series import DELIVERED, GREATEST, Series, Step
 
 if TYPE_CHECKING:
     from pandas import DataFrame

@@ -24,9 +24,9 @@ from tcpsim.engine import EngineRun
 from tcpsim.figures import engine_figures
 from tcpsim.scenario import units
 from tcpsim.scenario.text import Scenario
-from tcpsim.series import STEPS, Series
 from tcpsim.stalls import stalls_of
-from tcpsim.walk import flow_named
+from tcpsim.traces.series import STEPS, Series
+from tcpsim.traces.walk import flow_named
 from tcpsim.whole_trace import blocks
 
 if TYPE_CHECKING:
@@ -226,9 +226,9 @@ class Simulation:
         `begin` and `end` (times), `longer`, `title`, `log`, `whole`. Wants matplotlib."""
         wanted('matplotlib')
         from tcpsim import plot
-        from tcpsim.curves import Run
         from tcpsim.plot.choice import drawable, title_of
         from tcpsim.plot.style import add_signs
+        from tcpsim.traces.curves import Run
         parsed = self._parsed()
         for name, there in (('flows', self.scenario.flows), ('links', self.scenario.links)):
             check_names(name, options.get(name), there)

@@ -26,10 +26,10 @@ from tcpsim.fairness import in_words as of_flows
 from tcpsim.figures import S, Figures, cycles, engine_figures, figures
 from tcpsim.output import Output, aligned
 from tcpsim.scenario import units
-from tcpsim.series import Rows
 from tcpsim.settled import too_short
 from tcpsim.summary import by_name, carried_little, opening
-from tcpsim.walk import flow_named
+from tcpsim.traces.series import Rows
+from tcpsim.traces.walk import flow_named
 from tcpsim.whole_trace import inputs_of, opened_run
 
 TRACE_COLUMNS = {

@@ -16,7 +16,7 @@ from tcpsim.command_line import Words, as_type
 from tcpsim.follow import Follow, Segment, follow
 from tcpsim.output import Output
 from tcpsim.scenario.units import count
-from tcpsim.walk import flow_named, opened
+from tcpsim.traces.walk import flow_named, opened
 from tcpsim.whole_trace import inputs_of
 
 

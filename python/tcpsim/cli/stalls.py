@@ -19,7 +19,7 @@ from tcpsim.cycle import words_of as words_of_cycle
 from tcpsim.output import Output, aligned
 from tcpsim.scenario.units import moment
 from tcpsim.stalls import LONGER, walk_of
-from tcpsim.walk import flow_named, opened
+from tcpsim.traces.walk import flow_named, opened
 from tcpsim.whole_trace import inputs_of
 
 

@@ -25,7 +25,7 @@ from tcpsim.output import Output
 from tcpsim.program import found
 from tcpsim.scenario.text import Scenario
 from tcpsim.scenario.units import count
-from tcpsim.walk import flow_named, opened
+from tcpsim.traces.walk import flow_named, opened
 from tcpsim.whole_trace import lines_of_text
 
 PICTURES = '.png', '.svg', '.pdf'

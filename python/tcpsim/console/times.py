@@ -9,7 +9,7 @@ from tcpsim.console.ahead import Ahead
 from tcpsim.console.session import Interrupted
 from tcpsim.prompt import Answer
 from tcpsim.scenario.text import Scenario
-from tcpsim.walk import flow_named
+from tcpsim.traces.walk import flow_named
 from tcpsim.whole_trace import scenario_text
 
 NAME = 'time'

@@ -13,7 +13,7 @@ from tcpsim.command_line import Words, as_type
 from tcpsim.output import printable
 from tcpsim.scenario import units
 from tcpsim.scenario.text import Flow, Link, Unreadable
-from tcpsim.curves import Run, read_run
+from tcpsim.traces.curves import Run, read_run
 from tcpsim.whole_trace import inputs_of
 
 from .clock import Clock, Cut, idle_spans, length_text

@@ -10,9 +10,9 @@ from matplotlib.lines import Line2D
 from matplotlib.patches import Patch
 from matplotlib.ticker import FixedLocator, FuncFormatter, Locator, MaxNLocator, NullLocator
 
-from tcpsim.curves import LinkRun
 from tcpsim.looks import LINKS, PANELS
-from tcpsim.trace import ACK
+from tcpsim.traces.curves import LinkRun
+from tcpsim.traces.reader import ACK
 
 from .broken import draw_break
 from .losses import mark_row, rows_apart

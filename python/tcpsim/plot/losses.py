@@ -6,7 +6,7 @@ from collections.abc import Callable, Iterable, Sequence
 
 from matplotlib.axes import Axes
 
-from tcpsim.trace import ACK, DATA
+from tcpsim.traces.reader import ACK, DATA
 
 from .picture import FlowView, Picture
 from .style import HALO, NOTE, OF_ACKS, ON_WHITE, SIGNS, sign_look, sign_of

@@ -5,7 +5,7 @@ from collections.abc import Sequence
 
 from tcpsim.scenario.text import Flow, Scenario
 from tcpsim.scenario.units import BITS_NS, HEADER_BYTES
-from tcpsim.trace import first_window
+from tcpsim.traces.reader import first_window
 
 from .clock import length_text
 

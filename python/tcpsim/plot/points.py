@@ -6,7 +6,7 @@ from collections.abc import Iterable
 import numpy as np
 from numpy.typing import ArrayLike
 
-from tcpsim.curves import FlowRun, LinkRun
+from tcpsim.traces.curves import FlowRun, LinkRun
 
 COLUMNS = 1000          # a curve keeps the first, least, greatest and last value of each of so many times
 DOTS = (500, 300)       # dots that fall into one cell of this grid are drawn once

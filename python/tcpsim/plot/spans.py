@@ -7,8 +7,8 @@ import numpy as np
 from matplotlib.artist import Artist
 from matplotlib.axes import Axes
 
-from tcpsim.curves import FlowRun
 from tcpsim.looks import MARKS, TIMEOUT
+from tcpsim.traces.curves import FlowRun
 
 from .clock import length_text
 from .picture import FlowView, Picture, recoveries

@@ -10,8 +10,8 @@ from matplotlib.axes import Axes
 from matplotlib.lines import Line2D
 from matplotlib.ticker import MaxNLocator
 
-from tcpsim.curves import FlowRun
-from tcpsim.lives import MOST_RTO, SECOND, after_sample
+from tcpsim.traces.curves import FlowRun
+from tcpsim.traces.lives import MOST_RTO, SECOND, after_sample
 
 from .clock import length_text
 from .picture import FlowView, Picture

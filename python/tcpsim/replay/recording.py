@@ -6,10 +6,10 @@ from __future__ import annotations
 from collections import deque
 from collections.abc import Container, Iterable
 
-from tcpsim.own_queues import dropped_by
 from tcpsim.scenario.text import Flow, Link, Scenario, Unreadable, WrongTrace
 from tcpsim.scenario.units import BITS_NS, HEADER_BYTES, spelled_time
-from tcpsim.trace import ACK, DATA, first_window
+from tcpsim.traces.own_queues import dropped_by
+from tcpsim.traces.reader import ACK, DATA, first_window
 
 MOST_EVENTS = 200_000
 Key = tuple[int, int, int, int]     # of an event: its time, node, source and number

@@ -18,7 +18,7 @@ from tcpsim.figures import Figures, part
 from tcpsim.scenario.text import Scenario
 from tcpsim.scenario.units import BITS_NS
 from tcpsim.sweeps.pattern import Pattern
-from tcpsim.trace import DATA
+from tcpsim.traces.reader import DATA
 
 Count = Optional[float]
 FROM = 3                # the number of the figures' format from which on they are counted from a moment on

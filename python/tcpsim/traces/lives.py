@@ -9,7 +9,7 @@ from typing import TYPE_CHECKING
 
 from tcpsim.scenario.text import Flow, Link, WrongScenario
 from tcpsim.scenario.units import BITS_NS, HEADER_BYTES
-from tcpsim.trace import ACK, DATA
+from tcpsim.traces.reader import ACK, DATA
 
 if TYPE_CHECKING:
     from tcpsim.stalls import Place

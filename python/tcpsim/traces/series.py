@@ -15,7 +15,7 @@ from tcpsim.engine import BUSY, WAITED
 from tcpsim.figures import Figures, FlowFigures, LinkFigures
 from tcpsim.samples import Classes
 from tcpsim.scenario.text import Link, Scenario, Unreadable
-from tcpsim.trace import Stream
+from tcpsim.traces.reader import Stream
 
 STEPS = 10**6           # the most of a series
 ROWS = 10**7            # the most of one that is written, a figure each

@@ -12,9 +12,9 @@ from array import array
 from collections import deque
 from collections.abc import Container, Iterable, Sequence
 
-from tcpsim.own_queues import OwnQueues
 from tcpsim.scenario.text import Flow, Link, Scenario, WrongTrace
 from tcpsim.scenario.units import BITS_NS, HEADER_BYTES
+from tcpsim.traces.own_queues import OwnQueues
 
 DATA, ACK = 0, 1
 NEVER = 1 << 62         # past every moment of a run

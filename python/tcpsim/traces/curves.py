@@ -9,7 +9,7 @@ from collections.abc import Iterable, Sequence
 
 from tcpsim.scenario.text import Flow, Link, Scenario
 from tcpsim.scenario.units import BITS_NS
-from tcpsim.trace import FlowState, LinkState, Reader, Stream
+from tcpsim.traces.reader import FlowState, LinkState, Reader, Stream
 from tcpsim.whole_trace import opened_run
 
 

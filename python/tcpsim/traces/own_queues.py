@@ -8,7 +8,7 @@ from collections import deque
 from typing import TYPE_CHECKING
 
 if TYPE_CHECKING:
-    from tcpsim.trace import LinkState, Stream
+    from tcpsim.traces.reader import LinkState, Stream
 
 LOST = 'lost'           # what a scenario's `lose` drops, and no queue
 

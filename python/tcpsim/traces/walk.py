@@ -13,11 +13,11 @@ import os
 from collections.abc import Iterable, Iterator
 from contextlib import contextmanager
 
-from tcpsim.lives import (AFTER_TIMEOUT, ALARM, AT_ONCE, CAME, CODEL, FIRST, PARTIAL, PHASES, THIRD_DUPLICATE, TIMEOUT,
-                          FlowState, Packet, Port)
-from tcpsim.own_queues import LOST, dropped_by
 from tcpsim.scenario.text import Scenario, Unreadable, WrongTrace
-from tcpsim.trace import ACK, DATA
+from tcpsim.traces.lives import (AFTER_TIMEOUT, ALARM, AT_ONCE, CAME, CODEL, FIRST, PARTIAL, PHASES, THIRD_DUPLICATE, TIMEOUT,
+                                 FlowState, Packet, Port)
+from tcpsim.traces.own_queues import LOST, dropped_by
+from tcpsim.traces.reader import ACK, DATA
 from tcpsim.whole_trace import IMAGE_BEGINS, opened_run
 
 
