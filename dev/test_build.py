@@ -1,4 +1,3 @@
-#!/usr/bin/env python3
 """Tests of dev/build.py without the prover: in which order it proves crates, and what it keeps for the page with the
 simulator."""
 import functools

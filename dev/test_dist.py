@@ -1,7 +1,6 @@
-#!/usr/bin/env python3
 """Tests of what `make dist` writes: the same bytes twice, what is in each product and with which modes, the tarball run with
 an empty environment, the wheel in a virtual environment with no network. `make test-dist` tries the .deb in a Debian of its
-own. It goes after `make run`. Usage: dev/test_dist.py, or pytest.
+own. It goes after `make run`.
 """
 import hashlib
 import importlib.util
@@ -215,7 +214,3 @@ def test_what_lacks_is_told_in_a_sentence(lacking, sentence, tmp_path):
     done = ran(sys.executable, tmp_path / 'dev/dist.py', env={**kept, 'GIT_CEILING_DIRECTORIES': str(tmp_path.parent)})
     assert (done.returncode, done.stdout, done.stderr) == (1, '', sentence)
     assert not (tmp_path / 'out').exists()
-
-
-if __name__ == '__main__':
-    sys.exit(pytest.main([__file__, '-q', '-rs', *sys.argv[1:]]))

@@ -1,6 +1,4 @@
-#!/usr/bin/env python3
 """Tests of what is kept of the gate for the manifest of `make dist` and for the page: in a copy, with a gate that is played.
-Usage: dev/test_pass_gate.py, or pytest.
 """
 import json
 import os
@@ -104,7 +102,3 @@ def test_the_module_is_kept_of_which_the_gate_made_the_program(tree, changes):
     fits = 'import build as it; k, n = it.toolchain(), it.declared(); print(it.has_module(it.sums_of(n, k, n)["tcpsim"]))'
     done = subprocess.run(**{**words(tree, ''), 'args': [sys.executable, '-Bc', fits], 'cwd': tree / 'dev'}, capture_output=True, text=True, check=False)
     assert done.stdout == 'True\n'
-
-
-if __name__ == '__main__':
-    sys.exit(pytest.main([__file__, '-q', *sys.argv[1:]]))

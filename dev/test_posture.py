@@ -1,7 +1,6 @@
-#!/usr/bin/env python3
 """Tests of the built program's posture: how it is linked (readelf), what it asks of the C library, which files it opens and
 which memory it maps (strace), that no environment variable changes what it does, and the modes of what is installed. It goes
-after `make run`. Usage: dev/test_posture.py, or pytest.
+after `make run`.
 """
 import os
 import re
@@ -204,7 +203,3 @@ def test_modes_of_what_is_installed(umask, tmp_path):
         assert (state.st_uid, state.st_gid) == (os.geteuid(), os.getegid())
     names = {str(it.relative_to(tmp_path / 'there' / 'share/doc/tcpsim')) for it in (tmp_path / 'there' / 'share/doc/tcpsim').rglob('*')}
     assert {'LICENSE-MIT', 'LICENSE-APACHE', 'THIRD-PARTY', 'CHANGELOG.md', 'SECURITY.md', 'README.md', 'docs/index.md'} <= names
-
-
-if __name__ == '__main__':
-    sys.exit(pytest.main([__file__, '-q', '-rs', *sys.argv[1:]]))

@@ -1,8 +1,7 @@
-#!/usr/bin/env python3
 """Tests of what docs/VALIDATION.md says that wants no other program: the laws with their tolerances, ns-3's expectations, CoDel
 beside RFC 8289's pseudocode, the switches of ns-2's rules; and that the page's tables are those of the numbers that are kept.
 
-Usage: dev/test_validation.py, or pytest. They want the built program; without it those of runs are left out.
+They want the built program; without it those of runs are left out.
 """
 import copy
 import math
@@ -177,7 +176,3 @@ def test_sends_that_differ_are_seen():
     assert rules.first_other(sends, [(0, 0), (1000, 1), (12_001, 2)]) == 2
     assert rules.first_other(sends, [(0, 0), (1000, 2), (2000, 1)]) == 1
     assert rules.first_other(sends, sends[:2]) == 2
-
-
-if __name__ == '__main__':
-    sys.exit(pytest.main([__file__, '-q', *sys.argv[1:]]))

@@ -1,6 +1,5 @@
-#!/usr/bin/env python3
 """Tests of versions and licenses: the version is one wherever it stands, each format is what its number stands for, and what
-is linked or inlined is in THIRD-PARTY with its license. Usage: dev/test_versions.py, or pytest.
+is linked or inlined is in THIRD-PARTY with its license.
 """
 import functools
 import hashlib
@@ -9,7 +8,6 @@ import os
 import re
 import shutil
 import subprocess
-import sys
 
 import pytest
 
@@ -207,7 +205,3 @@ def test_licenses_are_named():
     project = read_text('python', 'pyproject.toml')
     assert 'license = {text = "MIT OR Apache-2.0"}' in project
     assert json.loads(read_text('editors', 'vscode', 'package.json'))['license'] == '(MIT OR Apache-2.0)'
-
-
-if __name__ == '__main__':
-    sys.exit(pytest.main([__file__, '-q', '-rs', *sys.argv[1:]]))

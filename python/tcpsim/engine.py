@@ -15,7 +15,7 @@ from tcpsim.command_line import MODEL
 from tcpsim.program import find_program
 from tcpsim.scenario.text import Scenario, Unreadable
 from tcpsim.scenario.units import BITS_NS, HEADER_BYTES
-from tcpsim.whole_trace import BLOCK, ProgramFailed, Running, naming, running, scenario_bytes, scenario_text
+from tcpsim.whole_trace import BLOCK, ProgramFailed, naming, running, scenario_bytes, scenario_text
 
 LONGEST_TABLE = 1 << 26         # bytes
 HEADING = 'what,number,figure,unit,value'

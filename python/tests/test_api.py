@@ -1,7 +1,5 @@
-#!/usr/bin/env python3
 """Tests of `import tcpsim` beyond the examples of docs/PYTHON.md: figures beside those of tcpsim-flows, records beside the
-trace's lines, the debugger beside its prompt, what is refused, and that processes end. Usage: python/tests/test_api.py, or
-pytest."""
+trace's lines, the debugger beside its prompt, what is refused, and that processes end."""
 import csv
 import importlib.util
 import io
@@ -572,7 +570,3 @@ def test_processes_end_with_the_python_that_started_them(engine, what, tmp_path)
             time.sleep(.05)
         assert not is_there(pid)
     assert os.listdir(tmp_path) == []
-
-
-if __name__ == '__main__':
-    sys.exit(pytest.main([__file__, '-q', '-rs', *sys.argv[1:]]))

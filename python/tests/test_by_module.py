@@ -1,6 +1,4 @@
-#!/usr/bin/env python3
-"""Tests of `python3 -m tcpsim SUBCOMMAND` and of `python3 -m tcpsim.commands.SUBCOMMAND`, beside tcpsim-SUBCOMMAND. Usage:
-python/tests/test_by_module.py, or pytest."""
+"""Tests of `python3 -m tcpsim SUBCOMMAND` and of `python3 -m tcpsim.commands.SUBCOMMAND`, beside tcpsim-SUBCOMMAND."""
 import os
 import subprocess
 import sys
@@ -63,7 +61,3 @@ def test_which_subcommands_there_are():
     status, output, note = ran('-m', 'tcpsim', 'sweeps')
     assert (status, output, note.count('\n')) == (2, '', 1) and note.startswith("tcpsim: 'sweeps' is no subcommand: usage: ")
     assert ran('-m', 'tcpsim', '--version')[1].startswith('tcpsim 0.')
-
-
-if __name__ == '__main__':
-    sys.exit(pytest.main([__file__, '-q', '-rs', *sys.argv[1:]]))

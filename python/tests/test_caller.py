@@ -3,7 +3,6 @@ and the layout of tables. What comes out is what it is without them."""
 import os
 import random
 import signal
-import sys
 
 import pytest
 
@@ -165,7 +164,3 @@ def test_an_interruption_ends_the_program(tmp_path):
     assert process.returncode == 128 + signal.SIGTERM
     with pytest.raises(ProcessLookupError):
         os.kill(int((tmp_path / 'pid').read_text()), 0)
-
-
-if __name__ == '__main__':
-    sys.exit(pytest.main([__file__, '-q', *sys.argv[1:]]))

@@ -1,6 +1,5 @@
-#!/usr/bin/env python3
 """Tests of tcpsim-debug: lines that are typed at a terminal of their own (pexpect), and what is completed. Each session runs
-the built program, or else the model. Usage: python/tests/test_debug.py, or pytest."""
+the built program, or else the model."""
 import os
 import pathlib
 import re
@@ -666,7 +665,3 @@ def test_the_pager(terminal, put):
     session = terminal(TWO, rows=10, PAGER='/not/there')
     session.begin()
     assert session.ask('help') == long
-
-
-if __name__ == '__main__':
-    sys.exit(pytest.main([__file__, '-q', *sys.argv[1:]]))

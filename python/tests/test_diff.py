@@ -4,10 +4,8 @@ moments as sets; sentences by hand; statuses and refusals. Files that fail are i
 import collections
 import csv
 import io
-import itertools
 import random
 import re
-import sys
 
 import pytest
 
@@ -340,7 +338,3 @@ def test_a_notebook_has_the_table():
     assert found._repr_html_().startswith('<p>the same 487 events; at 0.332776 s link a begins to send')
     assert found._repr_html_().count('<tr>') == len(found.figures) + 1
     assert repr(found).splitlines()[0] == found.sentence
-
-
-if __name__ == '__main__':
-    sys.exit(pytest.main([__file__, '-q', *sys.argv[1:]]))

@@ -1,9 +1,7 @@
-#!/usr/bin/env python3
 """Tests of tcpsim/fairness.py: which flows Jain's index compares, worked out by hand, and that tools, sweeps and Python compare the
-same. Usage: python/tests/test_fairness.py, or pytest."""
+same."""
 import csv
 import io
-import sys
 
 import pytest
 
@@ -166,7 +164,3 @@ def test_python_compares_the_four(mice):
     assert found.mice == tuple(f'f{number}' for number in range(4, 14)) and found.limited == found.ended == ()
     assert found.jain_of('f0', 'f1') == jain([found.flows['f0'].goodput, found.flows['f1'].goodput])
     assert repr(found).endswith(f"Jain's index {wanted:.4f}, of 4 of 14 flows (without 10 mice)")
-
-
-if __name__ == '__main__':
-    sys.exit(pytest.main([__file__, '-q', '-rs', *sys.argv[1:]]))

@@ -17,7 +17,7 @@ from tcpsim.cli import net as command
 from tcpsim.sweeps.conditions import conditions_of, decimal, percent
 from tcpsim.sweeps.means import Averaged, Mean
 from tcpsim.sweeps.pattern import Pattern, setting
-from tcpsim.sweeps.search import Asked, Quest, first_places, rising
+from tcpsim.sweeps.search import Asked, Quest, first_places
 from tcpsim.command_line import Wrong
 
 FIND = os.path.join(BIN, 'tcpsim-find')

@@ -1,5 +1,4 @@
-#!/usr/bin/env python3
-"""Tests of the package that pip installs. Usage: python/tests/test_install.py, or pytest.
+"""Tests of the package that pip installs.
 
 A virtual environment is made, the package installed into it without a network, and each command run from there, in a
 folder that has nothing of the clone.
@@ -89,7 +88,3 @@ def test_it_is_imported(installed):
     done = installed('python', '-c', 'import tcpsim; run = tcpsim.run(tcpsim.dumbbell(rate="1M", end="1s")); '
                      'print(run.engine, run.figures.events == sum(1 for _ in run.trace))')
     assert done.stdout == 'model True\n', done.stderr
-
-
-if __name__ == '__main__':
-    sys.exit(pytest.main([__file__, '-q', '-rs', *sys.argv[1:]]))

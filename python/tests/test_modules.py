@@ -1,9 +1,6 @@
-#!/usr/bin/env python3
-"""Tests of what python/ promises of its modules: how long they are, what they say, what they import. Usage:
-python/tests/test_modules.py, or pytest."""
+"""Tests of what python/ promises of its modules: how long they are, what they say, what they import."""
 import ast
 import os
-import sys
 
 import pytest
 
@@ -75,7 +72,3 @@ def test_each_command_has_its_modules():
     for name in names:
         assert os.path.join('tcpsim', 'commands', f'{name}.py') in MODULES
         assert name == 'model' or os.path.join('tcpsim', 'cli', f'{name}.py') in MODULES
-
-
-if __name__ == '__main__':
-    sys.exit(pytest.main([__file__, '-q', *sys.argv[1:]]))

@@ -1,12 +1,10 @@
-#!/usr/bin/env python3
 """Tests of examples/lecture.ipynb: it runs from top to end by jupyter-nbconvert, each cell with what it should show, and is
-kept without outputs. Usage: python/tests/test_notebook.py, or pytest."""
+kept without outputs."""
 import json
 import os
 import re
 import shutil
 import subprocess
-import sys
 
 import pytest
 
@@ -118,7 +116,3 @@ def test_it_says_what_the_text_says(run):
     for words in ('0.1 s     5.9 segments', 'noticed at 42.60 ms, by duplicate 3; ssthresh is 11500 bytes', 'the page takes 3.01 s',
                   'CoDel      page  0.19 s', "Jain's index 1.000", "'fairqueue': 95"):
         assert words in said
-
-
-if __name__ == '__main__':
-    sys.exit(pytest.main([__file__, '-q', '-rs', *sys.argv[1:]]))

@@ -1,7 +1,5 @@
-#!/usr/bin/env python3
 """Tests of queues that are classes of Python's (docs/PYTHON.md): that page's CoDel beside the program's, byte for byte, drops
-by a class's own word in figures, pictures, stalls and pages, and what no queue can do. Usage: python/tests/test_own_queue.py,
-or pytest."""
+by a class's own word in figures, pictures, stalls and pages, and what no queue can do."""
 import glob
 import io
 import os
@@ -330,12 +328,7 @@ def test_the_line_is_taken_away_where_a_queue_is_wrong(impatient, monkeypatch):
     assert sys.stderr.getvalue().endswith(' \r')
 
 
-if __name__ == '__main__':
-    sys.exit(pytest.main([__file__, '-q', '-rs', *sys.argv[1:]]))
-
-
 # ---- sweeps over them
-
 
 class Fifo:
     """Drop-tail of so many packets as the link has room for."""

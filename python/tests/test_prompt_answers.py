@@ -1,9 +1,7 @@
-#!/usr/bin/env python3
 """Tests of what the model answers at the prompt: by hand, beside the lines of the runs' traces, from which each answer is found
-by other means. Usage: python/tests/test_prompt_answers.py, or pytest."""
+by other means."""
 import os
 import random
-import sys
 
 import pytest
 
@@ -163,7 +161,3 @@ def test_short_words_mean_what_they_meant():
         assert session(f'help {word}').startswith(begin), word
     assert session('goot 3').endswith('tcpsim: no command goot; the nearest is goto\n')
     assert session('wehre').endswith('tcpsim: no command wehre; the nearest is where\n')
-
-
-if __name__ == '__main__':
-    sys.exit(pytest.main([__file__, '-q', *sys.argv[1:]]))

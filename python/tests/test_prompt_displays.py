@@ -1,10 +1,8 @@
-#!/usr/bin/env python3
 """Tests of displays and of the list of stalls at the model's prompt: by hand, beside dumps of the states and
-the runs' traces, from which each value and each stall is found by other means. Usage: python/tests/test_prompt_displays.py, or pytest."""
+the runs' traces, from which each value and each stall is found by other means."""
 import os
 import random
 import re
-import sys
 
 import pytest
 
@@ -240,7 +238,3 @@ def test_help():
         assert session(f'help {word}') == session('help values'), word
     refuses(session, 'B1', 'help cwn', 'help queues', 'help cwnd<3')
     assert 'first byte that is missing' in session('help why') and '4:d:7000@102299200' in session('help state')
-
-
-if __name__ == '__main__':
-    sys.exit(pytest.main([__file__, '-q', *sys.argv[1:]]))

@@ -1,9 +1,6 @@
-#!/usr/bin/env python3
-"""Tests of names at the model's prompt, in lines and in answers, by hand and beside the runs' traces. Usage:
-python/tests/test_prompt_names.py, or pytest."""
+"""Tests of names at the model's prompt, in lines and in answers, by hand and beside the runs' traces."""
 import os
 import re
-import sys
 
 import pytest
 
@@ -194,7 +191,3 @@ def test_where_no_line_was_passed_none_is_told_of():
     session('break node r')
     assert session('reverse') == lines[50] + lines[49] + 'of node r, link b\n' + at(lines, 50) + 'break 1: node r\n'
     assert session('clear', 'reverse').endswith(lines[0] + START)
-
-
-if __name__ == '__main__':
-    sys.exit(pytest.main([__file__, '-q', *sys.argv[1:]]))

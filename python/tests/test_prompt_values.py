@@ -1,9 +1,7 @@
-#!/usr/bin/env python3
 """Tests of conditions on values at the model's prompt, and of going to a moment: by hand, and beside the lines of the runs' traces and
-dumps, from which each stop is found by other means. Usage: python/tests/test_prompt_values.py, or pytest."""
+dumps, from which each stop is found by other means."""
 import os
 import re
-import sys
 from operator import eq, ge, gt, le, lt
 
 import pytest
@@ -186,7 +184,3 @@ def test_help():
     assert 'goto N       go to position N, or to a moment as 1.5s, forwards or back\n' in session('help')
     assert session('help break').count('help values') == 1
     assert session(session('help values').splitlines()[-1]) == 'break 1: flow f cwnd<3000\n'
-
-
-if __name__ == '__main__':
-    sys.exit(pytest.main([__file__, '-q', *sys.argv[1:]]))

@@ -1,7 +1,6 @@
 #!/usr/bin/env python3
 """Tests of docs/PYTHON.md: its examples run, in their order and in a folder of their own, and print what stands below them;
-its test of an experiment is python/tests/test_delay.py; its tables name what there is. Usage:
-python/tests/test_python_page.py, or pytest."""
+its test of an experiment is python/tests/test_delay.py; its tables name what there is. Run as a script it prints what its examples print."""
 import contextlib
 import dataclasses
 import importlib.util
@@ -10,6 +9,7 @@ import os
 import re
 import subprocess
 import sys
+import tempfile
 
 import pytest
 
@@ -98,10 +98,6 @@ def test_the_page_names_each_public_name():
 
 
 if __name__ == '__main__':
-    if sys.argv[1:] == ['--print']:
-        import tempfile
-        with tempfile.TemporaryDirectory() as folder:
-            for number, text in enumerate(outputs(folder)):
-                print(f'-- {number}\n{text}', end='')
-        sys.exit()
-    sys.exit(pytest.main([__file__, '-q', '-rs', *sys.argv[1:]]))
+    with tempfile.TemporaryDirectory() as made:
+        for number, text in enumerate(outputs(made)):
+            print(f'-- {number}\n{text}', end='')

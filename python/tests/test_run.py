@@ -1,5 +1,4 @@
-#!/usr/bin/env python3
-"""Tests of who runs a scenario: the program, or the model. Usage: python/tests/test_run.py, or pytest."""
+"""Tests of who runs a scenario: the program, or the model."""
 import os
 import shutil
 import signal
@@ -197,7 +196,3 @@ def test_estimates_are_near(text, events):
 def test_no_run_has_no_events():
     for text in ('', 'sim 01\n', 'sim 5\nnode\n', read(LONG).decode().replace('1000 700', '0 700')):
         assert estimate.events_of(text) == 0
-
-
-if __name__ == '__main__':
-    sys.exit(pytest.main([__file__, '-q', *sys.argv[1:]]))

@@ -1,8 +1,7 @@
-#!/usr/bin/env python3
 """Tests of what tcpsim-net gives flows beside their ways: variants, windows, losses, mice and small differences; of the
 same fields of a sweep; and of the cycle of timeouts of a NewReno flow, which tcpsim-flows and tcpsim-stalls name.
 
-Usage: python/tests/test_senders.py, or pytest. They go by the built program, and by the model where that is not built.
+They go by the built program, and by the model where that is not built.
 """
 import csv
 import hashlib
@@ -230,7 +229,3 @@ def test_a_sweep_refuses_what_is_none(word):
     pattern = sweep.Pattern('sim 9\nnode s sender\nflow f s r 1000 5 0 64000 0\n')
     with pytest.raises(Wrong):
         sweep.settings_of([word], pattern)
-
-
-if __name__ == '__main__':
-    sys.exit(pytest.main([__file__, '-q', *sys.argv[1:]]))

@@ -1,8 +1,5 @@
-#!/usr/bin/env python3
-"""Tests of tcpsim/settled.py: runs that are too short for their figures, by tools, sweeps and Python. Usage:
-python/tests/test_settled.py, or pytest."""
+"""Tests of tcpsim/settled.py: runs that are too short for their figures, by tools, sweeps and Python."""
 import re
-import sys
 
 import pytest
 
@@ -284,7 +281,3 @@ def test_python_asks_it(short):
     asked, plain = (tcpsim.sweep(short[0], settings, engine=PROGRAM, settled=each) for each in (True, False))
     assert [row['settled'] for row in asked.rows] == [row['settled'] for row in asked.means] == [False, False]
     assert 'settled' not in plain.rows[0] and not changes(repr(plain).splitlines()) and len(changes(repr(asked).splitlines())) == 1
-
-
-if __name__ == '__main__':
-    sys.exit(pytest.main([__file__, '-q', '-rs', *sys.argv[1:]]))

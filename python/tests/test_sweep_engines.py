@@ -500,7 +500,3 @@ def test_engines_that_are_not_there(on, package, tmp_path):
     done = sweep_of(tmp_path, '--on', on, env={**os.environ, 'PATH': str(tmp_path)})
     assert (done.returncode, done.stdout) == (1, '')
     assert f'which is not there: apt-get install {package}' in done.stderr
-
-
-if __name__ == '__main__':
-    sys.exit(pytest.main([__file__, '-q', *sys.argv[1:]]))

@@ -346,7 +346,3 @@ def test_rows_that_are_hostile(data, place):
     status, shown, said = swept('--gather', 'd', cwd=place)
     assert status in (0, 1) and said.count('\n') == (status == 1), said
     assert '\x1b' not in shown + said and (status == 1 or 'droptail:2' in shown)
-
-
-if __name__ == '__main__':
-    sys.exit(pytest.main([__file__, '-q', *sys.argv[1:]]))

@@ -436,10 +436,6 @@ def test_frames(hand):
     assert list(result.means_to_pandas()['jain_runs']) == [2, 2]
 
 
-if __name__ == '__main__':
-    sys.exit(pytest.main([__file__, '-q', *sys.argv[1:]]))
-
-
 def test_where_the_time_went():
     """The parts are those of tcpsim-time, for each value; the whole is what the flow took."""
     scenario = os.path.join(TOP, 'examples', 'two_timeouts_in_a_row.txt')

@@ -3,7 +3,6 @@ those of tcpsim-time, span by span; a click on a part goes to the event with whi
 """
 import importlib.util
 import json
-import os
 
 import pytest
 

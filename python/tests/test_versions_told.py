@@ -1,6 +1,5 @@
-#!/usr/bin/env python3
 """Tests of --version and --help of each command, and of a tool that lacks a module, where the end is slow or nobody takes what is
-written. Usage: python/tests/test_versions_told.py, or pytest."""
+written."""
 import os
 import subprocess
 import sys
@@ -54,7 +53,3 @@ def test_a_module_that_lacks_ends_python_by_itself():
     done = subprocess.run([sys.executable, '-c', SLOW_END], capture_output=True, text=True, check=False, timeout=120,
                           env={**os.environ, 'PYTHONPATH': os.path.join(TOP, 'python')})
     assert done.returncode == 1 and "No module named 'a_module_that_is_not_there'" in done.stderr
-
-
-if __name__ == '__main__':
-    sys.exit(pytest.main([__file__, '-q', *sys.argv[1:]]))
