@@ -4,15 +4,13 @@ bench/beside_ns2.py [--program PATH] [--rounds N]
 
 `bench/measure.py` writes the section too, where ns-2 is installed (apt-get install ns2).
 """
-import argparse
 import os
 import shutil
 import subprocess
 import sys
-import time
 
-from results import BENCH, CALLGRIND, ENVIRONMENT, PROGRAM, instructions, processor, put_section, saved, table
-from scenarios import disassemble, one_flow
+from results import BENCH, CALLGRIND, ENVIRONMENT, instructions, processor, put_section, table, timed, words_of
+from scenarios import one_flow, path_of
 
 HEAD = '## Beside ns-2\n'
 CORE = '0'
@@ -26,7 +24,7 @@ def installed():
 def simulators(program):
     """Each simulator's name, and the command and the input for so many segments."""
     def ours(segments):
-        return (program, 'run'), saved(f'one flow {segments}', disassemble(one_flow(segments)).decode())
+        return (program, 'run'), path_of(f'one flow {segments}', one_flow(segments))
 
     def theirs(*words):
         return lambda segments: (('ns', os.path.join(BENCH, 'ns2.tcl'), str(segments), *words), os.devnull)
@@ -45,9 +43,7 @@ def seconds(kinds, rounds):
     least = [float('inf')] * len(kinds)
     for _ in range(rounds):
         for at, kind in enumerate(kinds):
-            begin = time.perf_counter()
-            ran(*kind, ('taskset', '-c', CORE))
-            least[at] = min(least[at], time.perf_counter() - begin)
+            least[at] = min(least[at], timed(ran, *kind, ('taskset', '-c', CORE)))
     return least
 
 
@@ -69,8 +65,7 @@ def section(program, rounds):
 
 
 def main(words=None):
-    parser = argparse.ArgumentParser(description=__doc__, formatter_class=argparse.RawDescriptionHelpFormatter)
-    parser.add_argument('--program', default=PROGRAM)
+    parser = words_of(__doc__)
     parser.add_argument('--rounds', type=int, default=9)
     given = parser.parse_args(words)
     if not installed():

@@ -8,7 +8,6 @@ and of many commands in a row the mean and the longest of the best round. On a m
 priority keeps the cores for them (as root). With --print nothing is written. A command that the program does not
 have yet is left out of its table. Instructions are counted where valgrind is installed. It wants python3 alone else.
 """
-import argparse
 import os
 import re
 import select
@@ -18,8 +17,8 @@ import sys
 import time
 from collections import namedtuple
 
-from results import BENCH, CALLGRIND, ENVIRONMENT, PROGRAM, instructions, made, number, saved, table
-from scenarios import EVER, GBIT, MBIT, MS, MSS, RECEIVER, ROUTER, SCENARIOS, SENDER, US, Net, disassemble, droptail, four_groups, islands, two_ends, under_way
+from results import BENCH, CALLGRIND, ENVIRONMENT, PROGRAM, at_priority, instructions, made, number, resident, table, within, words_of
+from scenarios import EVER, GBIT, MBIT, MS, MSS, RECEIVER, ROUTER, SCENARIOS, SENDER, US, Net, droptail, four_groups, islands, path_of, two_ends, under_way
 
 PAGE = os.path.join(BENCH, 'DEBUGGER.md')
 PROMPT = b'(tcpsim) '
@@ -83,18 +82,9 @@ class Session:
         self.program.stdin.write(line.encode() + b'\n')
         return not self.answered()[1]
 
-    def resident(self):
-        """The most memory that was resident so far, in bytes."""
-        with open(f'/proc/{self.program.pid}/status') as status:
-            return number(r'VmHWM:\s+(\d+) kB', status.read()) * 1024
-
 
 def position(answer):
     return number(r'^at (\d+) of the run', re.sub(r'(?s).*\n(?=at )', '', answer))
-
-
-def path_of(name, scenario):
-    return saved(name, disassemble(scenario).decode())
 
 
 def two_flows(start):
@@ -165,7 +155,7 @@ def answers(path, rounds, before):
             answer, took = session.timed('reverse')
             assert position(answer) == first, answer
             back.append(took)
-        memory = session.resident()
+        memory = resident(session.program)
     return first, {line: min(times) for line, times in found.items()}, min(back), memory
 
 
@@ -219,13 +209,11 @@ def crowded(before):
     path = path_of('under_way_100000', SCENARIOS['under_way_100000']())
     with Session(path, before=before) as session:
         session.type('run')
-        kept = session.resident()
+        kept = resident(session.program)
     process = subprocess.Popen([PROGRAM, 'run', path], stdout=subprocess.PIPE, env=ENVIRONMENT)
     plain = 0
     while process.stdout.read1(1 << 16):
-        with open(f'/proc/{process.pid}/status') as status:
-            found = re.search(r'VmHWM:\s+(\d+) kB', status.read())
-        plain = int(found[1]) * 1024 if found else plain
+        plain = resident(process, plain)
     process.wait()
     return kept, plain
 
@@ -266,15 +254,6 @@ def values(path, conditions):
         yield condition, there, back - there
 
 
-def in_one_flow():
-    return values(one_flow(), ('kind rto', 'cwnd<1', 'rto>999s', 'phase fr', 'time>=999999s', 'queue 0>60000', 'wait 0>999s', 'change ssthresh 0'))
-
-
-def in_islands():
-    return values(path_of('value islands', islands(12, 2, 2_000)),
-                  ('kind start node 1', 'rto>999s', 'queue 0>60000', 'queue 207>60000', 'wait 207>999s', 'change ssthresh 40'))
-
-
 def last_nodes(segments):
     """A flow of so many segments between the last two of 256 nodes. The others are routers in a row, which pass nothing on."""
     net, link = Net(), (8 * MBIT, MS, droptail(100))
@@ -286,10 +265,6 @@ def last_nodes(segments):
     net.link(receiver, sender, *link)
     net.flow(sender, receiver, MSS, segments, 0, 44 * MSS)
     return net.scenario(EVER)
-
-
-def at_last_nodes():
-    return values(path_of('value last nodes', last_nodes(26_000)), ('kind rto', 'queue 506>60000', 'wait 507>999s', 'change ssthresh 0'))
 
 
 def value_table(found):
@@ -304,10 +279,6 @@ def value_table(found):
 
 def shown(seconds):
     return f'{seconds * 1000:.2f} ms' if seconds < 0.1 else f'{seconds:.2f} s'
-
-
-def within(count, bar):
-    return 'yes' if count <= bar else 'no'
 
 
 def page(args, before):
@@ -340,16 +311,19 @@ def page(args, before):
         last = (shown(stall), f'{stall / rto:.2f}', f'{STALL}', within(stall / rto, STALL)) if stall else ('no such breakpoint', '', f'{STALL}', '')
         rows.append((f'{name}: {events:,} events', shown(rto), *last))
     yield from table(('Run', '`break kind rto`', '`break stall`', 'Times', 'At most', 'Within'), rows)
-    if found := list(in_one_flow()):
+    if found := list(values(one_flow(), ('kind rto', 'cwnd<1', 'rto>999s', 'phase fr', 'time>=999999s', 'queue 0>60000', 'wait 0>999s',
+                                         'change ssthresh 0'))):
         yield '## A breakpoint on a value\n'
         yield 'Millions of instructions of `run` to the end of a flow of 26,000 segments, and of `reverse` from there. No breakpoint matches.\n'
         yield from value_table(found)
         yield ('The same in `islands` of bench/scenarios.py, with 104 nodes, 208 links, and 48 flows of 2,000 segments. '
                'Link 0 is one of the first nodes, and link 207 is the last.\n')
-        yield from value_table(list(in_islands()))
+        yield from value_table(list(values(path_of('value islands', islands(12, 2, 2_000)), (
+            'kind start node 1', 'rto>999s', 'queue 0>60000', 'queue 207>60000', 'wait 207>999s', 'change ssthresh 40'))))
         yield ('The same of a flow of 26,000 segments between the last two of 256 nodes, over links 506 and 507. '
                'No other node has events.\n')
-        yield from value_table(list(at_last_nodes()))
+        yield from value_table(list(values(path_of('value last nodes', last_nodes(26_000)), (
+            'kind rto', 'queue 506>60000', 'wait 507>999s', 'change ssthresh 0'))))
     yield '## With groups and workers\n'
     crews = grouped(args.rounds, before)
     at = next(iter(crews.values()))[0]
@@ -366,16 +340,15 @@ def page(args, before):
 
 def main():
     global PROGRAM
-    words = argparse.ArgumentParser(description='Measures the debugger at its prompt and writes bench/DEBUGGER.md.')
-    words.add_argument('--program', default=PROGRAM)
+    words = words_of('Measures the debugger at its prompt and writes bench/DEBUGGER.md.')
     words.add_argument('--rounds', type=int, default=5)
     words.add_argument('--priority', type=int, help='the real-time priority of the timed sessions, 1 to 99')
     words.add_argument('--print', action='store_true', help='write no page')
     args = words.parse_args()
-    PROGRAM = os.path.abspath(args.program)
+    PROGRAM = args.program
     if not os.path.exists(PROGRAM):
         sys.exit(f"{PROGRAM} is not there: build it with 'make run'")
-    made = '\n'.join(page(args, ('chrt', '-f', str(args.priority)) if args.priority else ())).rstrip('\n') + '\n'
+    made = '\n'.join(page(args, at_priority(args.priority))).rstrip('\n') + '\n'
     if not args.print:
         with open(PAGE, 'w') as file:
             file.write(made)

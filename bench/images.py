@@ -4,21 +4,15 @@
 `bench/measure.py` writes the section too. Instructions are counted by valgrind, those of one function
 and what it calls; seconds are whole runs of the program, and say only what the machine at hand did.
 """
-import argparse
 import os
 import re
 import subprocess
 import sys
 import tempfile
-import time
 
-from results import ENVIRONMENT, PROGRAM, TOP, put_section, table
-
-sys.path.insert(0, os.path.join(TOP, 'python'))
-
-from tcpsim_model import image  # noqa: E402
-from scenarios import SCENARIOS  # noqa: E402
-from tcpsim_model.text import assemble, disassemble  # noqa: E402
+from results import ENVIRONMENT, TOP, put_section, table, timed, words_of
+from scenarios import SCENARIOS, assemble, disassemble
+from tcpsim_model import image
 
 HEAD = '## Images\n'
 FIRST = os.path.join(TOP, 'examples', 'one_segment.txt')
@@ -47,13 +41,10 @@ def costs(program, subcommand, path, work):
 
 def milliseconds(program, subcommand, path):
     """The least of eleven runs."""
-    took = []
-    for _ in range(11):
+    def run():
         with open(path, 'rb') as given:
-            begin = time.perf_counter()
             subprocess.run([program, subcommand], stdin=given, stdout=subprocess.DEVNULL, env=ENVIRONMENT, check=True)
-            took.append(time.perf_counter() - begin)
-    return min(took) * 1000
+    return min(timed(run) for _ in range(11)) * 1000
 
 
 def rows(program):
@@ -84,9 +75,7 @@ def section(program):
 
 
 def main(words=None):
-    parser = argparse.ArgumentParser(description=__doc__, formatter_class=argparse.RawDescriptionHelpFormatter)
-    parser.add_argument('--program', default=PROGRAM)
-    put_section(HEAD, section(parser.parse_args(words).program))
+    put_section(HEAD, section(words_of(__doc__).parse_args(words).program))
 
 
 if __name__ == '__main__':

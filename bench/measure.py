@@ -15,7 +15,6 @@ import shutil
 import subprocess
 import sys
 import tempfile
-import time
 from collections import Counter, namedtuple
 from concurrent.futures import ThreadPoolExecutor
 
@@ -24,8 +23,9 @@ import images
 import shares
 import steps
 import workers
-from results import CALLGRIND, ENVIRONMENT, PROGRAM, RESULTS, TOP, instructions, made, number, processor, saved, table
-from scenarios import SCENARIOS, disassemble, started
+from results import (CALLGRIND, ENVIRONMENT, PROGRAM, RESULTS, TOP, at_priority, instructions, made, number, processor, resident, saved, table,
+                     timed, words_of)
+from scenarios import paths_of
 
 FEW, MANY = 20_000, 200_000
 # A link takes at most 64 losses: the 1,000th, 2,000th, .. 64,000th packet.
@@ -103,13 +103,6 @@ def run(path, before=(), subcommand='run'):
     return done.stderr
 
 
-def resident(process, before):
-    """VmHWM, the most memory that was resident so far, in bytes; `before` once it has ended."""
-    with open(f'/proc/{process.pid}/status') as status:
-        found = re.search(r'VmHWM:\s+(\d+) kB', status.read())
-    return int(found[1]) * 1024 if found else before
-
-
 def watch(path):
     """Events, packets sent, bytes written and resident memory of a run, its trace read as it comes.
 
@@ -131,12 +124,7 @@ def watch(path):
 
 def seconds(path, before, subcommand='run', runs=3):
     """The least of three runs, or of so many."""
-    took = []
-    for _ in range(runs):
-        begin = time.perf_counter()
-        run(path, before, subcommand)
-        took.append(time.perf_counter() - begin)
-    return min(took)
+    return min(timed(run, path, before, subcommand) for _ in range(runs))
 
 
 def longest(before):
@@ -183,8 +171,7 @@ def by_function(path):
 
 def budget(name):
     """The functions that the events of a scenario go to, those with most instructions first."""
-    paths = [saved(f'{name}{word}', disassemble(it).decode())
-             for word, it in ((' started', started(SCENARIOS[name]())), ('', SCENARIOS[name]()))]
+    paths = paths_of(name)
     few, many = (watch(it)[0] for it in paths)
     start, whole = map(by_function, paths)
 
@@ -225,8 +212,8 @@ def costs(names, jobs):
     where its last flow starts, divided by the events that lie between both; and the same of its figures,
     and of its run without the text. Of a large net the run with its text is not counted."""
     bars = [bar for bar in ROWS if bar[0] in names]
-    paths = [saved(name + ' started', disassemble(started(SCENARIOS[name]())).decode()) for name, *_ in bars]
-    paths += [saved(name, disassemble(SCENARIOS[name]()).decode()) for name, *_ in bars]
+    starts, wholes = zip(*(paths_of(name) for name, *_ in bars))
+    paths = starts + wholes
     events = [watch(path)[0] for path in paths]
     with ThreadPoolExecutor(jobs) as pool:
         counts = [list(pool.map(lambda at: collected(run(paths[at], SIMULATED)) if bars[at % len(bars)][2] else None, range(len(paths)))),
@@ -253,7 +240,6 @@ def cost_table(rows):
     yield ('Data references, misses of the nearest cache (48 kB, of 12 ways) and mispredicted branches are those of an event. '
            f'Callgrind simulates the machine. `{GUESSED}` has a bound of {REFERENCES} data references and of {MISPREDICTED} '
            'mispredicted branches.\n')
-    yield from (f'They are {r.run.references:,.1f} and {r.run.mispredicted:,.2f} there.\n' for r in rows if r.name == GUESSED)
     yield ('An event without its text: the calls that make text are subtracted, with the loop that makes these calls. '
            f'`figures` makes no text, and may take {ABOVE} instructions more.\n')
     yield from table(('Scenario', '`run` without text', '`figures`', 'At most', 'Within'),
@@ -333,12 +319,11 @@ def scenario_name(word):
     return word
 
 
-def words_of():
-    words = argparse.ArgumentParser(description='Measures the built program and writes bench/RESULTS.md.')
+def given_words():
+    words = words_of('Measures the built program and writes bench/RESULTS.md.')
     words.add_argument('names', nargs='*', metavar='NAME', type=scenario_name,
                        help='count these scenarios only, and write nothing: ' + ', '.join(name for name, *_ in ROWS))
     words.add_argument('--jobs', type=int, default=os.cpu_count(), help='counts that run side by side')
-    words.add_argument('--program', help='else the built one, which is built where it is not there')
     words.add_argument('--priority', type=int, help='the real-time priority of the timed runs, 1 to 99')
     words.add_argument('--budget', action='store_true', help='print the functions that the events of these scenarios go to, and write nothing')
     words.add_argument('--alone', action='store_true', help='leave the sections of figures beside runs, images, events by themselves, workers and ns-2 as they are')
@@ -347,10 +332,10 @@ def words_of():
 
 def main():
     global PROGRAM
-    given = words_of()
-    if given.program and not os.path.isfile(given.program):
+    given = given_words()
+    if given.program != PROGRAM and not os.path.isfile(given.program):
         sys.exit(f'there is no program {given.program}')
-    PROGRAM = given.program or PROGRAM
+    PROGRAM = given.program
     if not shutil.which('valgrind', path=ENVIRONMENT['PATH']):
         sys.exit('valgrind is not installed')
     if not os.path.exists(PROGRAM):
@@ -362,7 +347,7 @@ def main():
     if given.names:
         print('\n'.join(cost_table(list(costs(given.names, given.jobs)))))
         return
-    before = ('chrt', '-f', str(given.priority)) if given.priority else ()
+    before = at_priority(given.priority)
     start, *runs = measured(
         [case('start', 1, text(1, end=1))]
         + [case(name, n, text(n, delack, losses)) for name, delack, losses in FLOWS for n in (FEW, MANY)]

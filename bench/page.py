@@ -19,9 +19,8 @@ import time
 
 sys.path.insert(1, os.path.join(os.path.dirname(os.path.dirname(os.path.abspath(__file__))), 'dev'))
 import browsers
-from results import BENCH, ENVIRONMENT, PROGRAM, TOP, processor, saved, table
-from scenarios import droptail, dumbbell, one_flow
-from tcpsim_model.text import disassemble
+from results import BENCH, ENVIRONMENT, PROGRAM, TOP, made, saved, table, timed
+from scenarios import disassemble, droptail, dumbbell, one_flow
 
 PAGE = os.path.join(BENCH, 'PAGE.md')
 MADE = os.path.join(TOP, 'out', 'page', 'tcpsim.html')
@@ -66,9 +65,7 @@ MOVE = '''(async way => {
 def native(words, path):
     """The seconds of a run of the native program, its output written to a file in memory."""
     with open(path, 'rb') as given, tempfile.TemporaryFile(dir='/dev/shm') as out:
-        begin = time.perf_counter()
-        subprocess.run([PROGRAM, *words], stdin=given, stdout=out, env=ENVIRONMENT, check=True)
-        return time.perf_counter() - begin
+        return timed(lambda: subprocess.run([PROGRAM, *words], stdin=given, stdout=out, env=ENVIRONMENT, check=True))
 
 
 def held(browser):
@@ -182,12 +179,11 @@ def rows_of_moved(path):
 def written(path, rounds):
     first, ready, rows, verdict = measured(path, rounds)
     version = subprocess.run([browsers.CHROMIUM, '--version'], capture_output=True, text=True, check=True).stdout.strip()
-    commit = subprocess.run(['git', '-C', TOP, 'rev-parse', '--short', 'HEAD'], capture_output=True, text=True, check=True).stdout.strip()
     yield '# What the page with the simulator costs'
     yield ''
     yield f'The page and the native program do the same in turn, and the least of {rounds} rounds counts. A number above its bound is bold. `bench/page.py` writes this page.'
     yield ''
-    yield f'{time.strftime("%Y-%m-%d")}, commit {commit}, {processor()}, {os.cpu_count()} processors, load {os.getloadavg()[0]:.1f}; {version}, headless. The prover\'s verdict on the program in the page:'
+    yield f'{made()}, load {os.getloadavg()[0]:.1f}; {version}, headless. The prover\'s verdict on the program in the page:'
     yield ''
     yield from ('```', *textwrap.wrap(verdict, 120, break_long_words=False, break_on_hyphens=False), '```')
     yield ''

@@ -1,4 +1,5 @@
-"""What the measuring scripts share: the program, how it is counted, and the sections of bench/RESULTS.md."""
+"""What the measuring scripts share: the program, how it is counted and timed, and the sections of bench/RESULTS.md."""
+import argparse
 import os
 import re
 import subprocess
@@ -11,6 +12,36 @@ RESULTS = os.path.join(BENCH, 'RESULTS.md')
 # Fixed, since a starting program looks through its environment.
 ENVIRONMENT = {'PATH': '/usr/bin:/bin', 'LC_ALL': 'C'}
 CALLGRIND = ('valgrind', '--tool=callgrind', '--callgrind-out-file=/dev/null')
+
+
+def words_of(description):
+    """The words of a script, of which the program is one."""
+    words = argparse.ArgumentParser(description=description, formatter_class=argparse.RawDescriptionHelpFormatter)
+    words.add_argument('--program', type=os.path.abspath, default=PROGRAM, help='else the built one')
+    return words
+
+
+def at_priority(priority):
+    """What a timed run's words begin with, where it has a real-time priority, 1 to 99."""
+    return ('chrt', '-f', str(priority)) if priority else ()
+
+
+def timed(call, *words):
+    """The seconds of a call."""
+    begin = time.perf_counter()
+    call(*words)
+    return time.perf_counter() - begin
+
+
+def resident(process, before=0):
+    """The most memory that was resident so far (VmHWM), in bytes; `before` once the process has ended."""
+    with open(f'/proc/{process.pid}/status') as status:
+        found = re.search(r'VmHWM:\s+(\d+) kB', status.read())
+    return int(found[1]) * 1024 if found else before
+
+
+def within(value, most):
+    return 'yes' if value <= most else 'no'
 
 
 def number(pattern, said):

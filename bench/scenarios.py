@@ -8,7 +8,8 @@ import argparse
 import os
 import sys
 
-TOP = os.path.dirname(os.path.dirname(os.path.abspath(__file__)))
+from results import TOP, saved
+
 sys.path.insert(0, os.path.join(TOP, 'python'))
 
 from tcpsim.scenario import net as nets  # noqa: E402
@@ -247,6 +248,16 @@ def started(s):
     its events cost is this one's, or nearly."""
     s.end = max(flow.start for flow in s.flows) + 1
     return s
+
+
+def path_of(name, scenario):
+    """The path of a scenario's file in bench/work."""
+    return saved(name, disassemble(scenario).decode())
+
+
+def paths_of(name):
+    """That of a scenario of the table, behind that of the same which ends at its last flow's start."""
+    return path_of(name + ' started', started(SCENARIOS[name]())), path_of(name, SCENARIOS[name]())
 
 
 def main():

@@ -6,18 +6,10 @@ bench/shares.py [--program PATH] [--priority P] [--runs N] [NAME ..]
 table is printed and not written. A run writes its trace to /dev/null, and so do its figures their table. Both are
 timed in turn, and the least of each counts. On a machine with other work a real-time priority keeps a core (as root).
 """
-import argparse
-import os
 import subprocess
-import sys
-import time
 
-from results import ENVIRONMENT, PROGRAM, TOP, put_section, saved, table
-
-sys.path.insert(0, os.path.join(TOP, 'python'))
-
-from scenarios import SCENARIOS  # noqa: E402
-from tcpsim_model.text import disassemble  # noqa: E402
+from results import ENVIRONMENT, at_priority, put_section, table, timed, within, words_of
+from scenarios import SCENARIOS, path_of
 
 HEAD = '## Figures beside runs\n'
 NAMES = ('one_flow', 'one_flow_delayed_acks', 'under_way_10000', 'under_way_10000_delayed_acks', 'under_way_100000', 'dumbbell_droptail',
@@ -26,34 +18,30 @@ NAMES = ('one_flow', 'one_flow_delayed_acks', 'under_way_10000', 'under_way_1000
 SHARE = 0.9
 
 
-def seconds(program, before, subcommand, path):
+def run(program, before, subcommand, path):
     with open(path, 'rb') as given:
-        begin = time.perf_counter()
         subprocess.run([*before, program, subcommand], stdin=given, stdout=subprocess.DEVNULL, env=ENVIRONMENT, check=True)
-        return time.perf_counter() - begin
 
 
 def rows(program, names, before, runs):
     for name in names:
-        path = saved(name, disassemble(SCENARIOS[name]()).decode())
-        took = [[seconds(program, before, it, path) for it in ('run', 'figures')] for _ in range(runs)]
+        path = path_of(name, SCENARIOS[name]())
+        took = [[timed(run, program, before, it, path) for it in ('run', 'figures')] for _ in range(runs)]
         whole, figures = map(min, zip(*took))
-        yield (f'`{name}`', f'{whole:.3f}', f'{figures:.3f}', f'{figures / whole:.2f}', f'{SHARE}', 'yes' if figures <= SHARE * whole else 'no')
+        yield (f'`{name}`', f'{whole:.3f}', f'{figures:.3f}', f'{figures / whole:.2f}', f'{SHARE}', within(figures, SHARE * whole))
 
 
 def section(given):
     yield HEAD
     yield (f'Seconds of each scenario and of its figures, both to /dev/null, the least of {given.runs} runs in turn. '
            'They say only what the machine at hand did.\n')
-    before = ('chrt', '-f', str(given.priority)) if given.priority else ()
     heads = 'Scenario', '`run`', '`figures`', 'Ratio', 'At most', 'Within'
-    yield from table(heads, list(rows(given.program, given.names or NAMES, before, given.runs)))
+    yield from table(heads, list(rows(given.program, given.names or NAMES, at_priority(given.priority), given.runs)))
 
 
 def main(words=None):
-    parser = argparse.ArgumentParser(description=__doc__, formatter_class=argparse.RawDescriptionHelpFormatter)
+    parser = words_of(__doc__)
     parser.add_argument('names', nargs='*', metavar='NAME', choices=[*NAMES, []])
-    parser.add_argument('--program', default=PROGRAM)
     parser.add_argument('--priority', type=int)
     parser.add_argument('--runs', type=int, default=3)
     given = parser.parse_args(words)

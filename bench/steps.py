@@ -13,8 +13,8 @@ import sys
 import tempfile
 from concurrent.futures import ThreadPoolExecutor
 
-from results import CALLGRIND, ENVIRONMENT, TOP, instructions, put_section, saved, table
-from scenarios import SCENARIOS, disassemble, started
+from results import CALLGRIND, ENVIRONMENT, TOP, instructions, put_section, table, within
+from scenarios import paths_of
 
 sys.path.insert(0, os.path.join(TOP, 'dev'))
 import build  # noqa: E402
@@ -91,9 +91,7 @@ def counted(program, path):
 
 
 def an_event(program, name):
-    paths = [saved(f'{name}{word}', disassemble(it).decode())
-             for word, it in ((' started', started(SCENARIOS[name]())), ('', SCENARIOS[name]()))]
-    (few, start), (many, whole) = (counted(program, path) for path in paths)
+    (few, start), (many, whole) = (counted(program, path) for path in paths_of(name))
     return (whole - start) / (many - few)
 
 
@@ -105,7 +103,7 @@ def section(jobs):
         program = built(folder)
         rows = list(pool.map(lambda name: (name, an_event(program, name)), NAMES))
     yield from table(('Scenario', 'Instructions per event', 'Within'),
-                     [(f'`{name}`', f'{cost:.1f}', 'yes' if cost <= MOST else 'no') for name, cost in rows])
+                     [(f'`{name}`', f'{cost:.1f}', within(cost, MOST)) for name, cost in rows])
 
 
 def main(words=None):

@@ -21,9 +21,6 @@ NET = ('dumbbell', '--flows', '4', '--rate', '10M', '--rtt', '40ms', '--queue', 
 SIZES = ('4s', 1_000), ('8s', 500), ('40s', 100)        # simulated, some 5, 10 and 50 ms of a processor; and how many runs
 WORKERS = 1, 4
 HEAD = '## Sweeps'
-# The ratios of commit 410211fd, before a worker had batches of runs, and when they were measured.
-BEFORE_ON = '2026-11-30'
-BEFORE = {('4s', 1): '1.40', ('4s', 4): '1.49', ('8s', 1): '1.24', ('8s', 4): '1.21', ('40s', 1): '1.05', ('40s', 4): '1.11'}
 # Starts the program so often on a file, with nothing read, and prints what it took.
 ALONE = '''import os, resource, sys
 program, path, count = sys.argv[1], sys.argv[2], int(sys.argv[3])
@@ -81,16 +78,15 @@ def main():
             for workers in WORKERS:
                 loads.append(os.getloadavg()[0])
                 own, whole, ratio = measured(clone, path, count, workers, given.rounds, environment)
-                rows.append((f'{end} of 10 Mbit/s, {workers} at once', f'{count:,}', f'{own:.2f}', f'{whole:.2f}', f'{ratio:.2f}',
-                             BEFORE.get((end, workers), '')))
+                rows.append((f'{end} of 10 Mbit/s, {workers} at once', f'{count:,}', f'{own:.2f}', f'{whole:.2f}', f'{ratio:.2f}'))
                 loads.append(os.getloadavg()[0])
                 print(*rows[-1], sep=', ', flush=True)
     if clone == TOP:
         put_section(HEAD, [HEAD, '', f'{made()}. Written by `bench/sweeps.py`: runs of four flows by one `tcpsim-sweep`, in ms of processors a run, '
                            f'each the least of {given.rounds} rounds. The program alone is started as often with the same scenario, as many side '
-                           'by side, with nothing read.', '', 'The ratio is the median of those of the rounds. The last column is the ratio with '
-                           f'commit 410211fd, measured on {BEFORE_ON}. The machine had a load of {min(loads):.0f} to {max(loads):.0f}.', '',
-                           *table(('A run', 'runs', 'the program alone', 'the sweep', 'ratio', 'before'), rows)])
+                           'by side, with nothing read.', '',
+                           f'The ratio is the median of those of the rounds. The machine had a load of {min(loads):.0f} to {max(loads):.0f}.', '',
+                           *table(('A run', 'runs', 'the program alone', 'the sweep', 'ratio'), rows)])
 
 
 if __name__ == '__main__':

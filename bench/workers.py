@@ -10,18 +10,16 @@ are counted that two workers write, and the threads that four start. It wants va
 and GNU time. With --found only the table of the groups that `--groups auto` finds is made, and printed, with
 --drawn only that of groups drawn at random.
 """
-import argparse
 import contextlib
 import os
 import random
 import subprocess
 import tempfile
-import time
 from collections import namedtuple
 
 from found import found_groups
-from results import CALLGRIND, ENVIRONMENT, PROGRAM, instructions, number, processor, put_section, saved, table
-from scenarios import SCENARIOS, chain, disassemble, four_groups, one_flow, started, tree
+from results import CALLGRIND, ENVIRONMENT, at_priority, instructions, number, processor, put_section, table, timed, words_of
+from scenarios import SCENARIOS, chain, four_groups, one_flow, path_of, started, tree
 
 HEAD = '## Workers and groups\n'
 SPED_UP = 'busy_islands', 'busy_ring', 'islands', 'ring'
@@ -62,10 +60,6 @@ def ran(program, path, words=(), before=(), trace=subprocess.DEVNULL):
                               stderr=subprocess.PIPE, text=True, env=ENVIRONMENT, check=True).stderr
 
 
-def path_of(name, scenario):
-    return saved(name, disassemble(scenario).decode())
-
-
 def cost(program, name, words):
     """Instructions of a run less those of one that ends where its last flow starts."""
     whole, start = (instructions(ran(program, path, words, CALLGRIND))
@@ -104,12 +98,9 @@ def seconds(kinds, rounds, before, out=os.devnull):
     for _ in range(rounds):
         for at, (program, path, words, cores) in enumerate(kinds):
             with open(out, 'wb') as trace:
-                begin = time.perf_counter()
-                if cores is EACH_CORE:
-                    at_once(program, path, words, before)
-                else:
-                    ran(program, path, words, (*before, 'taskset', '-c', cores), trace)
-                least[at] = min(least[at], time.perf_counter() - begin)
+                took = (timed(at_once, program, path, words, before) if cores is EACH_CORE else
+                        timed(ran, program, path, words, (*before, 'taskset', '-c', cores), trace))
+                least[at] = min(least[at], took)
     return least
 
 
@@ -275,13 +266,8 @@ def drawn_table(rows, rounds):
     yield said([max(r.took) <= SMALL_MOST * r.plain for r in rows], 'hold it')
 
 
-def megabytes(program, path, words):
-    said = ran(program, path, words, ('/usr/bin/time', '-f', '%M kB'))
-    return number(r'(\d+) kB', said) / 1024
-
-
 def most_megabytes(program, path, words, rounds):
-    return max(megabytes(program, path, words) for _ in range(rounds))
+    return max(number(r'(\d+) kB', ran(program, path, words, ('/usr/bin/time', '-f', '%M kB'))) / 1024 for _ in range(rounds))
 
 
 def memory(program, rounds):
@@ -363,14 +349,13 @@ def section(program, rounds, before):
 
 
 def main(words=None):
-    parser = argparse.ArgumentParser(description=__doc__, formatter_class=argparse.RawDescriptionHelpFormatter)
-    parser.add_argument('--program', default=PROGRAM)
+    parser = words_of(__doc__)
     parser.add_argument('--rounds', type=int, default=9)
     parser.add_argument('--priority', type=int, help='the real-time priority of the timed runs, 1 to 99')
     parser.add_argument('--found', action='store_true', help='print the table of groups that are found alone')
     parser.add_argument('--drawn', action='store_true', help='print the table of groups drawn at random alone')
     given = parser.parse_args(words)
-    before = ('chrt', '-f', str(given.priority)) if given.priority else ()
+    before = at_priority(given.priority)
     if given.found:
         print('\n'.join(found_table(found(given.program, given.rounds, before))))
         return
