@@ -1,13 +1,16 @@
 """The clone as its tests and dev/ use it: where its parts are, how its program, model and tools are run, what a machine
 lacks. Importing it puts python/ on sys.path, where the packages are. What wants pytest is in conftest.py, at the top."""
 import concurrent.futures
+import csv
 import functools
 import hashlib
+import io
 import os
 import shutil
 import subprocess
 import sys
 import tempfile
+import time
 
 TOP = os.path.dirname(os.path.dirname(os.path.abspath(__file__)))
 BIN = os.path.join(TOP, 'bin')
@@ -67,6 +70,33 @@ def tool_words(name):
 def tool(name, *words, **more):
     """A tool's process, which has ended."""
     return ran(*tool_words(name), *words, **more)
+
+
+def told(name, *words, **more):
+    """What a tool writes, as text; its status is 0, and it says nothing else."""
+    done = tool(name, *words, **more)
+    assert (done.returncode, done.stderr) == (0, b''), done.stderr
+    return done.stdout.decode()
+
+
+def refusal(name, *words, **more):
+    """The status with which a tool refuses words, and its one sentence; it writes nothing else."""
+    done = tool(name, *words, text=True, **more)
+    assert (done.stdout, done.stderr.count('\n'), done.stderr.startswith(f'tcpsim-{name}: ')) == ('', 1, True), done
+    return done.returncode, done.stderr.removeprefix(f'tcpsim-{name}: ').rstrip()
+
+
+def csv_rows(text):
+    """The rows of a table of comma-separated values, by the words of its heading."""
+    return list(csv.DictReader(io.StringIO(text)))
+
+
+def until(is_so, what, seconds=PATIENCE):
+    """Waits until something is so."""
+    end = time.monotonic() + seconds
+    while not is_so():
+        assert time.monotonic() < end, what
+        time.sleep(.02)
 
 
 def outcome(words, given=b'', **more):

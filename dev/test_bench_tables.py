@@ -1,12 +1,8 @@
 """Each table of a page in bench/ stands in bench/csv too, number by number."""
 import csv
 import io
-import os
-import sys
 
-TOP = os.path.dirname(os.path.dirname(os.path.abspath(__file__)))
-sys.path.insert(0, os.path.join(TOP, 'bench'))
-import tables  # noqa: E402
+import tables
 
 PAGE = '''# A page
 

@@ -14,12 +14,10 @@ import zipfile
 
 import pytest
 
-TOP = os.path.dirname(os.path.dirname(os.path.abspath(__file__)))
-sys.path[1:1] = [os.path.join(TOP, 'dev'), os.path.join(TOP, 'python')]
-
-import dist  # noqa: E402
-import pass_gate  # noqa: E402
-from tcpsim import VERSIONS, __version__  # noqa: E402
+import dist
+import pass_gate
+from clone import TOP
+from tcpsim import VERSIONS, __version__
 
 ONE_SEGMENT = os.path.join(TOP, 'examples', 'one_segment.txt')
 LACKS = [name for name in ('venv', 'ensurepip', 'setuptools', 'wheel') if not importlib.util.find_spec(name)]

@@ -9,7 +9,7 @@ import time
 
 import pytest
 
-from clone import TOP, ran
+from clone import TOP, ran, until
 
 TOOLCHAIN = 'rattle-kit-1 logic abc'
 RT = f'''#!/bin/sh
@@ -159,9 +159,8 @@ def test_it_takes_its_folder_and_its_prover_away_when_it_is_ended(tree, put):
     put('crates/low/mutants/waits.edit', EDIT.replace('2', 'waits'))
     env = {**os.environ, 'PATH': f'{tree}/bin:{os.environ["PATH"]}', 'TMPDIR': str(tree)}
     process = subprocess.Popen([sys.executable, '-B', tree / 'dev/mutants.py'], env=env, stdin=subprocess.DEVNULL, stdout=subprocess.DEVNULL)
-    while not (found := list(tree.glob('mutants-*/*/waits'))) or not found[0].read_text().strip():
-        time.sleep(0.05)
-    prover = int(found[0].read_text())
+    until(lambda: any(it.read_text().strip() for it in tree.glob('mutants-*/*/waits')), 'no prover is asked')
+    prover, = (int(it.read_text()) for it in tree.glob('mutants-*/*/waits'))
     process.send_signal(signal.SIGTERM)
     assert process.wait(60) == 128 + signal.SIGTERM and not list(tree.glob('mutants-*'))
     with pytest.raises(ProcessLookupError):

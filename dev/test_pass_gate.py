@@ -1,16 +1,15 @@
-"""Tests of what is kept of the gate for the manifest of `make dist` and for the page: in a copy, with a gate that is played.
-"""
+"""Tests of what is kept of the gate for the manifest of `make dist` and for the page: in a copy, with a gate that is played."""
 import json
 import os
 import shutil
 import signal
 import subprocess
 import sys
-import time
 
 import pytest
 
-TOP = os.path.dirname(os.path.dirname(os.path.abspath(__file__)))
+from clone import TOP, until
+
 RT = '''#!/bin/sh
 [ "$1" = ci ] || { echo 'kit-1 logic abc'; exit 0; }
 [ -z "$PROVES" ] || (cd crates/tcpsim && exec sh -c "$PROVES" rattle build --crate-name tcpsim)
@@ -77,8 +76,7 @@ def test_a_gate_that_did_not_end_leaves_nothing(tree):
     done = subprocess.run(**words(tree, 'rt: there is no room', 4), capture_output=True, check=False)
     assert done.returncode == 4 and kept(tree) == 'None False'
     process = subprocess.Popen(**words(tree, '12 passed, 0 failed', waits='1'), stdout=subprocess.DEVNULL, stderr=subprocess.DEVNULL)
-    while not (tree / 'waits').exists():
-        time.sleep(0.05)
+    until((tree / 'waits').exists, 'no gate begins')
     process.send_signal(signal.SIGTERM)
     assert process.wait(60) == 128 + signal.SIGTERM and kept(tree) == 'None False'
 

@@ -7,11 +7,10 @@ import re
 import shutil
 import stat
 import subprocess
-import sys
 
 import pytest
 
-from clone import BIN, BUILT as PROGRAM, TOP
+from clone import BIN, TOP, BUILT as PROGRAM, tool
 
 ONE_SEGMENT = os.path.join(TOP, 'examples', 'one_segment.txt')
 WIDE = 'islands', '--islands', '4', '--flows', '10', '--rate', '200M', '--between', '40ms', '--end', '600ms'
@@ -50,7 +49,7 @@ def elf(*options):
 def wide(tmp_path_factory):
     """A scenario whose windows are shared by threads."""
     path = tmp_path_factory.mktemp('posture') / 'wide.txt'
-    assert ran(sys.executable, os.path.join(BIN, 'tcpsim-net'), *WIDE, '-o', path).returncode == 0
+    assert tool('net', *WIDE, '-o', path).returncode == 0
     return str(path)
 
 

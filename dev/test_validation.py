@@ -7,18 +7,15 @@ import copy
 import math
 import os
 import re
-import sys
 
 import pytest
 
-sys.path.insert(0, os.path.join(os.path.dirname(os.path.dirname(os.path.abspath(__file__))), 'python'))
+import validate
+from clone import PROGRAM
+from tcpsim_model.sender import Sender
+from validation import codel, expectations, laws, ns2_sender, page, rules, stored
 
-import validate      # noqa: E402
-from tcpsim_model.sender import Sender      # noqa: E402
-from validation import codel, expectations, laws, ns2_sender, page, rules, stored      # noqa: E402
-
-PROGRAM = os.path.join(page.TOP, 'crates', 'tcpsim', 'out', 'tcpsim')
-built = pytest.mark.skipif(not os.path.exists(PROGRAM), reason='the program is not built')
+built = pytest.mark.built
 
 
 # ---- the page

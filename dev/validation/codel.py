@@ -229,15 +229,6 @@ def beside(mine, theirs):
             'first other': None if whole else [at + 1, *([ours[at], others[at]] if at < min(len(ours), len(others)) else [])]}
 
 
-def gaps_by_count(drops, limit=40):
-    """Of each count the wait from its drop to the next in the same drop state, as the first drop state of that length has it."""
-    gaps: dict[int, int] = {}
-    for (time, count), (later, after) in zip(drops, drops[1:]):
-        if after == count + 1 and count <= limit:
-            gaps.setdefault(count, later - time)
-    return gaps
-
-
 def measure(program):
     """All runs, beside each queue that is there."""
     rows = []

@@ -12,7 +12,7 @@ import time
 
 import pytest
 
-from clone import BIN, TOP
+from clone import TOP, csv_rows, told, tool, until
 
 import tcpsim
 from tcpsim.api.answers import Missing, PastDrop, WaitingPacket
@@ -63,7 +63,7 @@ def test_builders_write_the_texts_of_tcpsim_net():
                          (tcpsim.parking_lot(cross=2, back_queue='droptail:9'), 'parking-lot --cross=2 --back-queue=droptail:9'),
                          (tcpsim.access_line(uploads=1, start=[0, '1s']), 'asymmetric --uploads=1 --start=0,1s'),
                          (tcpsim.tree(leaves=2), 'tree --leaves=2'), (tcpsim.islands(islands=3, flows=2), 'islands --islands=3 --flows=2')):
-        assert build.text == ran(os.path.join(BIN, 'tcpsim-net'), *words.split())
+        assert build.text == told('net', *words.split())
 
 
 def test_a_scenario_is_read_from_a_file_an_image_or_a_text(tmp_path, engine):
@@ -71,7 +71,7 @@ def test_a_scenario_is_read_from_a_file_an_image_or_a_text(tmp_path, engine):
     assert (net.name, net.end_ns, list(net.links)) == ('one_segment', 10**9, ['a', 'b'])
     net.save(tmp_path / 'again.txt')
     assert tcpsim.read(tmp_path / 'again.txt').text == net.text
-    image = subprocess.run([os.path.join(BIN, 'tcpsim-model'), 'asm', example('one_segment')], capture_output=True, check=True).stdout
+    image = tool('model', 'asm', example('one_segment')).stdout
     (tmp_path / 'one.tcb').write_bytes(image)
     for given in (net, example('one_segment'), net.text, str(tmp_path / 'one.tcb')):
         assert list(tcpsim.run(given, engine=engine).trace.lines()) == trace_of('one_segment')
@@ -190,7 +190,7 @@ def test_a_long_run_is_not_left_to_the_model_unasked(monkeypatch):
 @pytest.mark.parametrize('name', ['fast_recovery', 'four_flows_before_codel', 'two_stalls_of_different_causes'])
 def test_figures_are_those_of_tcpsim_flows(name, engine):
     figures = tcpsim.run(example(name), engine=engine).figures
-    table = ran(os.path.join(BIN, 'tcpsim-flows'), example(name), '--engine', '--csv', *(['--model'] if engine == 'model' else []))
+    table = told('flows', example(name), '--engine', '--csv', *(['--model'] if engine == 'model' else []))
     wanted = {(what, of, figure): value for what, of, figure, _, value in csv.reader(io.StringIO(table))}
     names = {'delivered': 'delivered_bytes', 'goodput': 'goodput', 'bottleneck': 'bottleneck', 'timeouts': 'timeouts',
              'sent again by fast retransmit': 'fast_retransmits', 'sent again by timeout': 'timeout_retransmits',
@@ -254,7 +254,7 @@ def test_a_trace_is_read_as_far_as_is_wanted(engine):
 def test_series_are_those_of_tcpsim_flows(engine):
     """The first flow starts at 0, where the rows of tcpsim-flows begin. Flow 1 is g, link 0 is a."""
     series = tcpsim.run(example('bufferbloat_with_codel'), engine=engine).series('2s')
-    rows = csv.DictReader(io.StringIO(ran(os.path.join(BIN, 'tcpsim-flows'), example('bufferbloat_with_codel'), '--series', '2s')))
+    rows = csv_rows(told('flows', example('bufferbloat_with_codel'), '--series', '2s'))
     values = {}
     for row in rows:
         values.setdefault((row['what'], row['number'], row['figure']), []).append(row['value'])
@@ -270,13 +270,13 @@ def test_series_are_those_of_tcpsim_flows(engine):
 def test_time_is_that_of_tcpsim_time():
     run = tcpsim.run(example('bufferbloat'), engine='model')
     went = run.time('g')
-    table = ran(os.path.join(BIN, 'tcpsim-time'), example('bufferbloat'), '--flow', 'g', '--csv', '--model')
+    table = told('time', example('bufferbloat'), '--flow', 'g', '--csv', '--model')
     assert [[went.flow, part.kind, part.at, part.behind or '', '', str(part.ns), f'{100 * part.share:.6f}', str(part.alone_ns)]
             for part in went.parts] == [line.split(',') for line in table.splitlines()[1:-1]]
     assert (went.time_ns, went.alone_ns, went.begin_ns, went.end_ns) == (3012038400, 139225600, 3 * 10**9, 6012038400)
     assert sum(part.ns for part in went.parts) == went.time_ns and went.complete and went.acknowledged_bytes == 10_000 and went.awaits == ''
     assert (went.events[0].kind, went.events[-1].line, sum(went.round_trips.values())) == ('start', 8583, 3)
-    assert repr(went) == ran(os.path.join(BIN, 'tcpsim-time'), example('bufferbloat'), '--flow', 'g', '--model').rstrip()
+    assert repr(went) == told('time', example('bufferbloat'), '--flow', 'g', '--model').rstrip()
     assert went._repr_html_().count('<tr>') == len(went.parts) + 2
     early = run.time(1, to=0, alone=False)
     assert early.time_ns < went.time_ns and early.alone_ns is None and {part.alone_ns for part in early.parts} == {None}
@@ -322,7 +322,7 @@ def test_time_with_a_queue_of_ones_own():
 
 def test_stalls_are_those_of_tcpsim_stalls():
     stalls = tcpsim.run(example('two_stalls_of_different_causes'), engine='model').stalls('100ms')
-    table = ran(os.path.join(BIN, 'tcpsim-stalls'), example('two_stalls_of_different_causes'), '--longer', '100ms', '--csv', '--model')
+    table = told('stalls', example('two_stalls_of_different_causes'), '--longer', '100ms', '--csv', '--model')
     assert [(stall.flow, str(stall.begin), stall.cause) for stall in stalls] == [
         (row[0], row[1], row[4]) for row in list(csv.reader(io.StringIO(table)))[1:]]
     lines = repr(stalls).splitlines()
@@ -565,8 +565,5 @@ def test_processes_end_with_the_python_that_started_them(engine, what, tmp_path)
         assert is_there(pid)
         process.send_signal(signal.SIGKILL)
         process.wait()
-        until = time.monotonic() + 30
-        while is_there(pid) and time.monotonic() < until:
-            time.sleep(.05)
-        assert not is_there(pid)
+        until(lambda: not is_there(pid), 'a process goes on')
     assert os.listdir(tmp_path) == []

@@ -1,10 +1,10 @@
 """Tests of `python3 -m tcpsim SUBCOMMAND` and of `python3 -m tcpsim.commands.SUBCOMMAND`, beside tcpsim-SUBCOMMAND."""
 import os
-import subprocess
 import sys
 
 import pytest
 
+import clone
 from clone import BIN, PROGRAM, TOP, paths
 
 COMMANDS = sorted(name.removeprefix('tcpsim-') for name in os.listdir(BIN) if name.startswith('tcpsim-'))
@@ -18,8 +18,7 @@ def ways(command):
 
 def ran(*words):
     """Status, standard output and standard error."""
-    done = subprocess.run([sys.executable, *words], capture_output=True, text=True, check=False, stdin=subprocess.DEVNULL, timeout=120,
-                          env={**os.environ, 'PYTHONPATH': os.path.join(TOP, 'python')})
+    done = clone.ran(sys.executable, *words, text=True, env={**os.environ, 'PYTHONPATH': os.path.join(TOP, 'python')})
     return done.returncode, done.stdout, done.stderr
 
 

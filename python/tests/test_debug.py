@@ -13,7 +13,7 @@ import pytest
 
 pexpect = pytest.importorskip('pexpect', reason='no pexpect: apt-get install python3-pexpect')
 
-from clone import BIN, EXAMPLES, PROGRAM, TOP, of_model, read, read_text, tool  # noqa: E402
+from clone import BIN, EXAMPLES, PROGRAM, TOP, of_model, read, read_text, tool, until  # noqa: E402
 from tcpsim.console import keyboard, times  # noqa: E402
 from tcpsim.console.completion import Completion  # noqa: E402
 from tcpsim.prompt import Prompt  # noqa: E402
@@ -52,16 +52,6 @@ def is_running(pid):
         return False
 
 
-def soon(condition):
-    """Whether a condition holds within a while."""
-    until = time.monotonic() + PATIENCE
-    while not condition():
-        if time.monotonic() > until:
-            return False
-        time.sleep(.05)
-    return True
-
-
 class Terminal:
     """A session at a terminal of its own."""
 
@@ -97,7 +87,7 @@ class Terminal:
         before = work_of(program)
         self.type(line + '\r')
         self.child.expect_exact('\r\n')
-        assert soon(lambda: work_of(program) > before + 5)
+        until(lambda: work_of(program) > before + 5, 'the program does nothing')
 
     def interrupt(self, line):
         """What is shown where Ctrl-C comes while the program is at work on a line."""
@@ -137,7 +127,7 @@ class Terminal:
         self.type(keys)
         self.child.expect_exact(pexpect.EOF)
         self.child.close()
-        assert soon(lambda: not any(map(is_running, left)))
+        until(lambda: not any(map(is_running, left)), 'something runs on')
         return self.child.exitstatus
 
 
@@ -155,18 +145,28 @@ def limited():
 @pytest.fixture
 def terminal(tmp_path):
     """Begins sessions; those that a test leaves are ended."""
-    begun = []
+    every = []
 
     def begin(*words, **more):
         words = words if '--program' in words else ('--program', PROGRAM, *words)
-        begun.append(Terminal(tmp_path, *words, **more))
-        return begun[-1]
+        every.append(Terminal(tmp_path, *words, **more))
+        return every[-1]
     yield begin
-    for each in begun:
+    for each in every:
         if each.child.isalive():
             each.child.kill(signal.SIGKILL)
             each.child.wait()
         each.child.close()
+
+
+@pytest.fixture
+def begun(terminal):
+    """The same, at their first prompts."""
+    def begin(*words, **more):
+        session = terminal(*words, **more)
+        session.begin()
+        return session
+    return begin
 
 
 def at_once(path, *lines):
@@ -194,17 +194,15 @@ LINES = ('step 3', '', 'back', 'break drop flow 0', 'break stall', 'breaks', 'ru
          'delete 1', 'delete 7', 'stpe', 'why 9', 'step 1 2', 'help', 'help break', 'until 2s', 'clear', 'run')
 
 
-def test_answers_are_the_program_s(terminal):
-    session = terminal(TWO)
-    session.begin()
+def test_answers_are_the_program_s(begun):
+    session = begun(TWO)
     assert [session.ask(line) for line in LINES] == at_once(TWO, *LINES)
     assert session.end('quit\r') == 0
 
 
-def test_time_is_told_by_the_tool(terminal):
+def test_time_is_told_by_the_tool(begun):
     """Wherever the session is; and a flow is completed. What is refused changes nothing."""
-    session = terminal(FAIR)
-    session.begin()
+    session = begun(FAIR)
     session.ask('step 9')
     table, flow = (tool('time', FAIR, '--program', PROGRAM, *words).stdout.decode() for words in ((), ('--flow', '1', '--no-alone')))
     assert session.ask('time') == table and session.ask('time 1') == flow and flow.startswith('flow ')
@@ -216,10 +214,9 @@ def test_time_is_told_by_the_tool(terminal):
     assert session.end() == 0
 
 
-def test_time_of_a_run_that_has_no_end_is_ended(terminal, long):
+def test_time_of_a_run_that_has_no_end_is_ended(begun, long):
     """By Ctrl-C, and the session goes on. The run is read up to a bound unasked, and on while somebody waits; it is asked again."""
-    session = terminal(long)
-    session.begin()
+    session = begun(long)
     session.ask('step 3')
     ahead, = set(children(session.child.pid)) - {session.process()}
 
@@ -227,48 +224,44 @@ def test_time_of_a_run_that_has_no_end_is_ended(terminal, long):
         before = work_of(ahead)
         time.sleep(1)
         return work_of(ahead) == before
-    assert soon(rests)
+    until(rests, 'it does not rest')
     for _ in range(2):
         before = work_of(ahead)
         session.type('time f\r')
-        assert soon(lambda: work_of(ahead) > before + 5)
+        until(lambda: work_of(ahead) > before + 5, 'nothing runs ahead')
         assert session.interrupted().endswith('tcpsim-debug: ended; the session is where it was\n')
-        assert soon(rests)
+        until(rests, 'it does not rest')
     assert session.ask('where').startswith('at 3 of the run')
     assert session.end() == 0
 
 
-def test_bytes_that_are_no_text(terminal):
-    session = terminal(TWO, PYTHONIOENCODING='utf-8:strict')     # as Python has it but in a locale C
-    session.begin()
+def test_bytes_that_are_no_text(begun):
+    session = begun(TWO, PYTHONIOENCODING='utf-8:strict')     # as Python has it but in a locale C
     os.write(session.child.child_fd, b'st\xffp \xe2\x82\r')
     assert 'refused B1\n' in session.shown()
     assert session.ask('step') == at_once(TWO, 'step')[0]
 
 
-def test_all_that_the_program_started_ends(terminal, put, long):
+def test_all_that_the_program_started_ends(begun, put, long):
     """As where it is a script that starts it."""
     script = f'#!/bin/sh\nfor last; do :; done\n{PROGRAM} debug "$last"\nexit 5\n'
-    session = terminal('--program', put('script', script, 0o700), long)
-    session.begin()
+    session = begun('--program', put('script', script, 0o700), long)
     started, = children(session.process())
     before = work_of(started)
     session.type('run\r')
-    assert soon(lambda: work_of(started) > before + 5)
+    until(lambda: work_of(started) > before + 5, 'the program does nothing')
     session.type('\x03')
     assert 'ended; the session is at 0' in session.shown()
-    assert soon(lambda: not is_running(started))
+    until(lambda: not is_running(started), 'the program runs on')
 
 
-def test_it_ends_with_its_input(terminal):
-    session = terminal(TWO)
-    session.begin()
+def test_it_ends_with_its_input(begun):
+    session = begun(TWO)
     assert session.end() == 0
 
 
-def test_groups_go_to_the_program(terminal):
-    session = terminal('--workers', '2', '--groups', 'each', TWO)
-    session.begin()
+def test_groups_go_to_the_program(terminal, begun):
+    session = begun('--workers', '2', '--groups', 'each', TWO)
     assert session.ask('run') == at_once(TWO, 'run')[0]
     session = terminal('--groups', '0', TWO)
     session.child.expect_exact('refused groups')
@@ -277,19 +270,17 @@ def test_groups_go_to_the_program(terminal):
     assert session.child.exitstatus == 2
 
 
-def test_an_image(terminal, tmp_path):
+def test_an_image(begun, tmp_path):
     image = tmp_path / 'two.tcb'
     image.write_bytes(of_model(['asm', TWO])[2])
-    session = terminal(image)
-    session.begin()
+    session = begun(image)
     assert session.ask('step 2') == at_once(image, 'step 2')[0]
 
 
 # ---- Ctrl-C
 
-def test_ctrl_c_ends_a_move_and_keeps_the_session(terminal, long):
-    session = terminal(long)
-    session.begin()
+def test_ctrl_c_ends_a_move_and_keeps_the_session(begun, long):
+    session = begun(long)
     for line in ('step 7', 'break drop', 'break kind rto flow 0', 'break stall'):
         session.ask(line)
     moved = session.ask('run')
@@ -303,7 +294,7 @@ def test_ctrl_c_ends_a_move_and_keeps_the_session(terminal, long):
         session.ask('break stall')
         before = session.process()
         assert f'ended; the session is at {position} of the run, with its 2 breakpoints\n' in session.interrupt(line)
-        assert soon(lambda: not is_running(before))
+        until(lambda: not is_running(before), 'the program before runs on')
         assert {line: session.ask(line) for line in kept} == kept
     # The last move again is that before what was ended, which the new process has not seen.
     session.ask('clear')
@@ -319,9 +310,8 @@ def moved_time(session):
     return f'time {session.ask("lines 1").split()[1]} ns\n'
 
 
-def test_ctrl_c_comes_again_and_again(terminal, long):
-    session = terminal(long)
-    session.begin()
+def test_ctrl_c_comes_again_and_again(begun, long):
+    session = begun(long)
     session.ask('step 50')
     session.ask('break stall')
     state = session.ask('state')
@@ -332,26 +322,25 @@ def test_ctrl_c_comes_again_and_again(terminal, long):
         session.clear()
     session.type('\x03\x03')
     # Prompts of further interruptions may stand before the answers.
-    assert soon(lambda: session.ask('state') == state) and soon(lambda: session.ask('breaks') == 'break 1: stall\n')
+    until(lambda: session.ask('state') == state, 'it is elsewhere')
+    until(lambda: session.ask('breaks') == 'break 1: stall\n', 'the breakpoint is gone')
     # An answer may still be on its way, during which Ctrl-D would end nothing; a line waits for the prompt.
     assert session.end('quit\r') == 0
 
 
-def test_ctrl_c_at_the_prompt_clears_the_line(terminal):
-    session = terminal(TWO)
-    session.begin()
+def test_ctrl_c_at_the_prompt_clears_the_line(begun):
+    session = begun(TWO)
     before = session.process()
     session.type('step 5')
     session.clear()
-    assert soon(lambda: session.ask('state').startswith('at 0\n'))
+    until(lambda: session.ask('state').startswith('at 0\n'), 'it is elsewhere')
     assert session.process() == before
 
 
 @pytest.mark.wants(cc='gcc')
-def test_ctrl_c_behind_a_key(terminal, library):
+def test_ctrl_c_behind_a_key(begun, library):
     """It comes once select has seen the key, and before readline reads it."""
-    session = terminal(TWO, LD_PRELOAD=library('late_keys'))
-    session.begin()
+    session = begun(TWO, LD_PRELOAD=library('late_keys'))
     session.type('x')
     time.sleep(.1)
     session.clear()
@@ -373,30 +362,27 @@ def test_ctrl_c_is_raised_by_the_wait_for_a_key(monkeypatch):
         signal.signal(signal.SIGINT, before)
 
 
-def test_ctrl_c_drops_what_was_typed_behind_the_line(terminal, long):
-    session = terminal(long)
-    session.begin()
+def test_ctrl_c_drops_what_was_typed_behind_the_line(begun, long):
+    session = begun(long)
     session.begin_long('until 1000000s')
     session.type('step\r')
     assert 'ended; the session is at 0 of the run\n' in session.interrupted()
     assert session.ask('state').startswith('at 0\n')
 
 
-def test_the_terminal_is_as_before(terminal):
-    session = terminal(TWO)
-    session.begin()
+def test_the_terminal_is_as_before(begun):
+    session = begun(TWO)
 
     def keeps_keys():
         return bool(termios.tcgetattr(session.child.child_fd)[keyboard.LFLAG] & termios.NOFLSH)
     assert keeps_keys()
     session.type('\x04')
-    assert soon(lambda: not keeps_keys())
+    until(lambda: not keeps_keys(), 'keys are kept')
     assert session.end() == 0
 
 
-def test_displays_are_kept(terminal, long):
-    session = terminal(long)
-    session.begin()
+def test_displays_are_kept(begun, long):
+    session = begun(long)
     for line in ('display flow f', 'display cwnd f', 'display queue a', 'undisplay 2', 'step 7'):
         session.ask(line)
     kept = {line: session.ask(line) for line in ('display', 'breaks', 'state')}
@@ -413,9 +399,8 @@ def test_displays_are_kept(terminal, long):
 
 # ---- a program that dies
 
-def test_a_program_that_is_killed_is_started_again(terminal):
-    session = terminal(TWO)
-    session.begin()
+def test_a_program_that_is_killed_is_started_again(begun):
+    session = begun(TWO)
     for line in ('step 9', 'break drop'):
         session.ask(line)
     state = session.ask('state')
@@ -439,10 +424,9 @@ def test_a_program_that_ends(terminal, put, does, status, said):
 
 
 @pytest.mark.parametrize('number, status', [(signal.SIGTERM, 143), (signal.SIGHUP, 129), (signal.SIGKILL, None)])
-def test_nobody_is_left_where_it_is_ended(terminal, long, number, status):
+def test_nobody_is_left_where_it_is_ended(begun, long, number, status):
     for busy in (False, True):
-        session = terminal(long)
-        session.begin()
+        session = begun(long)
         program = session.process()
         if busy:
             session.begin_long('run')
@@ -450,7 +434,7 @@ def test_nobody_is_left_where_it_is_ended(terminal, long, number, status):
         session.child.expect_exact(pexpect.EOF)
         session.child.close()
         assert session.child.exitstatus == status
-        assert soon(lambda: not is_running(program))
+        until(lambda: not is_running(program), 'the program runs on')
 
 
 # ---- what is refused
@@ -586,9 +570,8 @@ def test_every_word_that_fits_is_taken():
         prompt.end()
 
 
-def test_tab(terminal):
-    session = terminal(TWO)
-    session.begin()
+def test_tab(begun):
+    session = begun(TWO)
     assert session.complete('rev').endswith('reverse ')
     assert session.complete('stat').endswith('state ') and session.complete('stal').endswith('stalls ')
     assert session.complete('display fli').endswith('display flight ')
@@ -613,15 +596,13 @@ def test_the_page(terminal):
 
 # ---- what is remembered
 
-def test_history(terminal, tmp_path):
+def test_history(begun, tmp_path):
     for _ in range(2):
-        session = terminal(TWO)
-        session.begin()
+        session = begun(TWO)
         assert session.ask('step 2') == at_once(TWO, 'step 2')[0]
         assert session.ask('step 3') == at_once(TWO, 'step 2', 'step 3')[1]
         assert session.end() == 0
-    session = terminal(TWO)
-    session.begin()
+    session = begun(TWO)
     session.type('\x1b[A\x1b[A')        # Up, twice
     assert session.ask('') == at_once(TWO, 'step 2')[0]
     file = tmp_path / '.local' / 'state' / 'tcpsim' / 'debug_history'
@@ -629,39 +610,33 @@ def test_history(terminal, tmp_path):
     assert file.stat().st_mode & 0o777 == 0o600
 
 
-def test_history_stands_where_it_is_wanted_and_may_have_no_place(terminal, tmp_path):
-    session = terminal(TWO, XDG_STATE_HOME=str(tmp_path / 'state'))
-    session.begin()
+def test_history_stands_where_it_is_wanted_and_may_have_no_place(begun, tmp_path):
+    session = begun(TWO, XDG_STATE_HOME=str(tmp_path / 'state'))
     session.ask('step')
     assert (tmp_path / 'state' / 'tcpsim' / 'debug_history').read_text() == 'step\n'
-    session = terminal(TWO, XDG_STATE_HOME=os.devnull)
-    session.begin()
+    session = begun(TWO, XDG_STATE_HOME=os.devnull)
     assert session.ask('step') == at_once(TWO, 'step')[0]
 
 
 # ---- colours and the pager
 
-def test_colours(terminal):
-    session = terminal(TWO, NO_COLOR='')
-    session.begin()
+def test_colours(begun):
+    session = begun(TWO, NO_COLOR='')
     moved = session.ask('step 6')
     assert '\033[31mdrop=lost:0:4000\033[0m' in moved and '\033[36mstart\033[0m' in moved
     assert re.sub(r'\033\[\d+m', '', moved) == at_once(TWO, 'step 6')[0]
     assert '\033[31mrefused B1' in session.ask('stpe')
     assert session.ask('display cwnd f') == 'display 1: cwnd f = 5000\n'
     assert session.ask('back').endswith('display 1: cwnd f = 4000\033[1m (was 5000)\033[0m\n')
-    session = terminal(TWO, NO_COLOR='', TERM='dumb')
-    session.begin()
+    session = begun(TWO, NO_COLOR='', TERM='dumb')
     assert '\033' not in session.ask('step 6')
 
 
-def test_the_pager(terminal, put):
+def test_the_pager(begun, put):
     pager = put('pager', '#!/bin/sh\necho paged; cat; echo "so far"\n', 0o700)
-    session = terminal(TWO, rows=10, PAGER=pager)
-    session.begin()
+    session = begun(TWO, rows=10, PAGER=pager)
     long, short = at_once(TWO, 'help', 'breaks')
     assert session.ask('help') == f'paged\n{long}so far\n'
     assert session.ask('breaks') == short
-    session = terminal(TWO, rows=10, PAGER='/not/there')
-    session.begin()
+    session = begun(TWO, rows=10, PAGER='/not/there')
     assert session.ask('help') == long

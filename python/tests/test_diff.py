@@ -2,15 +2,13 @@
 moments as sets; sentences by hand; statuses and refusals. Files that fail are in test_ends.py.
 """
 import collections
-import csv
-import io
 import random
 import re
 
 import pytest
 
 import tcpsim
-from clone import PROGRAM, paths, read_text, ran, tool
+from clone import PROGRAM, csv_rows, paths, ran, read_text, refusal, tool
 from tcpsim.cli import net
 from tcpsim.scenario.text import Scenario
 from tcpsim.sweeps.pattern import Pattern, settings_of
@@ -28,9 +26,9 @@ def told(*words, status=1):
 
 def refused(*words, **more):
     """The sentence with which it is refused, by the status 2."""
-    done = tool('diff', *words, **more)
-    assert (done.returncode, done.stdout, done.stderr.count(b'\n')) == (2, b'', 1), done
-    return done.stderr.decode().removeprefix('tcpsim-diff: ').rstrip()
+    status, sentence = refusal('diff', *words, **more)
+    assert status == 2
+    return sentence
 
 
 # ---- drawn pairs beside the oracle
@@ -124,10 +122,6 @@ def seconds(time):
     return f'{time / 10**9:.9f}'.rstrip('0').rstrip('.') + ' s'
 
 
-def is_of(sentence, link):
-    return re.search(rf'\b(?:link|of link) {link}\b', sentence)
-
-
 def check_sentence(found, oracle):
     """Whether the sentence is of an event at which the traces part, and says of both runs what they have."""
     head, _, words = found.sentence.partition('; ')
@@ -173,7 +167,7 @@ def check_sentence(found, oracle):
 def rows_of(text, put, name):
     """The rows of a run's figures, as tcpsim-flows has them."""
     written = tool('flows', put(name, text), '--engine', '--csv', '--program', PROGRAM).stdout.decode()
-    return {(row['what'], row['name'], row['figure']): row['value'] for row in csv.DictReader(io.StringIO(written))}
+    return {(row['what'], row['name'], row['figure']): row['value'] for row in csv_rows(written)}
 
 
 def number(word):

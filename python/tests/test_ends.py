@@ -21,7 +21,7 @@ import time
 
 import pytest
 
-from clone import TOP
+from clone import TOP, until
 from seven_tools import (ENDINGS, EXAMPLE, MODULES, OLD, PATIENCE, PROGRAM, READERS, TOOLS, call, failed, is_told, place, run,
                          target, to_old, to_private, whole, words)
 
@@ -310,14 +310,6 @@ def session(leader):
     return found
 
 
-def ends(leader, within=10):
-    """Whether all of a session ends soon."""
-    until = time.monotonic() + within
-    while session(leader) and time.monotonic() < until:
-        time.sleep(0.02)
-    return not session(leader)
-
-
 def hears(process):
     """Whether a process has a handler for SIGTERM: a tool's, since Python has none."""
     caught = re.search(r'^SigCgt:\s*(\w+)$', pathlib.Path('/proc', str(process), 'status').read_text(), re.M)
@@ -344,10 +336,7 @@ def waiting(tool, place, path, **more):
     process = subprocess.Popen([*call(tool), *map(str, given), '-o', str(path)], cwd=place, start_new_session=True,
                                stdin=subprocess.DEVNULL, stdout=subprocess.PIPE, stderr=subprocess.PIPE, **more)
     try:
-        until = time.monotonic() + PATIENCE
-        while time.monotonic() < until and not (hears(process.pid) and (
-                tool == 'net' or any(name.endswith('.part') for name in os.listdir(path.parent)))):
-            time.sleep(0.02)
+        until(lambda: hears(process.pid) and (tool == 'net' or any(name.endswith('.part') for name in os.listdir(path.parent))), 'it does not wait')
         time.sleep(0.7 if tool in ('sweep', 'find', 'diff', 'net') else 0.1)
         yield process
     finally:
@@ -369,7 +358,7 @@ def test_signal(tool, number, place):
         process.send_signal(number)
         said = process.communicate(timeout=20)
         assert (process.returncode, *said) == (128 + number, b'', b'')
-        assert ends(process.pid)
+        until(lambda: not session(process.pid), 'something goes on', 10)
     assert os.listdir(path.parent) == [path.name]
     if tool != 'net':
         assert path.read_text() == OLD and stat.S_IMODE(path.stat().st_mode) == 0o600
@@ -421,9 +410,7 @@ def test_another_program_hears_what_this_one_no_longer_does():
     """A tool that goes on as another program, after its own end as before it."""
     words = 'from tcpsim.command_line import become, hear_nothing; hear_nothing(); become("/bin/sleep", ["60"])'
     with subprocess.Popen([sys.executable, '-c', words], env={**os.environ, 'PYTHONPATH': os.path.join(TOP, 'python')}) as process:
-        end = time.monotonic() + PATIENCE
-        while b'sleep' not in pathlib.Path(f'/proc/{process.pid}/cmdline').read_bytes().split(b'\0')[0] and time.monotonic() < end:
-            time.sleep(.02)
+        until(lambda: b'sleep' in pathlib.Path(f'/proc/{process.pid}/cmdline').read_bytes().split(b'\0')[0], 'it is no other program')
         process.send_signal(signal.SIGTERM)
         assert process.wait(PATIENCE) == -signal.SIGTERM
 
@@ -449,7 +436,7 @@ def test_sweep_that_is_killed(place):
         assert len(session(process.pid)) == 5           # itself, two workers, two programs
         process.kill()
         process.wait()
-        assert ends(process.pid)
+        until(lambda: not session(process.pid), 'something goes on', 10)
 
 
 def test_worker_that_is_ended(place):
@@ -462,7 +449,7 @@ def test_worker_that_is_ended(place):
         os.kill(workers[0], signal.SIGTERM)
         said = process.communicate(timeout=20)[1]
         assert (process.returncode, said) == (1, b'tcpsim-sweep: a run\'s process was ended from outside\n')
-        assert ends(process.pid)
+        until(lambda: not session(process.pid), 'something goes on', 10)
     assert path.read_text() == OLD and os.listdir(path.parent) == [path.name]
 
 

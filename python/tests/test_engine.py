@@ -40,13 +40,18 @@ def examples():
     return ((name, *map(clone.read_text, paths(name))) for name in NAMES)
 
 
-def random_runs():
-    """Random scenarios, of one flow and of many, and their traces."""
-    pick = random.Random(12)
-    for number in range(RANDOM):
-        scenario = (nets.one_flow(pick, ('droptail', 'codel'), pick.choice((5, 60))) if number % 2 else
+def drawn(seed, count, most=(5, 60)):
+    """The names and texts of random scenarios, of one flow and of many; the first have so many segments at most."""
+    pick = random.Random(seed)
+    for number in range(count):
+        scenario = (nets.one_flow(pick, ('droptail', 'codel'), pick.choice(most)) if number % 2 else
                     nets.many_flows(pick, most_segments=pick.choice((5, 40))))
-        yield f'random scenario {number}', disassemble(scenario).decode(), ''.join(simulate.trace(scenario))
+        yield f'random scenario {number}', disassemble(scenario).decode()
+
+
+def with_traces(texts):
+    """The same with their traces."""
+    return ((name, text, ''.join(simulate.trace(assemble(text.encode())))) for name, text in texts)
 
 
 def by_key(rows):
@@ -81,7 +86,7 @@ def agree(got, wanted):
 
 def test_examples_and_random_scenarios():
     seen, none = set(), set()
-    for runs, may_lack in ((examples(), False), (random_runs(), True)):
+    for runs, may_lack in ((examples(), False), (with_traces(drawn(12, RANDOM)), True)):
         for name, text, trace in runs:
             got = from_table(text, figures(assemble(text.encode())))
             both, lacking = agree(got, from_trace(text, trace))

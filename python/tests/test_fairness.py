@@ -1,12 +1,10 @@
 """Tests of tcpsim/fairness.py: which flows Jain's index compares, worked out by hand, and that tools, sweeps and Python compare the
 same."""
-import csv
-import io
 
 import pytest
 
 import tcpsim
-from clone import PROGRAM, tool
+from clone import PROGRAM, csv_rows, tool
 from tcpsim.engine import EngineRun
 from tcpsim.fairness import asked, can_fill, compared, in_words, index, jain
 from tcpsim.figures import Figures
@@ -120,7 +118,7 @@ def test_tools_compare_the_four(mice):
     for words in ((), ('--engine',)):
         lines = tool('flows', path, *words, '--program', PROGRAM).stdout.decode().splitlines()
         assert f"Jain's index of goodput: {wanted:.4f}, of 4 of 14 flows (without 10 mice)" in lines
-        table = csv.DictReader(io.StringIO(tool('flows', path, *words, '--csv', '--program', PROGRAM).stdout.decode()))
+        table = csv_rows(tool('flows', path, *words, '--csv', '--program', PROGRAM).stdout.decode())
         of_run = {row['figure']: row['value'] for row in table if row['what'] == 'run'}
         assert (of_run["Jain's index of goodput"], of_run['compared flows'], of_run['mice']) == (f'{wanted:.6f}', '4', '10')
 
@@ -130,12 +128,10 @@ def test_sweeps_compare_the_four(mice):
     wanted, of_the_four, of_all = of_four(net)
     assert of_all > of_the_four
     for words in ((), ('--exact',)):
-        row, = csv.DictReader(io.StringIO(tool('sweep', path, '--set', 'pq.queue=droptail:BDP', '--csv', '--program', PROGRAM, *words)
-                                          .stdout.decode()))
+        sweep = 'sweep', path, '--set', 'pq.queue=droptail:BDP', '--csv', '--program', PROGRAM, *words
+        row, = csv_rows(tool(*sweep).stdout.decode())
         assert (row['jain'], row['jain_flows'], row['timeouts']) == (f'{wanted:.6f}', '4', str(of_the_four))
-        row, = csv.DictReader(io.StringIO(tool('sweep', path, '--set', 'pq.queue=droptail:BDP', '--csv', '--program', PROGRAM, *words, '--show',
-                                               'run.jain,run.jain_flows,run.timeouts,run.mice_timeouts,f0+f1+f2+f3.jain,*.jain')
-                                          .stdout.decode()))
+        row, = csv_rows(tool(*sweep, '--show', 'run.jain,run.jain_flows,run.timeouts,run.mice_timeouts,f0+f1+f2+f3.jain,*.jain').stdout.decode())
         assert (row['run.jain'], row['f0+f1+f2+f3.jain'], row['run.jain_flows']) == (f'{wanted:.6f}', f'{wanted:.6f}', '4')
         assert (row['run.timeouts'], row['run.mice_timeouts']) == (str(of_the_four), str(of_all - of_the_four))
         assert float(row['*.jain']) < .5

@@ -11,14 +11,15 @@ from array import array
 import pytest
 
 import clone
-from clone import NAMES, TOP, of_model as model, outcome, paths, ran
+from clone import TOP, of_model as model, outcome, ran
 from tcpsim.figures import Figures
 from tcpsim.samples import percentile
 from tcpsim.scenario.text import Scenario
 from tcpsim.traces.reader import FlowState, Reader
-from tcpsim_model import figures as classes, image, nets, simulate
+from tcpsim_model import figures as classes, image, simulate
 from tcpsim_model.figures import HEADING, figures
-from tcpsim_model.text import assemble, disassemble
+from tcpsim_model.text import assemble
+from test_engine import drawn, examples, with_traces
 from test_trace import BY_HAND
 from whole import texts
 
@@ -47,25 +48,14 @@ class Sampled(FlowState):
             self.timing = None
 
 
-def examples():
-    """Each example's name, its text and its trace."""
-    return ((name, *map(clone.read_text, paths(name))) for name in NAMES)
-
-
 def random_texts():
-    """Random scenarios, of one flow and of many."""
-    pick = random.Random(11)
-    for number in range(RANDOM):
-        scenario = (nets.one_flow(pick, ('droptail', 'codel'), pick.choice((5, 60, 200))) if number % 2 else
-                    nets.many_flows(pick, most_segments=pick.choice((5, 40))))
-        yield f'random scenario {number}', disassemble(scenario).decode()
+    return drawn(11, RANDOM, (5, 60, 200))
 
 
 def traced():
     """Names, texts and traces of the examples and of the random scenarios."""
     yield from examples()
-    for name, text in random_texts():
-        yield name, text, ''.join(simulate.trace(assemble(text.encode())))
+    yield from with_traces(random_texts())
 
 
 def values_of(table):

@@ -1,17 +1,13 @@
 """Tests of tcpsim-find: its answers against those of trying every value, its sentences, and what it reads and writes beside a sweep."""
-import csv
 import importlib.util
-import io
 import os
 import random
 import re
 import statistics
-import subprocess
-import sys
 
 import pytest
 
-from clone import BIN, PROGRAM, read_text
+from clone import PROGRAM, csv_rows, read_text, tool
 import tcpsim
 from tcpsim.cli import net as command
 from tcpsim.sweeps.conditions import conditions_of, decimal, percent
@@ -20,7 +16,6 @@ from tcpsim.sweeps.pattern import Pattern, setting
 from tcpsim.sweeps.search import Asked, Quest, first_places
 from tcpsim.command_line import Wrong
 
-FIND = os.path.join(BIN, 'tcpsim-find')
 # Twelve segments at once over 1 Mbit/s: with room for N packets some are dropped, and with 11 none is.
 BURST = '''sim 12000000000
 node s sender
@@ -32,8 +27,8 @@ flow f s r 1000 40 0 12000 0
 TWO = command.scenario(['dumbbell', '--flows', '2', '--rate', '1M', '--rtt', '40ms,70ms', '--end', '3s'])
 
 
-def find(*words, stdin=None, **more):
-    return subprocess.run([sys.executable, FIND, *words, '--program', PROGRAM], capture_output=True, encoding='utf-8', check=False, **more)
+def find(*words, **more):
+    return tool('find', *words, '--program', PROGRAM, encoding='utf-8', **more)
 
 
 def sentence(done):
@@ -41,10 +36,6 @@ def sentence(done):
     lines = [line for line in done.stderr.splitlines() if not re.match(r'\d+ of \d+ runs', line)]
     assert len(lines) == 1, lines
     return lines[0].removeprefix('tcpsim-find: ')
-
-
-def rows_of(text):
-    return list(csv.DictReader(io.StringIO(text)))
 
 
 # ---- answers
@@ -168,7 +159,7 @@ def test_of_replicates_the_whole_interval_meets_it(put):
     assert meets != [each['pq.used_percent_mean'] >= 60 for each in means]
     done = find(put('two.txt', TWO), '--vary', 'pq.queue=droptail:1..25', '--over', 'f1.start=0..200ms/100ms', '--least', '--so-that',
                 'pq.used >= 60%', '--csv')
-    rows = rows_of(done.stdout)
+    rows = csv_rows(done.stdout)
     answer, = (row for row in rows if row['is'] == 'answer')
     assert answer['pq.queue_packets'] == str(meets.index(True) + 1)
     assert answer['pq.used_percent_mean'] == f'{means[meets.index(True)]["pq.used_percent_mean"]:.6f}' and answer['pq.used_percent_runs'] == '3'
@@ -180,9 +171,9 @@ def test_of_replicates_the_whole_interval_meets_it(put):
 
 def test_each_choice_has_its_answer(put):
     words = put('two.txt', TWO), '--vary', 'pq.queue=droptail:1..40', '--least', '--so-that', 'pq.used >= 68%'
-    both = rows_of(find(*words, '--set', 'pq+qp.delay=5ms,20ms', '--csv').stdout)
+    both = csv_rows(find(*words, '--set', 'pq+qp.delay=5ms,20ms', '--csv').stdout)
     for delay in ('5ms', '20ms'):
-        alone = rows_of(find(*words, '--set', f'pq+qp.delay={delay}', '--csv').stdout)
+        alone = csv_rows(find(*words, '--set', f'pq+qp.delay={delay}', '--csv').stdout)
         assert [row for row in both if row['pq+qp.delay'] == delay] == alone and len(alone) > 1
         # A sender's and a receiver's cables have 5 ms each of 40 and 20 and 5 of 70, and 1 Mbit/s sends a packet of 1,500 bytes in 12 ms.
         trip = statistics.mean([2 * (int(delay[:-2]) + 10), 2 * (int(delay[:-2]) + 25)])
@@ -235,10 +226,9 @@ def test_wrong_words(put, words, why):
 def test_rows_are_those_of_a_sweep_and_are_taken_up(put, tmp_path):
     words = put('two.txt', TWO), '--vary', 'pq.queue=droptail:1..30', '--least', '--so-that', 'pq.used >= 60%'
     done = find(*words, '-o', tmp_path / 'f.csv')
-    rows = rows_of(read_text(tmp_path / 'f.csv'))
-    swept = subprocess.run([sys.executable, os.path.join(BIN, 'tcpsim-sweep'), words[0], '--set', 'pq.queue=droptail:1..30', '--show', 'pq.used',
-                            '--program', PROGRAM, '-o', tmp_path / 's.csv'], capture_output=True, check=True)
-    every = {row['pq.queue']: row for row in rows_of(read_text(tmp_path / 's.csv'))}
+    rows = csv_rows(read_text(tmp_path / 'f.csv'))
+    swept = tool('sweep', words[0], '--set', 'pq.queue=droptail:1..30', '--show', 'pq.used', '--program', PROGRAM, '-o', tmp_path / 's.csv')
+    every = {row['pq.queue']: row for row in csv_rows(read_text(tmp_path / 's.csv'))}
     assert swept.returncode == 0 and 3 < len(rows) < 30 and [every[row['pq.queue']] for row in rows] == rows
     (tmp_path / 'cut.csv').write_text(''.join(read_text(tmp_path / 'f.csv').splitlines(True)[:4]))
     again = find(*words, '--resume', tmp_path / 'cut.csv')
@@ -295,7 +285,7 @@ def test_a_shape_is_varied(put):
     """The least rate of a dumbbell that carries so much, of one flow and of two."""
     net = tcpsim.dumbbell(flows=1, rate='1M', rtt='40ms', end='2s')
     done = find(put('net.txt', net.text), '--set', 'flows=1,2', '--vary', 'rate=200k..2M/100k', '--least', '--so-that', 'run.goodput >= 500k', '--csv')
-    answers = {row['flows']: row for row in rows_of(done.stdout) if row['is'] == 'answer'}
+    answers = {row['flows']: row for row in csv_rows(done.stdout) if row['is'] == 'answer'}
     for flows in ('1', '2'):
         rates = [(rate, tcpsim.run(tcpsim.dumbbell(flows=flows, rate=f'{rate}', rtt='40ms', end='2s'), engine=PROGRAM).figures)
                  for rate in range(200_000, 2_000_001, 100_000)]

@@ -9,7 +9,7 @@ import tempfile
 
 import pytest
 
-from clone import BIN, BUILT, MODEL, NAMES, PROGRAM, Folder, example, outcome, paths, ran, read_text, tool
+from clone import BIN, BUILT, MODEL, NAMES, PROGRAM, Folder, example, outcome, paths, ran, read_text, told, tool
 import tcpsim
 from tcpsim import figures, program
 from tcpsim.program import NoProgram, find_program
@@ -30,13 +30,8 @@ class Files(Folder):
         super().setup_method()
         self.scenario, self.trace = self.put('run.txt', SCENARIO), self.put('run.trace', TRACE)
 
-    def run_flows(self, *words, **more):
-        return tool('flows', *words, **more)
-
     def lines(self, *words):
-        done = self.run_flows(*words)
-        assert (done.returncode, done.stderr) == (0, b'')
-        return done.stdout.decode().splitlines()
+        return told('flows', *words).splitlines()
 
 
 class TestSpans:
@@ -212,7 +207,7 @@ class TestChosenFlows(Files):
             assert f"Jain's index of goodput: {index:.4f}, of 2 flows" in lines
         series = self.lines(self.path, '--series', '1s', '--flows', 'f2', '--program', PROGRAM)
         assert {line.split(',')[2] for line in series if ',flow,' in line} == {'2'}
-        done = self.run_flows(self.path, '--flows', 'f0,g', '--program', PROGRAM)
+        done = tool('flows', self.path, '--flows', 'f0,g', '--program', PROGRAM)
         assert (done.returncode, b'the scenario has no flow g; it has f0, f1' in done.stderr) == (2, True)
 
 
@@ -241,7 +236,7 @@ class TestCommands(Files):
             'link,a', 'link,l0').replace('at a,', 'at l0,') for line in given]
         assert self.lines(path, '--program', PROGRAM, '--csv') == named
         assert self.lines(path, self.trace, '--program', PROGRAM, '--csv') == named
-        done = self.run_flows('-', '--program', PROGRAM, '--csv', input=image)
+        done = tool('flows', '-', '--program', PROGRAM, '--csv', input=image)
         assert done.stdout.decode().splitlines() == named
 
     def test_a_run_that_is_left_early(self):
@@ -267,7 +262,7 @@ class TestCommands(Files):
                 ((self.scenario, self.put('h', TRACE.encode() + b'\xff\n')), 'not ASCII'),
                 ((image, '--program', PROGRAM), 'refused L1'), ((image, self.trace, '--program', PROGRAM), 'refused L1'),
                 ((self.scenario, self.trace, '--from', '100s'), 'ends at 0.012 s')):
-            done = self.run_flows(*words)
+            done = tool('flows', *words)
             text = done.stderr.decode()
             assert (done.returncode, done.stdout) == (1, b''), text
             assert note in text
@@ -276,7 +271,7 @@ class TestCommands(Files):
     def test_words_that_are_refused(self):
         for words in (('--from', '5s', '--to', '4s'), ('--series', '0s'), ('--from', '5x'), ('--to', '1e9'), ('--from', '-1'),
                       ('--from', '1'), ('--to', '0.0000000001s'), ('--to', '2000000s'), ('--seri', '1s'), ('--csv', 'x'), ('--from',)):
-            done = self.run_flows(self.scenario, self.trace, *words)
+            done = tool('flows', self.scenario, self.trace, *words)
             assert (done.returncode, done.stdout) == (2, b''), words
             assert (done.stderr.count(b'\n'), done.stderr.startswith(b'tcpsim-flows: ')) == (1, True), done.stderr
 

@@ -12,7 +12,7 @@ from collections import defaultdict
 from functools import cache
 
 import clone
-from clone import NAMES, PROGRAM, Folder, paths, tool
+from clone import NAMES, PROGRAM, Folder, csv_rows, paths, refusal, told
 from tcpsim import follow
 from tcpsim.scenario.text import Scenario
 from tcpsim.scenario.units import HEADER_BYTES
@@ -297,18 +297,13 @@ class Files(Folder):
     scenario, trace = paths('two_timeouts_in_a_row')
     text, lines = clone.example('two_timeouts_in_a_row')
 
-    def run_follow(self, *words):
-        return tool('follow', *words, cwd=self.folder)
-
     def told(self, *words):
-        done = self.run_follow(*words)
-        assert (done.returncode, done.stderr) == (0, b'')
-        return done.stdout.decode()
+        return told('follow', *words, cwd=self.folder)
 
     def rows(self, name, flow, byte):
         """The rows of a segment of an example: (line, packet, what, at, words)."""
-        told = csv.DictReader(io.StringIO(self.told(*paths(name), '--flow', flow, '--byte', str(byte), '--csv')))
-        return [(int(row['line']), row['packet'], row['event'], row['at'], row['words']) for row in told if row['line']]
+        rows = csv_rows(self.told(*paths(name), '--flow', flow, '--byte', str(byte), '--csv'))
+        return [(int(row['line']), row['packet'], row['event'], row['at'], row['words']) for row in rows if row['line']]
 
 
 class TestTables(Files):
@@ -398,11 +393,8 @@ class TestTables(Files):
 class TestRefusals(Files):
     def refused(self, note, *words, status=1):
         """One sentence, with the note in it; nothing on standard output."""
-        done = self.run_follow(*words)
-        text = done.stderr.decode()
-        assert (done.returncode, done.stdout) == (status, b''), text
-        assert note in text
-        assert (text.count('\n'), text.startswith('tcpsim-follow: ')) == (1, True), text
+        found, sentence = refusal('follow', *words, cwd=self.folder)
+        assert found == status and note in sentence, (found, sentence)
 
     def test_flows_and_bytes_that_are_none(self):
         self.refused('no flow g; it has f', self.scenario, self.trace, '--flow', 'g', '--byte', '0', status=2)

@@ -3,15 +3,16 @@
 A virtual environment is made, the package installed into it without a network, and each command run from there, in a
 folder that has nothing of the clone.
 """
+import functools
 import importlib.util
 import os
 import re
 import shutil
-import subprocess
 import sys
 
 import pytest
 
+import clone
 from clone import BIN, TOP
 from tcpsim import VERSIONS
 
@@ -23,9 +24,7 @@ pytestmark = pytest.mark.skipif(bool(LACKS), reason=f'{" ".join(LACKS)} not ther
                                 'python3-setuptools python3-wheel')
 
 
-def ran(*words, **more):
-    """What a process answers, which ends within ten minutes."""
-    return subprocess.run(list(words), capture_output=True, text=True, timeout=600, check=False, **more)
+ran = functools.partial(clone.ran, text=True)
 
 
 @pytest.fixture(scope='module')

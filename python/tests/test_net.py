@@ -1,15 +1,15 @@
 """Tests of tcpsim/scenario and tcpsim-net: every text of its grid is accepted and run to its end, by the program or, where
 that is not built, by the model."""
+import functools
 import itertools
-import os
 import re
 import subprocess
-import sys
 
 import pytest
 
 import tcpsim
-from clone import BIN, PROGRAM
+import clone
+from clone import PROGRAM
 from tcpsim.cli import net as command
 from tcpsim.scenario import net, units
 from tcpsim.scenario.text import Scenario
@@ -99,8 +99,7 @@ def fits(shape, options):
         '--delay', '')).count(',') < hops
 
 
-def tool(*words, **more):
-    return subprocess.run([sys.executable, os.path.join(BIN, 'tcpsim-net'), *words], capture_output=True, check=False, **more)
+tool = functools.partial(clone.tool, 'net')
 
 
 # ---- words of rates, times, sizes and queues
@@ -297,33 +296,23 @@ class TestWrongWords:
 
     def test_cases(self):
         for words, named in self.CASES.items():
-            done = tool(*words.split())
-            assert (done.returncode, done.stdout) == (2, b'')
-            lines = done.stderr.decode().splitlines()
-            assert len(lines) == 1, lines
-            assert lines[0].startswith('tcpsim-net: '), lines[0]
-            assert named in lines[0]
+            status, sentence = clone.refusal('net', *words.split())
+            assert status == 2 and named in sentence, sentence
 
     def test_pipes(self):
         for reader in ('true', 'head -n 1 > /dev/null'):
             script = f'"$0" "$1" chain --hops 200 | {reader}'
-            done = subprocess.run(['sh', '-c', script, sys.executable, os.path.join(BIN, 'tcpsim-net')], capture_output=True,
-                                  check=False)
-            assert done.stderr == b''
+            assert clone.ran('sh', '-c', script, *clone.tool_words('net')).stderr == b''
         with open('/dev/full', 'w', encoding='ascii') as full:
-            done = subprocess.run([sys.executable, os.path.join(BIN, 'tcpsim-net'), 'dumbbell'], stdout=full,
-                                  stderr=subprocess.PIPE, check=False)
+            done = tool('dumbbell', stdout=full)
         assert done.returncode == 1
         assert len(done.stderr.decode().splitlines()) == 1
 
     def test_help_to_a_reader_that_ends_and_to_a_full_disk(self):
-        script = '"$0" "$1" --help | true'
-        done = subprocess.run(['sh', '-c', script, sys.executable, os.path.join(BIN, 'tcpsim-net')], capture_output=True,
-                              check=False)
+        done = clone.ran('sh', '-c', '"$0" "$1" --help | true', *clone.tool_words('net'))
         assert (done.returncode, done.stderr) == (0, b'')
         with open('/dev/full', 'w', encoding='ascii') as full:
-            done = subprocess.run([sys.executable, os.path.join(BIN, 'tcpsim-net'), '--help'], stdout=full,
-                                  stderr=subprocess.PIPE, check=False)
+            done = tool('--help', stdout=full)
         assert (done.returncode, done.stderr) == (1, b'tcpsim-net: standard output: No space left on device\n')
 
     def test_help(self):

@@ -4,20 +4,18 @@ Each picture of docs/ that tcpsim-plot draws is drawn anew and compared by the d
 description has (`tcpsim/plot/drawn.py`). What a panel shows is compared with a run worked out by hand (the one of
 test_trace.py: twelve milliseconds, two drops, one recovery) and with small runs of arrays written here.
 """
-import csv
 import html
-import io
 import os
 import re
 import shlex
 import signal
 import subprocess
 import sys
-import time
 from types import SimpleNamespace
 
 import pytest
 
+import clone
 from clone import BIN, TOP, Folder, read_text
 
 pytest.importorskip('matplotlib', reason='no matplotlib: apt-get install python3-matplotlib')
@@ -64,11 +62,8 @@ class Drawn(Folder):
 
     def refused(self, status, note, *words):
         file = os.path.join(self.folder, 'refused.png')
-        done = subprocess.run([sys.executable, os.path.join(BIN, 'tcpsim-plot'), *words, '-o', file],
-                              capture_output=True, text=True, check=False)
-        assert (done.returncode, done.stdout) == (status, ''), done.stderr
-        assert done.stderr.count('\n') == 1, done.stderr
-        assert note in done.stderr
+        found, sentence = clone.refusal('plot', *words, '-o', file)
+        assert found == status and note in sentence, (found, sentence)
         assert not os.path.exists(file)
 
 
@@ -186,10 +181,7 @@ class TestWhatIsShown(Drawn):
         self.refused(1, 'nothing happens before 2 ms', *later, '--partial', '--from', '0', '--to', '2ms')
 
     def test_a_window_in_which_no_packet_entered(self):
-        file = os.path.join(self.folder, 'small.png')
-        done = subprocess.run([sys.executable, os.path.join(BIN, 'tcpsim-plot'), *self.hand, '-o', file, '--from', '6ms',
-                               '--to', '6001us'], capture_output=True, text=True, check=False)
-        assert (done.returncode, done.stderr) == (0, '')
+        clone.told('plot', *self.hand, '-o', os.path.join(self.folder, 'small.png'), '--from', '6ms', '--to', '6001us')
 
     def test_a_trace_without_a_line(self):
         self.refused(1, 'is empty', *self.write('none', BY_HAND, ''))
@@ -211,8 +203,7 @@ class TestWhatIsShown(Drawn):
             file.write('raise ImportError\n')
         link = os.path.join(self.folder, 'tcpsim-plot')
         os.symlink(os.path.join(BIN, 'tcpsim-plot'), link)
-        done = subprocess.run([sys.executable, link, *self.hand, '-o', 'x.png'], capture_output=True, text=True, check=False,
-                              env={**os.environ, 'PYTHONPATH': folder})
+        done = clone.ran(sys.executable, link, *self.hand, '-o', 'x.png', text=True, env={**os.environ, 'PYTHONPATH': folder})
         assert (done.returncode, done.stdout, done.stderr.count('\n')) == (1, '', 1), done.stderr
         assert done.stderr.startswith('tcpsim-plot: '), done.stderr
         assert 'apt-get install python3-matplotlib' in done.stderr
@@ -225,8 +216,7 @@ class TestWhatIsShown(Drawn):
         os.symlink('/usr/bin/python3', other)
         without = [other, '-S']         # no package of Debian's
         assert subprocess.run([*without, '-c', 'import matplotlib'], stderr=subprocess.DEVNULL, check=False).returncode == 1
-        done = subprocess.run([*without, os.path.join(BIN, f'tcpsim-{words[0]}'), self.hand[0], *words[1:], file],
-                              capture_output=True, text=True, check=False)
+        done = clone.ran(*without, os.path.join(BIN, f'tcpsim-{words[0]}'), self.hand[0], *words[1:], file)
         assert done.returncode == 0, done.stderr
         assert os.path.getsize(file) > 1000
 
@@ -238,9 +228,7 @@ class TestWhatIsShown(Drawn):
         process = subprocess.Popen([sys.executable, os.path.join(BIN, 'tcpsim-plot'), self.hand[0], '--program', program, '-o',
                                     os.path.join(self.folder, 'x.png')], stderr=subprocess.PIPE, start_new_session=True,
                                    preexec_fn=lambda: signal.signal(signal.SIGINT, signal.SIG_DFL))
-        until = time.monotonic() + 30
-        while not os.path.exists(began) and time.monotonic() < until:
-            time.sleep(.05)
+        clone.until(lambda: os.path.exists(began), 'no program begins')
         os.killpg(process.pid, signal.SIGINT)
         assert (process.communicate(timeout=20)[1], process.returncode) == (b'', 130)
 
@@ -362,9 +350,8 @@ class TestStalls(Drawn):
     def test_they_are_those_that_stalls_py_lists(self):
         for name in ('two_timeouts_in_a_row', 'lock_out_at_equal_times', 'bufferbloat', 'four_flows_share_codel'):
             paths = pictures.run_of(name)
-            listed = subprocess.run([sys.executable, os.path.join(BIN, 'tcpsim-stalls'), *paths, '--longer', '200ms', '--csv'],
-                                    capture_output=True, text=True, check=True).stdout
-            rows = sorted((row['flow'], int(row['from']), int(row['to'])) for row in csv.DictReader(io.StringIO(listed)))
+            listed = clone.told('stalls', *paths, '--longer', '200ms', '--csv')
+            rows = sorted((row['flow'], int(row['from']), int(row['to'])) for row in clone.csv_rows(listed))
             run = read_run(*paths)
             spans = sorted((flow.flow.name, *span) for flow in run.flows
                            for span in points.stalls(flow, S // 5, choice.known_until(run)))

@@ -5,10 +5,8 @@ and by jumps, what the drawn elements say of themselves is compared with the dum
 that position. The dumps come from the built program, and where it is not built from the model in
 python/tcpsim_model. `python3 python/tests/test_replay.py` writes docs/pictures/replay_*.png.
 """
-import csv
 import functools
 import importlib.util
-import io
 import math
 import os
 import random
@@ -23,7 +21,7 @@ if __name__ == '__main__':      # pytest.ini names dev/ to pytest alone
     sys.path.insert(1, os.path.join(os.path.dirname(os.path.abspath(__file__)), '..', '..', 'dev'))
 import browsers
 import test_trace
-from clone import CHROMIUM, NAMES, PROGRAM, TOP, Folder, example, outcome, paths, ran, read, read_text, tool
+from clone import CHROMIUM, NAMES, PROGRAM, TOP, Folder, csv_rows, example, outcome, paths, ran, read, read_text, told, tool
 from tcpsim.replay import page, recording
 from tcpsim.scenario import units
 from tcpsim.scenario.text import Scenario, Unreadable
@@ -649,8 +647,7 @@ class TestInBrowser(WithBrowser):
             assert 'no stall after this event' in self.browser.shown()['notice']
 
     def rows_of_stalls(self, name, *words):
-        done = tool('stalls', *paths(name), '--csv', *words, text=True)
-        return [[row['flow'], int(row['from']), int(row['to'])] for row in csv.DictReader(io.StringIO(done.stdout))]
+        return [[row['flow'], int(row['from']), int(row['to'])] for row in csv_rows(told('stalls', *paths(name), '--csv', *words))]
 
     def test_stalls_of_a_part(self):
         """Those that begin within the part, with the moments that they have in the whole run."""

@@ -7,16 +7,11 @@ import sys
 
 import pytest
 
-from clone import BIN, MODEL, TOP, read
+from clone import BIN, MODEL, TOP, ran, read
 from tcpsim import estimate
 
 ONE_SEGMENT = os.path.join(TOP, 'examples', 'one_segment.txt')
 LONG = os.path.join(TOP, 'examples', 'bufferbloat.txt')
-
-
-def ran(*words, source=b'', env=None):
-    """What a process answers that is run with these words."""
-    return subprocess.run(list(words), input=source, capture_output=True, env=env, timeout=600, check=False)
 
 
 # ---- the model as a process
@@ -24,7 +19,7 @@ def ran(*words, source=b'', env=None):
 @pytest.mark.parametrize('command', ['run', 'figures', 'asm', 'dis'])
 def test_model_reads_a_file_or_standard_input(command):
     of_file = ran(sys.executable, MODEL, command, ONE_SEGMENT)
-    of_input = ran(sys.executable, MODEL, command, source=read(ONE_SEGMENT))
+    of_input = ran(sys.executable, MODEL, command, input=read(ONE_SEGMENT))
     assert (of_file.returncode, of_file.stderr) == (0, b'')
     assert of_file.stdout == of_input.stdout != b''
 
@@ -73,15 +68,15 @@ def bare(tmp_path_factory):
     os.mkdir(top / 'crates')
     for name in ('bin', 'python', 'examples'):
         shutil.copytree(os.path.join(TOP, name), top / name, ignore=shutil.ignore_patterns('__pycache__', 'tests'))
-    return lambda name, *words, source=b'': ran(sys.executable, str(top / 'bin' / name), *words, source=source,
-                                                env={'PATH': os.path.dirname(sys.executable) + ':/usr/bin:/bin'})
+    environment = {'PATH': os.path.dirname(sys.executable) + ':/usr/bin:/bin'}
+    return lambda name, *words, **more: ran(sys.executable, top / 'bin' / name, *words, env=environment, **more)
 
 
 @pytest.mark.parametrize('words', [(), ('run',), ('run', '--workers', '2', '--groups', 'each')])
 def test_run_gives_the_trace(bare, words):
     done = bare('tcpsim-run', *words, ONE_SEGMENT)
     assert (done.returncode, done.stdout, done.stderr) == (0, read(ONE_SEGMENT[:-3] + 'trace'), BY_MODEL)
-    assert bare('tcpsim-run', *words, source=read(ONE_SEGMENT)).stdout == done.stdout
+    assert bare('tcpsim-run', *words, input=read(ONE_SEGMENT)).stdout == done.stdout
 
 
 def test_run_goes_on_as_the_other_commands(bare, tmp_path):
@@ -94,7 +89,7 @@ def test_run_goes_on_as_the_other_commands(bare, tmp_path):
     assert len(image.read_bytes()) == 135
     assert bare('tcpsim-run', 'figures', str(image)).stdout == figures.stdout
     assert bare('tcpsim-run', 'dis', str(image)).stdout.startswith(b'sim 1000000000\nnode n0 sender\n')
-    prompt = bare('tcpsim-run', 'debug', ONE_SEGMENT, source=b'step 9\n')
+    prompt = bare('tcpsim-run', 'debug', ONE_SEGMENT, input=b'step 9\n')
     assert prompt.stdout.splitlines()[:5] == read(ONE_SEGMENT[:-3] + 'trace').splitlines()[:5]
 
 
@@ -167,11 +162,11 @@ def long_text():
 def test_long_runs_are_asked_for(bare, command, tmp_path):
     long = tmp_path / 'long.txt'
     long.write_text(long_text())
-    for done in (bare('tcpsim-run', command, str(long)), bare('tcpsim-run', command, source=long.read_bytes())):
+    for done in (bare('tcpsim-run', command, str(long)), bare('tcpsim-run', command, input=long.read_bytes())):
         assert (done.returncode, done.stdout) == (1, b'')
         assert b'events would take the model' in done.stderr and b'--model' in done.stderr
         assert done.stderr.count(b'\n') == 1
-    assert bare('tcpsim-run', 'debug', str(long), source=b'step\n').returncode == 0
+    assert bare('tcpsim-run', 'debug', str(long), input=b'step\n').returncode == 0
     with subprocess.Popen([sys.executable, os.path.join(BIN, 'tcpsim-run'), '--model', str(long)], stdout=subprocess.PIPE,
                           stderr=subprocess.PIPE) as process:
         assert process.stdout.readline().startswith(b'1 0 ')

@@ -3,9 +3,7 @@ same fields of a sweep; and of the cycle of timeouts of a NewReno flow, which tc
 
 They go by the built program, and by the model where that is not built.
 """
-import csv
 import hashlib
-import io
 import itertools
 import os
 import subprocess
@@ -13,7 +11,7 @@ import sys
 
 import pytest
 
-from clone import BIN, BUILT, MODEL
+from clone import BUILT, MODEL, csv_rows, tool
 from tcpsim import cycle
 from tcpsim.sweeps import pattern as sweep
 from tcpsim.cli import net as command
@@ -34,10 +32,6 @@ def statements(text, kind):
     """The words of all statements of a kind, without comments."""
     lines = (line.partition('#')[0].split() for line in text.splitlines())
     return [words for words in lines if words and words[0] == kind]
-
-
-def tool(name, *words, given=None):
-    return subprocess.run([sys.executable, os.path.join(BIN, name), *words], capture_output=True, input=given, check=False)
 
 
 def engine(text):
@@ -81,7 +75,7 @@ def test_packets_are_lost_by_their_number():
     ('--iw 3,10,3', '3 values'), ('--spread x', 'x'), ('--spread 1000000001', 'range'), ('--mice 128', '127'),
     ('--mice 118', 'nodes')])
 def test_what_is_wrong_is_said_in_a_sentence(words, named):
-    done = tool('tcpsim-net', 'dumbbell', *words.split())
+    done = tool('net', 'dumbbell', *words.split())
     assert (done.returncode, done.stdout) == (2, b'')
     line, = done.stderr.decode().splitlines()
     assert line.startswith('tcpsim-net: ')
@@ -151,19 +145,18 @@ def test_flows_and_stalls_name_the_cycle(tmp_path):
     """With an open window the flow times out again and again: each says so, and the window that they name ends it."""
     trap = tmp_path / 'trap.txt'
     trap.write_text(text_of(TRAP + ' --rwnd 1G'), encoding='ascii')
-    said = [tool(name, str(trap)).stdout.decode() for name in ('tcpsim-flows', 'tcpsim-stalls')]
+    said = [tool(name, trap).stdout.decode() for name in ('flows', 'stalls')]
     for text in said:
         line = text.splitlines()[-1]
         assert line.startswith('f0: a cycle of timeouts: at 3 of 3 more was in flight than the way holds')
         assert 'RWND) of 61000 ends it' in line
-    rows = {row['figure']: row['value'] for row in csv.DictReader(io.StringIO(
-        tool('tcpsim-flows', str(trap), '--csv').stdout.decode()))}
+    rows = {row['figure']: row['value'] for row in csv_rows(tool('flows', trap, '--csv').stdout.decode())}
     # 10 Mbit/s x 20 ms / 8 / 1,040 bytes are 24.038 packets, and 24 places: 48,038 bytes of segments
     assert (rows[cycle.BEYOND], rows[cycle.HELD]) == ('3', '48038')
     assert int(rows[cycle.MOST]) > 5 * 48_038
     trap.write_text(text_of(TRAP + ' --rwnd 61000'), encoding='ascii')
-    for name in ('tcpsim-flows', 'tcpsim-stalls'):
-        assert 'cycle' not in tool(name, str(trap)).stdout.decode()
+    for name in ('flows', 'stalls'):
+        assert 'cycle' not in tool(name, trap).stdout.decode()
 
 
 def test_what_is_no_cycle():

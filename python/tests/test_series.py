@@ -5,14 +5,14 @@ import random
 import pytest
 
 import clone
-from clone import NAMES, Folder, paths, tool
+from clone import NAMES, Folder, paths, told, tool
 from tcpsim import samples
 from tcpsim.figures import Figures
 from tcpsim.scenario.text import Scenario, Unreadable
 from tcpsim.traces import series
-from tcpsim_model import figures as model, nets, simulate
-from tcpsim_model.text import assemble, disassemble
-from test_engine import PAST_THE_LAST
+from tcpsim_model import figures as model, simulate
+from tcpsim_model.text import assemble
+from test_engine import PAST_THE_LAST, drawn, with_traces
 from test_figures import values_of
 from test_trace import BY_HAND, TRACE
 
@@ -67,10 +67,7 @@ def test_examples_sum_to_their_tables():
 def test_random_scenarios_sum_to_their_tables():
     """From time 0, and from a moment on."""
     pick = random.Random(78)
-    for number in range(RANDOM):
-        scenario = (nets.one_flow(pick, ('droptail', 'codel'), pick.choice((5, 60))) if number % 2 else
-                    nets.many_flows(pick, most_segments=pick.choice((5, 40))))
-        text, trace = disassemble(scenario).decode(), ''.join(simulate.trace(scenario))
+    for _, text, trace in with_traces(drawn(78, RANDOM)):
         span = Figures(Scenario(text), trace.splitlines()).end
         step = 1 + span // pick.choice((1, 2, 3, 10, 40))
         sums_to_its_table(text, trace, step)
@@ -105,83 +102,34 @@ def test_classes_are_those_of_the_table():
 # test_trace.py has the account of this run. In steps of 4 ms link a is sending 4000 at the first border, from 3.12 to 4.16 ms.
 # Its packets had waited 0, 1.04, 2.08 and 0.04 ms; 1.08 and 1.08; 0. Half of the first four are at most 0.04 ms, which is in
 # the class from 39,936 to 40,959 ns. A packet waits to 4.12, two to 4.16, one to 5.2.
-ROWS = '''time,what,number,figure,unit,value
-0,flow,0,delivered,bytes,2000
-0,flow,0,sent,segments,6
-0,flow,0,sent again by fast retransmit,segments,0
-0,flow,0,sent again by timeout,segments,0
-0,flow,0,timeouts,times,0
-0,flow,0,cwnd,bytes,5000
-0,flow,0,in flight,bytes,5000
-0,link,0,busy,ns,4000000
-0,link,0,sent packets,packets,4
-0,link,0,sent bytes,bytes,4160
-0,link,0,dropped as lost,packets,0
-0,link,0,dropped as full,packets,1
-0,link,0,dropped by CoDel,packets,0
-0,link,0,waited,packet-ns,4080000
-0,link,0,greatest queue,packets,2
-0,link,0,median delay in the queue,ns,40959
-0,link,1,busy,ns,80000
-0,link,1,sent packets,packets,2
-0,link,1,sent bytes,bytes,80
-0,link,1,dropped as lost,packets,0
-0,link,1,dropped as full,packets,0
-0,link,1,dropped by CoDel,packets,0
-0,link,1,waited,packet-ns,0
-0,link,1,greatest queue,packets,0
-0,link,1,median delay in the queue,ns,0
-4000000,flow,0,delivered,bytes,1000
-4000000,flow,0,sent,segments,2
-4000000,flow,0,sent again by fast retransmit,segments,0
-4000000,flow,0,sent again by timeout,segments,0
-4000000,flow,0,timeouts,times,0
-4000000,flow,0,cwnd,bytes,7000
-4000000,flow,0,in flight,bytes,5000
-4000000,link,0,busy,ns,2240000
-4000000,link,0,sent packets,packets,2
-4000000,link,0,sent bytes,bytes,2080
-4000000,link,0,dropped as lost,packets,0
-4000000,link,0,dropped as full,packets,1
-4000000,link,0,dropped by CoDel,packets,0
-4000000,link,0,waited,packet-ns,1240000
-4000000,link,0,greatest queue,packets,2
-4000000,link,0,median delay in the queue,ns,1080000
-4000000,link,1,busy,ns,160000
-4000000,link,1,sent packets,packets,4
-4000000,link,1,sent bytes,bytes,160
-4000000,link,1,dropped as lost,packets,0
-4000000,link,1,dropped as full,packets,0
-4000000,link,1,dropped by CoDel,packets,0
-4000000,link,1,waited,packet-ns,0
-4000000,link,1,greatest queue,packets,0
-4000000,link,1,median delay in the queue,ns,0
-8000000,flow,0,delivered,bytes,4000
-8000000,flow,0,sent,segments,1
-8000000,flow,0,sent again by fast retransmit,segments,1
-8000000,flow,0,sent again by timeout,segments,0
-8000000,flow,0,timeouts,times,0
-8000000,flow,0,cwnd,bytes,2500
-8000000,flow,0,in flight,bytes,1000
-8000000,link,0,busy,ns,1040000
-8000000,link,0,sent packets,packets,1
-8000000,link,0,sent bytes,bytes,1040
-8000000,link,0,dropped as lost,packets,0
-8000000,link,0,dropped as full,packets,0
-8000000,link,0,dropped by CoDel,packets,0
-8000000,link,0,waited,packet-ns,0
-8000000,link,0,greatest queue,packets,0
-8000000,link,0,median delay in the queue,ns,0
-8000000,link,1,busy,ns,40000
-8000000,link,1,sent packets,packets,1
-8000000,link,1,sent bytes,bytes,40
-8000000,link,1,dropped as lost,packets,0
-8000000,link,1,dropped as full,packets,0
-8000000,link,1,dropped by CoDel,packets,0
-8000000,link,1,waited,packet-ns,0
-8000000,link,1,greatest queue,packets,0
-8000000,link,1,median delay in the queue,ns,0
+BY_STEP = '''flow,0,delivered,bytes: 2000 1000 4000
+flow,0,sent,segments: 6 2 1
+flow,0,sent again by fast retransmit,segments: 0 0 1
+flow,0,sent again by timeout,segments: 0 0 0
+flow,0,timeouts,times: 0 0 0
+flow,0,cwnd,bytes: 5000 7000 2500
+flow,0,in flight,bytes: 5000 5000 1000
+link,0,busy,ns: 4000000 2240000 1040000
+link,0,sent packets,packets: 4 2 1
+link,0,sent bytes,bytes: 4160 2080 1040
+link,0,dropped as lost,packets: 0 0 0
+link,0,dropped as full,packets: 1 1 0
+link,0,dropped by CoDel,packets: 0 0 0
+link,0,waited,packet-ns: 4080000 1240000 0
+link,0,greatest queue,packets: 2 2 0
+link,0,median delay in the queue,ns: 40959 1080000 0
+link,1,busy,ns: 80000 160000 40000
+link,1,sent packets,packets: 2 4 1
+link,1,sent bytes,bytes: 80 160 40
+link,1,dropped as lost,packets: 0 0 0
+link,1,dropped as full,packets: 0 0 0
+link,1,dropped by CoDel,packets: 0 0 0
+link,1,waited,packet-ns: 0 0 0
+link,1,greatest queue,packets: 0 0 0
+link,1,median delay in the queue,ns: 0 0 0
 '''
+ROWS = '\n'.join([HEADING, *(f'{4 * MS * step},{column},{values.split()[step]}' for step in range(3)
+                                for column, values in (line.split(': ') for line in BY_STEP.splitlines())), ''])
 LATER = BY_HAND.replace('sim 12000000', 'sim 20000000').replace('1000 8 0 64000 0', '1000 1 5000000 64000 0')
 
 
@@ -191,9 +139,7 @@ class TestRows(Folder):
         self.scenario, self.trace = self.put('run.txt', BY_HAND), self.put('run.trace', TRACE)
 
     def rows(self, *words):
-        done = tool('flows', *words)
-        assert (done.returncode, done.stderr) == (0, b'')
-        heading, *rows = done.stdout.decode().splitlines()
+        heading, *rows = told('flows', *words).splitlines()
         assert heading == HEADING
         return [row.split(',') for row in rows]
 

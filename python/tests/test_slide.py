@@ -1,12 +1,9 @@
 """Tests of what tcpsim-plot draws for the back row: whole windows, broken axes, runs that end, colours, slides."""
 import itertools
-import os
-import subprocess
-import sys
 from types import SimpleNamespace
 
 import pytest
-from clone import BIN, TOP
+from clone import paths, refusal, told
 
 pytest.importorskip('matplotlib')
 import matplotlib.image
@@ -41,11 +38,6 @@ def figure(*words):
 def panel(drawn, title):
     """The panel with this title."""
     return next(axes for axes in drawn.get_axes() if axes.get_title(loc='left') == title)
-
-
-def example(name):
-    """The files of an example."""
-    return [os.path.join(TOP, 'examples', name + ending) for ending in ('.txt', '.trace')]
 
 
 # ---- colours
@@ -112,8 +104,8 @@ def test_a_recoverys_window_is_drawn_whole():
 
 @pytest.mark.parametrize('name', ['fast_recovery', 'a_lost_retransmission'])
 def test_the_lessons_window_is_in_its_panel(name):
-    run = choice.read_run(*example(name))
-    axes = panel(figure(*example(name)), 'flow f: congestion window')
+    run = choice.read_run(*paths(name))
+    axes = panel(figure(*paths(name)), 'flow f: congestion window')
     assert axes.get_ylim()[1] * 1000 >= max(run.flows[0].cwnd)
     assert axes.get_yscale() == 'linear'
 
@@ -152,7 +144,7 @@ def test_a_broken_axis_is_told_and_has_its_top():
 
 
 def test_a_picture_with_a_broken_axis():
-    drawn = figure(*example('four_flows_share_a_long_queue'), '--panels', 'window')
+    drawn = figure(*paths('four_flows_share_a_long_queue'), '--panels', 'window')
     panels = {axes.get_title(loc='left'): axes for axes in drawn.get_axes()}
     assert [text.get_text() for text in panels['flow fa'].get_yticklabels()][-1] == '75'
     sizes = {axes.bbox.height for name, axes in panels.items() if name.startswith('flow')}
@@ -165,7 +157,7 @@ def test_the_receivers_window_only_where_it_binds(hand):
     assert not broken.binds(view_of((0, 10), (4000, 9000), rwnd=9500), shown(0, 5))
     key = key_of(figure(*hand))
     assert not [text for text in key if 'receiver' in text]
-    key = key_of(figure(*example('acks_share_the_bottleneck')))
+    key = key_of(figure(*paths('acks_share_the_bottleneck')))
     assert 'receiver\'s window, 16 kB' in key
 
 
@@ -176,7 +168,7 @@ def test_one_unit_for_an_axis_of_delays(ns, unit):
 
 def test_a_run_that_has_ended_ends():
     """One segment is over after 3.08 ms; beside it a run of a minute."""
-    drawn = figure(*example('one_segment'), '--beside', *example('fast_recovery'), '--panels', 'window,queue,utilization')
+    drawn = figure(*paths('one_segment'), '--beside', *paths('fast_recovery'), '--panels', 'window,queue,utilization')
     window = panel(drawn, 'one_segment, flow f, round trip ≥ 3.08 ms: congestion window')
     cwnd = next(line for line in window.lines if line.get_color() == style.BLUE)
     assert max(cwnd.get_xdata()) == pytest.approx(3.08)
@@ -197,7 +189,7 @@ def test_a_run_that_has_ended_ends():
                                          ('lock_out_at_equal_times', ('--panels', 'progress'))])
 def test_a_slide(name, words):
     """One panel, large letters, thick lines, labels on the lines that lie in the panel and not over each other."""
-    drawn = figure(*example(name), '--slide', *words)
+    drawn = figure(*paths(name), '--slide', *words)
     axes, = drawn.get_axes()
     assert axes.get_legend() is None
     assert tuple(drawn.get_size_inches()) == slide.SIZE
@@ -216,7 +208,7 @@ def test_a_slide(name, words):
 
 
 def test_a_slides_label_lies_at_its_line():
-    axes, = figure(*example('four_flows_share_a_long_queue'), '--slide').get_axes()
+    axes, = figure(*paths('four_flows_share_a_long_queue'), '--slide').get_axes()
     names = [text.get_text() for text in axes.texts]
     assert names == ['fa', 'fb', 'fc', 'fd']
     for number, text in enumerate(axes.texts):
@@ -229,17 +221,13 @@ def test_a_slides_label_lies_at_its_line():
 @pytest.mark.parametrize('words, size', [((), (980, 1400)), (('--slide',), (900, 1600))])
 def test_pixels(hand, tmp_path, words, size):
     out = str(tmp_path / 'x.png')
-    done = subprocess.run([sys.executable, os.path.join(BIN, 'tcpsim-plot'), *hand, '-o', out, *words], capture_output=True,
-                          text=True, check=False)
-    assert (done.returncode, done.stderr) == (0, '')
+    told('plot', *hand, '-o', out, *words)
     assert matplotlib.image.imread(out).shape[:2] == size
 
 
 def test_a_slide_has_one_panel(hand, tmp_path):
-    done = subprocess.run([sys.executable, os.path.join(BIN, 'tcpsim-plot'), *hand, '-o', str(tmp_path / 'x.png'), '--slide',
-                           '--panels', 'window,queue'], capture_output=True, text=True, check=False)
-    assert (done.returncode, done.stdout) == (2, '')
-    assert '--slide draws one panel, and --panels names 2' in done.stderr
+    status, sentence = refusal('plot', *hand, '-o', tmp_path / 'x.png', '--slide', '--panels', 'window,queue')
+    assert status == 2 and '--slide draws one panel, and --panels names 2' in sentence
     assert not (tmp_path / 'x.png').exists()
 
 

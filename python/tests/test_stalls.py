@@ -6,7 +6,7 @@ import io
 import re
 
 import tcpsim
-from clone import NAMES, PROGRAM, Folder, example, outcome, paths, read_text, tool
+from clone import NAMES, PROGRAM, Folder, csv_rows, example, outcome, paths, read_text, refusal, told, tool
 from tcpsim import causes, follow, stalls
 from tcpsim.cli import follow as cli_follow, stalls as cli_stalls
 from test_follow import moments_of, run_of
@@ -26,6 +26,7 @@ SHOWN = {
     'fast retransmit took a round trip': 'sawtooth_of_congestion_avoidance',
     'the round trip took longer': 'parking_lot_of_three_routers',
 }
+EXAMPLES = [(name, *example(name)) for name in NAMES]
 # A segment takes 1.04 ms, an acknowledgement 0.04 ms, each way 5 ms.
 NET = '''sim {end}
 node s sender
@@ -158,8 +159,7 @@ def woken_by(lines, flow):
 def test_each_stall_has_one_cause():
     """Some cause, and of the third to the last exactly one, whatever their order."""
     partition, judged = {causes.name_of(cause) for cause in causes.PARTITION}, 0
-    for name in NAMES:
-        text, lines = example(name)
+    for name, text, lines in EXAMPLES:
         for longer in (200 * MS, 20 * MS, 2 * MS):
             walk = Judging(Scenario(text), longer)
             walk.read(iter(lines))
@@ -175,8 +175,7 @@ def test_each_stall_has_one_cause():
 def test_fewer_than_three_duplicates_came_where_the_timer_had_to_do():
     """As their numbers are counted from the acknowledgements in the lines."""
     seen = set()
-    for name in NAMES:
-        text, lines = example(name)
+    for name, text, lines in EXAMPLES:
         numbers = {flow: number for number, flow in enumerate(re.findall(r'^flow (\w+)', text, re.MULTILINE))}
         for row in rows_of(text, lines):
             if row.cause == 'a loss was left to the timer':
@@ -189,8 +188,7 @@ def test_fewer_than_three_duplicates_came_where_the_timer_had_to_do():
 def test_queues_are_those_of_another_reading():
     """Its packets waited in one queue where they did, at that link and for that time."""
     shown = 0
-    for name in NAMES:
-        text, lines = example(name)
+    for name, text, lines in EXAMPLES:
         links, flows, found = Scenario(text).links, [flow.name for flow in Scenario(text).flows], {}
         for row in rows_of(text, lines):
             if row.flow not in found:
@@ -209,8 +207,7 @@ def test_losses_are_those_of_another_reading():
     """Of the stalls with another cause than the first two: whether the segment at una was lost, what sent it again,
     and whether that was lost too."""
     told = set()
-    for name in NAMES:
-        text, lines = example(name)
+    for name, text, lines in EXAMPLES:
         found = {span[:3]: span[3:] for span in spans(text, lines)}
         flows = [flow.name for flow in Scenario(text).flows]
         for row in rows_of(text, lines):
@@ -237,8 +234,7 @@ def test_full_windows_are_those_of_the_lines():
     """In a span the window was full if it was by every line of the sender from its first to that before its last;
     it is the cause but where that segment, or an acknowledgement, was lost."""
     causes_of_full = set()
-    for name in NAMES:
-        text, lines = example(name)
+    for name, text, lines in EXAMPLES:
         found = {span[:3]: span[3:] for span in spans(text, lines)}
         for row in rows_of(text, lines):
             first, last = found[row.flow, row.begin, row.end]
@@ -258,8 +254,7 @@ def test_each_cause_has_an_example():
 
 def test_spans_are_those_of_the_lines():
     """Their first and last lines are among the positions that are told, the last one last."""
-    for name in NAMES:
-        text, lines = example(name)
+    for name, text, lines in EXAMPLES:
         found = sorted(spans(text, lines))
         for longer in (200 * MS, 20 * MS, 0):
             rows = sorted(rows_of(text, lines, longer))
@@ -418,13 +413,8 @@ class Files(Folder):
     text, lines = example('a_timer_that_stays_doubled')
     scenario, trace = paths('a_timer_that_stays_doubled')
 
-    def run_stalls(self, *words, **more):
-        return tool('stalls', *words, **more)
-
     def told(self, *words):
-        done = self.run_stalls(*words)
-        assert (done.returncode, done.stderr) == (0, b'')
-        return done.stdout.decode()
+        return told('stalls', *words)
 
 
 class TestCommands(Files):
@@ -470,7 +460,7 @@ f          1.023200000       3.034280000     2.011080000  the timer had doubled
 
     def test_csv_has_the_rows_of_the_table(self):
         for name in ('two_flows_share_fairly', 'four_flows_share_codel'):
-            rows = list(csv.DictReader(io.StringIO(self.told(*paths(name), '--csv'))))
+            rows = csv_rows(self.told(*paths(name), '--csv'))
             assert [(row['flow'], int(row['from']), int(row['to']), int(row['ns']), row['cause'], row['found'])
                               for row in rows] == [row[:6] for row in rows_of(*example(name))]
 
@@ -496,11 +486,8 @@ def table_of_follow(text, lines):
 class TestRefusals(Files):
     def refused(self, note, *words, status=1, **more):
         """One sentence, with the note in it; nothing on standard output."""
-        done = self.run_stalls(*words, **more)
-        text = done.stderr.decode()
-        assert (done.returncode, done.stdout) == (status, b''), text
-        assert note in text
-        assert (text.count('\n'), text.startswith('tcpsim-stalls: ')) == (1, True), text
+        found, sentence = refusal('stalls', *words, **more)
+        assert found == status and note in sentence, (found, sentence)
 
     def trace_refused(self, note, lines, end='\n'):
         self.refused(note, self.scenario, self.put('changed', '\n'.join(lines) + end))

@@ -1,12 +1,8 @@
 """Tests of sums: `tcpsim-stalls --summary`, and of `tcpsim-flows` busy links, how long flows took, 95th percentiles."""
 import csv
-import io
-import os
-import subprocess
-import sys
 
 import pytest
-from clone import BIN, TOP
+from clone import csv_rows, example, paths, told
 from tcpsim.engine import EngineRun
 from tcpsim.figures import Figures, figures
 from tcpsim.samples import percentile
@@ -18,37 +14,27 @@ from test_trace import BY_HAND, TRACE
 S = 10**9
 
 
-def example(name):
-    """The files of an example."""
-    return [os.path.join(TOP, 'examples', name + ending) for ending in ('.txt', '.trace')]
-
-
 def lines_of(tool, *words):
     """What a tool prints."""
-    done = subprocess.run([sys.executable, os.path.join(BIN, tool), *words], capture_output=True, text=True, check=False)
-    assert (done.returncode, done.stderr) == (0, '')
-    return done.stdout.splitlines()
+    return told(tool, *words).splitlines()
 
 
 def read(name):
     """An example's scenario and the lines of its trace."""
-    texts = []
-    for path in example(name):
-        with open(path, encoding='ascii') as file:
-            texts.append(file.read())
-    return Scenario(texts[0]), texts[1].splitlines()
+    text, lines = example(name)
+    return Scenario(text), lines
 
 
 # ---- stalls by flow
 
 def test_a_summary_by_hand():
     """Two timeouts in a row: one stall of 3.00308 s, since what was lost was left to the timer."""
-    assert lines_of('tcpsim-stalls', *example('two_timeouts_in_a_row'), '--summary') == [
+    assert lines_of('stalls', *paths('two_timeouts_in_a_row'), '--summary') == [
         'flow  stalls  seconds  left to the timer', 'f          1    3.003         1 in 3.003', '1 stall longer than 200 ms']
 
 
 def test_a_flow_that_never_stood_still_has_a_line():
-    assert lines_of('tcpsim-stalls', *example('one_segment'), '--summary') == [
+    assert lines_of('stalls', *paths('one_segment'), '--summary') == [
         'flow  stalls  seconds', 'f          0    0.000', '0 stalls longer than 200 ms']
 
 
@@ -56,7 +42,7 @@ def test_a_flow_that_never_stood_still_has_a_line():
 def test_a_summary_is_the_sum_of_the_spans(name):
     scenario, lines = read(name)
     rows = stalls_of(scenario, lines)
-    got = list(csv.DictReader(io.StringIO('\n'.join(lines_of('tcpsim-stalls', *example(name), '--summary', '--csv')))))
+    got = csv_rows(told('stalls', *paths(name), '--summary', '--csv'))
     assert [row['flow'] for row in got] == [flow.name for flow in scenario.flows]
     assert rows
     for its in got:
@@ -70,8 +56,8 @@ def test_a_summary_is_the_sum_of_the_spans(name):
 
 
 def test_a_summary_of_one_flow_and_of_longer_spans():
-    name = example('parking_lot_of_three_routers')
-    lines = lines_of('tcpsim-stalls', *name, '--summary', '--flow', 'fa', '--longer', '1s')
+    name = paths('parking_lot_of_three_routers')
+    lines = lines_of('stalls', *name, '--summary', '--flow', 'fa', '--longer', '1s')
     assert [line.split()[0] for line in lines[1:-1]] == ['fa']
     assert lines[-1].endswith('longer than 1 s')
 
@@ -80,7 +66,7 @@ def test_a_summary_of_one_flow_and_of_longer_spans():
 
 def table_of(name, *words):
     """The CSV of tcpsim-flows: a value by what, name and figure."""
-    return {tuple(row[:3]): row[4] for row in csv.reader(lines_of('tcpsim-flows', *example(name), '--csv', *words))}
+    return {tuple(row[:3]): row[4] for row in csv.reader(lines_of('flows', *paths(name), '--csv', *words))}
 
 
 def test_took_is_from_start_to_completion():
@@ -89,13 +75,13 @@ def test_took_is_from_start_to_completion():
     assert int(rows['flow', 'g', 'completed']) - int(rows['flow', 'g', 'took']) == 3 * S
     assert rows['flow', 'f', 'took'] == rows['flow', 'f', 'completed']
     assert table_of('two_flows_share_fairly')['flow', 'fa', 'took'] == ''
-    heading, = (line for line in lines_of('tcpsim-flows', *example('bufferbloat')) if line.startswith('flow '))
+    heading, = (line for line in lines_of('flows', *paths('bufferbloat')) if line.startswith('flow '))
     assert heading.split()[-4:] == ['took', 's', 'completed', 's']
 
 
 @pytest.mark.parametrize('name', ['bufferbloat_with_codel', 'sawtooth_of_congestion_avoidance'])
 def test_95th_percentiles(name):
-    rows, run = table_of(name), read_run(*example(name))
+    rows, run = table_of(name), read_run(*paths(name))
     for link in run.links:
         wanted = percentile(link.waits, 95)
         assert rows['link', link.link.name, '95th percentile of delay in the queue'] == ('' if wanted is None else str(wanted))
@@ -115,7 +101,7 @@ def test_busy_links_are_those_where_packets_waited_or_were_dropped():
 
 @pytest.mark.parametrize('name', ['bufferbloat', 'parking_lot_of_three_routers'])
 def test_a_busy_links_packets_waited_longer_than_one_takes(name):
-    run, scenario_lines = read_run(*example(name)), read(name)
+    run, scenario_lines = read_run(*paths(name)), read(name)
     counted = Figures(scenario_lines[0], scenario_lines[1])
     for link, figures_of in zip(run.links, counted.links):
         longest = max((b - a for a, b in zip(link.busy_from, link.busy_to)), default=0)

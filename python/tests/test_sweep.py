@@ -1,12 +1,10 @@
 """Tests of tcpsim-sweep: its rows against a run worked out by hand and against tcpsim-flows's figures of each run. Programs that
 fail, full disks and pipes are in test_ends.py.
 """
-import csv
 import glob
 import hashlib
 import html
 import importlib.util
-import io
 import os
 import re
 import shlex
@@ -22,7 +20,7 @@ from multiprocessing import Pipe, get_context
 import pytest
 
 import clone
-from clone import BIN, PROGRAM, TOP, paths, read, read_text
+from clone import BIN, PROGRAM, TOP, csv_rows, paths, read, read_text
 from tcpsim.cli import net as command
 from tcpsim.program import format_of
 from tcpsim.sweeps import pattern as sweep
@@ -61,19 +59,14 @@ def path(name, text=None):
 
 
 def tool(*words, program=True, script=SWEEP, **more):
-    return subprocess.run([sys.executable, script, *words, *(['--program', PROGRAM] if program else [])],
-                          capture_output=True, encoding='utf-8', check=False, **more)
-
-
-def rows_of(text):
-    return list(csv.DictReader(io.StringIO(text)))
+    return clone.ran(sys.executable, script, *words, *(['--program', PROGRAM] if program else []), encoding='utf-8', **more)
 
 
 def flows_figures(text, *options):
     """What tcpsim-flows tells of a run, {(what, name, figure): value}, by its own command line."""
     scenario, trace = path('one.txt', text), path('one.trace', clone.outcome(['run'], text.encode())[2].decode())
     done = clone.tool('flows', scenario, trace, '--csv', *options, text=True)
-    return {(row['what'], row['name'], row['figure']): row['value'] for row in rows_of(done.stdout)}
+    return {(row['what'], row['name'], row['figure']): row['value'] for row in csv_rows(done.stdout)}
 
 
 FOUR = command.scenario(['dumbbell', '--flows', '4', '--rate', '2M', '--rtt', '40ms,70ms', '--start', '0,300ms', '--segments',
@@ -86,12 +79,12 @@ NET = command.scenario(['dumbbell', '--flows', '2', '--rate=2M', '--rtt', '40ms'
 
 def test_by_hand():
     done = tool(path('hand.txt', BY_HAND), '--set', 'a.queue=droptail:2', '--csv')
-    assert rows_of(done.stdout) == [ROW]
+    assert csv_rows(done.stdout) == [ROW]
     assert done.returncode == 0
     assert len(done.stderr.splitlines()) == 1
     assert done.stderr.startswith('1 of 1 runs'), done.stderr
     done = tool(path('hand.txt', BY_HAND), '--set', 'a.queue=droptail:2', '--csv', '--exact')
-    assert rows_of(done.stdout) == [{**ROW, 'wait_median_ns': '1040000', 'options': '--link a --exact'}]
+    assert csv_rows(done.stdout) == [{**ROW, 'wait_median_ns': '1040000', 'options': '--link a --exact'}]
 
 
 def grid_of(text, sets):
@@ -104,7 +97,7 @@ def test_equal_flows(mine, theirs):
     """Each row of a grid that is read from traces has the figures that tcpsim-flows has, also from a moment on."""
     sets = ['--set', 'pq.queue=droptail:5,40,BDP,codel:5ms:100ms', '--set', 'pq+qp.delay=10ms,50ms']
     done = tool(path('four.txt', FOUR), *sets, '--csv', '--exact', '-j', '2', *mine)
-    rows = rows_of(done.stdout)
+    rows = csv_rows(done.stdout)
     assert [(row['pq.queue'], row['pq+qp.delay'], row['status'], row['link']) for row in rows] == [(queue, delay, 'done', 'pq') for queue in ('droptail:5', 'droptail:40', 'droptail:BDP',
                                                                  'codel:5ms:100ms') for delay in ('10ms', '50ms')]
     grid = grid_of(FOUR, sets[1::2])
@@ -138,7 +131,7 @@ def test_same_rows_on_any_number_of_workers():
 def test_refused():
     """A run that is refused is a row that says so."""
     done = tool(path('hand.txt', BY_HAND), '--set', 'a.queue=droptail:2,0', '--set', 'end=12ms,0', '--csv', '-j', '1')
-    rows = rows_of(done.stdout)
+    rows = csv_rows(done.stdout)
     assert [row['status'] for row in rows] == ['done', 'refused E5 line 1', 'refused E5 line 4',
                                                        'refused E5 line 1']
     assert {key: rows[0][key] for key in ROW} == ROW
@@ -159,20 +152,20 @@ def test_a_target_above_the_interval_is_warned_of():
 
 def test_over_before():
     done = tool(path('hand.txt', BY_HAND), '--skip', '1s', '--csv')
-    assert 'nothing of it is at or after 1 s' in rows_of(done.stdout)[0]['status']
+    assert 'nothing of it is at or after 1 s' in csv_rows(done.stdout)[0]['status']
 
 
 def test_busiest_link_and_links_by_name():
     text = command.scenario(['chain', '--hops', '3', '--rate', '4M,1M,2M', '--segments', '30', '--rwnd', '30000'])
-    assert rows_of(tool(path('chain.txt', text), '--csv').stdout)[0]['link'] == 'p1p2'
+    assert csv_rows(tool(path('chain.txt', text), '--csv').stdout)[0]['link'] == 'p1p2'
     done = tool(path('chain.txt', text), '--csv', '--set', 'p1p2.rate=1M', '--link', 'p0p1')
-    assert rows_of(done.stdout)[0]['link'] == 'p0p1'
+    assert csv_rows(done.stdout)[0]['link'] == 'p0p1'
 
 
 def test_image(put):
     image = clone.outcome(['asm'], BY_HAND.encode())[2]
     done = tool(put('hand.tcb', image), '--set', 'l0.queue=droptail:2', '--csv')
-    assert list(rows_of(done.stdout)[0].values())[4:-3] == list(ROW.values())[4:-3]
+    assert list(csv_rows(done.stdout)[0].values())[4:-3] == list(ROW.values())[4:-3]
     done = tool(put('hand.tcb', image[:-1]), '--set', 'l0.queue=droptail:2')
     assert (done.returncode, done.stdout, len(done.stderr.splitlines())) == (2, '', 1)
     assert 'refused L1' in done.stderr
@@ -184,7 +177,7 @@ class TestTables:
     def rows(self, *words):
         done = tool(*words, '--csv', '--program', PROGRAM, program=False)
         assert done.returncode == 0, done.stderr
-        return rows_of(done.stdout)
+        return csv_rows(done.stdout)
 
     def test_rows_are_those_of_traces(self):
         """But for waits, which are the greatest values of their classes."""
@@ -328,7 +321,7 @@ def test_print_run_gather():
     names = sorted(os.listdir(folder))
     assert names == ['1_droptail-5_1s.txt', '2_droptail-5_2s.txt', '3_droptail-0_1s.txt', '4_droptail-0_2s.txt',
                              'grid.csv', 'jobs', 'sweep.json']
-    waiting = rows_of(tool('--gather', folder, '--csv', program=False).stdout)
+    waiting = csv_rows(tool('--gather', folder, '--csv', program=False).stdout)
     assert [row['status'] for row in waiting] == ['not run'] * 4
     jobs = read_text(folder, 'jobs').splitlines()
     assert len(jobs) == 4
@@ -398,7 +391,7 @@ class TestWrongWords:
             journal, = set(glob.glob(f'{rows}.*.part')) - set(journals)
             journals.append(journal)
             assert read_text(journal).startswith(FIRST_LINE)
-            assert rows_of(read_text(journal).removeprefix(FIRST_LINE)) == [{**ROW, 'program_sha256': clone.digest(program)}]
+            assert csv_rows(read_text(journal).removeprefix(FIRST_LINE)) == [{**ROW, 'program_sha256': clone.digest(program)}]
         self.piped(program)
 
     def piped(self, program):
@@ -411,7 +404,7 @@ class TestWrongWords:
         time.sleep(.1)
         process.terminate()
         with open(read, encoding='utf-8') as file:
-            assert list(csv.DictReader(file)) == [{**ROW, 'program_sha256': clone.digest(program)}]
+            assert csv_rows(file.read()) == [{**ROW, 'program_sha256': clone.digest(program)}]
         process.communicate(timeout=20)
         assert process.returncode == 143
 
@@ -564,7 +557,7 @@ def test_options_of_the_shape_are_set():
                                 '--queue', labels['pq.queue']])
         assert grid.text(number).split('\n')[3:] and without_comments(grid.text(number)) == without_comments(net)
     done = tool(path('net.txt', NET), *words[:4], '--show', '*.goodput,f1+f2.sent,*.jain', '--csv')
-    rows = rows_of(done.stdout)
+    rows = csv_rows(done.stdout)
     assert [(row['flows'], row['rtt'], row['rtt_ns']) for row in rows] == [
         ('1', '20ms', '20000000'), ('1', '60ms', '60000000'), ('3', '20ms', '20000000'), ('3', '60ms', '60000000')]
     assert [[bool(row[name]) for name in ('f0.goodput_bit_s', 'f2.goodput_bit_s', 'f1+f2.sent', '*.jain')] for row in rows] == [
@@ -593,7 +586,7 @@ def test_parts_of_the_product():
     """At 2 Mbit/s and 48 ms a link has 8 packets of 1,500 bytes under way: half, twice that, and by the root of two flows."""
     net = command.scenario(['dumbbell', '--flows', '2', '--rate=2M', '--rtt', '48ms', '--end', '2s', '--mice', '3'])
     done = tool(path('net.txt', net), '--set', 'pq.queue=droptail:BDP,0.5BDP,2BDP,BDP/sqrt(n),0.6BDP', '--csv')
-    assert [(row['pq.queue'], row['pq.queue_packets']) for row in rows_of(done.stdout)] == [
+    assert [(row['pq.queue'], row['pq.queue_packets']) for row in csv_rows(done.stdout)] == [
         ('droptail:BDP', '8'), ('droptail:0.5BDP', '4'), ('droptail:2BDP', '16'), ('droptail:BDP/sqrt(n)', '5'), ('droptail:0.6BDP', '4')]
     for word, packets in (('0.5BDP', 4), ('BDP/sqrt(n)', 5)):
         text = command.scenario(['dumbbell', '--flows', '2', '--rate=2M', '--rtt', '48ms', '--end', '2s', '--mice', '3', '--queue', f'droptail:{word}'])

@@ -17,19 +17,13 @@ import time
 import pytest
 
 import tcpsim
-from clone import BIN, PATIENCE, PROGRAM, digest, ran, tool_words
+from clone import PATIENCE, PROGRAM, csv_rows, digest, ran, tool, tool_words, until
 from tcpsim.sweeps.jobs import job_folder
+from test_trace import BY_HAND
 
-SWEEP = os.path.join(BIN, 'tcpsim-sweep')
-SCENARIO = '''sim 12000000
-node s sender
-node r receiver
-link a s r 8000000 1000000 droptail 7
-link b r s 8000000 1000000 droptail 10
-flow f s r 1000 8 0 64000 0
-'''
+SWEEP = tool_words('sweep')
+SCENARIO = BY_HAND.replace('droptail 2', 'droptail 7')
 GRID = '--set', 'a.queue=droptail:1,2,0,3', '--over', 'f.start=0..2ms/1ms', '--show', 'f.goodput,a.dropped'
-SOON = PATIENCE
 
 
 def sweep_of(folder, *words, program=PROGRAM, **more):
@@ -38,7 +32,7 @@ def sweep_of(folder, *words, program=PROGRAM, **more):
     if not os.path.exists(scenario):
         with open(scenario, 'w', encoding='ascii') as file:
             file.write(SCENARIO)
-    return ran(sys.executable, SWEEP, scenario, *GRID, '--program', program, *words, cwd=folder, encoding='utf-8', **more)
+    return tool('sweep', scenario, *GRID, '--program', program, *words, cwd=folder, encoding='utf-8', **more)
 
 
 @functools.cache
@@ -71,14 +65,6 @@ def free_ports(count):
     for each in sockets:
         each.close()
     return ports
-
-
-def until(is_so, what, patience=SOON):
-    """Waits until something is so."""
-    end = time.monotonic() + patience
-    while not is_so():
-        assert time.monotonic() < end, what
-        time.sleep(.1)
 
 
 class Started:
@@ -150,7 +136,7 @@ def single_row(path, queue, start):
     text = SCENARIO.replace('droptail 7', f'droptail {queue}').replace(' 0 64000', f' {start * 10**6} 64000')
     path.write_text(text)
     written = subprocess.check_output([PROGRAM, 'figures', path], stdin=subprocess.DEVNULL, encoding='ascii')
-    table = {(row['what'], row['figure']): row['value'].replace('-', '') for row in csv.DictReader(io.StringIO(written))
+    table = {(row['what'], row['figure']): row['value'].replace('-', '') for row in csv_rows(written)
              if row['number'] in ('', '0')}
     end = int(table['flow', 'completed'] or 12_000_000)
     table[None] = f'{int(table["flow", "delivered"]) * 8 * 10**9 / (end - start * 10**6):.6f}'
@@ -175,7 +161,7 @@ def has_the_rows_of(singles, folder, *words, **more):
     text, grid = singles
     with open(os.path.join(folder, 'one.txt'), 'w', encoding='ascii') as file:
         file.write(SCENARIO)
-    done = ran(sys.executable, SWEEP, file.name, *grid, '--program', PROGRAM, '-o', 'rows.csv', *words, cwd=folder, encoding='utf-8',
+    done = tool('sweep', file.name, *grid, '--program', PROGRAM, '-o', 'rows.csv', *words, cwd=folder, encoding='utf-8',
                **{'timeout': PATIENCE + text.count('\n'), **more})
     assert done.returncode == 0, done.stderr
     with open(os.path.join(folder, 'rows.csv'), encoding='utf-8') as file:
@@ -252,7 +238,7 @@ def test_slurm(slurm, tmp_path):
                   f'if grep -q "droptail 2" "$0.$$"\nthen kill -9 $PPID\nelse exec "{PROGRAM}" "$@" < "$0.$$"\nfi\n')
     done = sweep_of(tmp_path, '--on', 'slurm', '-o', 'rows.csv', program=program, env=slurm)
     assert done.returncode == 1
-    rows = list(csv.DictReader(io.StringIO((tmp_path / 'rows.csv').read_text())))
+    rows = csv_rows((tmp_path / 'rows.csv').read_text())
     lost = [row['status'] for row in rows if row['a.queue'] == 'droptail:2']
     assert len(lost) == 3 and all(status.startswith('not run: slurm says FAILED, exit code 137:0') for status in lost)
     assert '\n'.join(','.join(row.values()) for row in rows if row['a.queue'] != 'droptail:2') == '\n'.join(
@@ -298,13 +284,13 @@ def test_slurm_interrupted(slurm, tmp_path):
     """Ctrl-C takes the array out of the queue."""
     program = put(tmp_path, 'sleeps', f'#!/bin/sh\n[ "$1" = --version ] && exec "{PROGRAM}" --version\nexec sleep 300\n')
     sweep_of(tmp_path, '--print', 'unused')
-    process = subprocess.Popen([sys.executable, SWEEP, 'hand.txt', *GRID, '--program', program, '--on', 'slurm'], cwd=tmp_path, env=slurm,
+    process = subprocess.Popen([*SWEEP, 'hand.txt', *GRID, '--program', program, '--on', 'slurm'], cwd=tmp_path, env=slurm,
                                stdout=subprocess.PIPE, stderr=subprocess.PIPE,
                                preexec_fn=lambda: signal.signal(signal.SIGINT, signal.default_int_handler))
     queue = functools.partial(ran, 'squeue', '-h', '-r', '-o', '%i %T', env=slurm, encoding='utf-8')
     until(lambda: 'RUNNING' in queue().stdout, 'no task runs')
     process.send_signal(signal.SIGINT)
-    process.communicate(timeout=SOON)
+    process.communicate(timeout=PATIENCE)
     assert process.returncode == 130
     until(lambda: queue().stdout == '', 'the array is there still')
 
@@ -359,14 +345,14 @@ def test_dask_with_a_worker_that_is_lost(dask, tmp_path):
     program = put(tmp_path, 'slow', f'#!/bin/sh\n[ "$1" = --version ] && exec "{PROGRAM}" --version\necho $PPID >> "$0.who"\nsleep .5\n'
                   f'exec "{PROGRAM}" "$@"\n')
     sweep_of(tmp_path, '--print', 'unused')
-    process = subprocess.Popen([sys.executable, SWEEP, 'hand.txt', *GRID, '--program', program, '--on', on, '-o', 'rows.csv'], cwd=tmp_path,
+    process = subprocess.Popen([*SWEEP, 'hand.txt', *GRID, '--program', program, '--on', on, '-o', 'rows.csv'], cwd=tmp_path,
                                stdout=subprocess.PIPE, stderr=subprocess.PIPE, text=True)
     said = [process.stderr.readline() for _ in range(4)]
     who = (tmp_path / 'slow.who').read_text().split()
     assert {str(each.pid) for each in workers} == set(who)
     lost = next(each for each in workers if str(each.pid) == who[-1])
     lost.kill()
-    output, rest = process.communicate(timeout=SOON)
+    output, rest = process.communicate(timeout=PATIENCE)
     done = subprocess.CompletedProcess([], process.returncode, output, ''.join(said) + rest)
     is_the_same(done, tmp_path, program)
     assert len((tmp_path / 'slow.who').read_text().split()) > 12
@@ -445,13 +431,13 @@ def test_parallel_ends_with_the_sweep(number, tmp_path):
     """Ctrl-C ends its jobs too, and so does KILL, which the sweep cannot hear."""
     program = put(tmp_path, 'sleeps', f'#!/bin/sh\n[ "$1" = --version ] && exec "{PROGRAM}" --version\necho $$ >> "$0.who"\nexec sleep 300\n')
     sweep_of(tmp_path, '--print', 'unused')
-    process = subprocess.Popen([sys.executable, SWEEP, 'hand.txt', *GRID, '--program', program, '--on', 'parallel', '-j', '2'], cwd=tmp_path,
+    process = subprocess.Popen([*SWEEP, 'hand.txt', *GRID, '--program', program, '--on', 'parallel', '-j', '2'], cwd=tmp_path,
                                stdout=subprocess.PIPE, stderr=subprocess.PIPE,
                                preexec_fn=lambda: signal.signal(signal.SIGINT, signal.default_int_handler))
     until(lambda: os.path.exists(tmp_path / 'sleeps.who') and (tmp_path / 'sleeps.who').read_text().count('\n') == 2, 'no two run')
     assert len(in_folder(tmp_path)) > 4         # the sweep, GNU parallel, two jobs and what they run
     process.send_signal(number)
-    process.communicate(timeout=SOON)
+    process.communicate(timeout=PATIENCE)
     assert process.returncode == (130 if number == signal.SIGINT else -number)
     until(lambda: not in_folder(tmp_path), 'something runs on', 60)
     assert number == signal.SIGKILL or [name for name in os.listdir(tmp_path) if name.startswith('tcpsim-sweep-')] == []

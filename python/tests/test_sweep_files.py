@@ -13,25 +13,19 @@ import stat
 import subprocess
 import sys
 import tempfile
-import time
 
 import pytest
 
 pytest.importorskip('hypothesis', reason='no hypothesis: apt-get install python3-hypothesis')
 from hypothesis import HealthCheck, given, settings, strategies as st  # noqa: E402
 
-from clone import BIN, PATIENCE, PROGRAM  # noqa: E402
+from clone import BIN, PATIENCE, PROGRAM, tool, until  # noqa: E402
 from tcpsim import command_line  # noqa: E402
 from tcpsim.sweeps.files import FIRST_LINE, LONGEST  # noqa: E402
+from test_trace import BY_HAND  # noqa: E402
 
 SWEEP = os.path.join(BIN, 'tcpsim-sweep')
-SCENARIO = '''sim 12000000
-node s sender
-node r receiver
-link a s r 8000000 1000000 droptail 7
-link b r s 8000000 1000000 droptail 10
-flow f s r 1000 8 0 64000 0
-'''
+SCENARIO = BY_HAND.replace('droptail 2', 'droptail 7')
 SETS = '--set', 'a.queue=droptail:2,3'
 
 
@@ -90,13 +84,6 @@ def held(place):
                        f'while [ ! -e "{place}/go" ]; do sleep .02; done\nexec "{PROGRAM}" "$@"\n')
     program.chmod(0o755)
     return program
-
-
-def until(is_so, what):
-    end = time.monotonic() + PATIENCE
-    while not is_so():
-        assert time.monotonic() < end, what
-        time.sleep(.02)
 
 
 # ---- rows of another question
@@ -206,8 +193,7 @@ def test_what_is_there_is_not_touched(place):
     (place / names[3]).mkdir()
     there = sorted(os.listdir(place))
     for words in (('-o', 'q.csv'), ('--resume', 'q.csv')):
-        done = subprocess.run([sys.executable, SWEEP, 'q.csv.part', *SETS, *words, '--program', PROGRAM], cwd=place, timeout=PATIENCE,
-                              check=False, capture_output=True)
+        done = tool('sweep', 'q.csv.part', *SETS, *words, '--program', PROGRAM, cwd=place)
         assert done.returncode == 0, done.stderr
         assert sorted(os.listdir(place)) == sorted([*there, 'q.csv'])
     assert (place / 'q.csv.part').read_text() == SCENARIO and (place / names[0]).read_text() == 'mine\n'

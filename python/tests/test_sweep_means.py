@@ -1,20 +1,17 @@
 """Tests of sweeps over replicates: means and intervals by hand, figures by name, from a moment on, resumed, and in Python."""
-import csv
 import hashlib
-import io
 import math
 import os
 import signal
 import stat
 import subprocess
 import sys
-import time
 
 import pytest
 
 import clone
 import tcpsim
-from clone import BIN, PROGRAM, TOP
+from clone import PROGRAM, TOP, csv_rows, tool_words, until
 from tcpsim.cli import net
 from tcpsim.command_line import Wrong
 from tcpsim.program import format_of
@@ -24,17 +21,12 @@ from tcpsim.sweeps.means import mean_of, student
 from tcpsim.sweeps.pattern import Pattern, settings_of
 from tcpsim.sweeps.rows import AskedOfRun, Bench, Grid
 from tcpsim.whole_trace import PROGRAMS
+import test_trace
 
-SWEEP = os.path.join(BIN, 'tcpsim-sweep')
+SWEEP = tool_words('sweep')
 # One flow of eight segments over 8 Mbit/s for 12 ms, seven of which come in order with a queue of three: the goodput is
 # 56,000 bits over the time from the start on. Two of nine are dropped with a queue of two, one of eight with three.
-BY_HAND = '''sim 12000000
-node s sender
-node r receiver
-link a s r 8000000 1000000 droptail 7
-link b r s 8000000 1000000 droptail 10
-flow f s r 1000 8 0 64000 0
-'''
+BY_HAND = test_trace.BY_HAND.replace('droptail 2', 'droptail 7')
 STARTS = '--set', 'a.queue=droptail:2,3', '--over', 'f.start=0..2ms/500us'
 
 
@@ -44,11 +36,7 @@ def hand(put):
 
 
 def tool(*words, program=PROGRAM, **more):
-    return subprocess.run([sys.executable, SWEEP, *words, '--program', program], capture_output=True, encoding='utf-8', check=False, **more)
-
-
-def rows_of(text):
-    return list(csv.DictReader(io.StringIO(text)))
+    return clone.tool('sweep', *words, '--program', program, encoding='utf-8', **more)
 
 
 # ---- means and their intervals
@@ -76,7 +64,7 @@ def test_means_and_pairs_by_hand(hand, tmp_path):
     file = str(tmp_path / 'rows.csv')
     done = tool(hand, *STARTS, '--show', 'f.goodput,a.dropped', '--pair', 'droptail:2,3', '--csv', '-o', file)
     assert done.returncode == 0, done.stderr
-    two, three, pair = rows_of(done.stdout)
+    two, three, pair = csv_rows(done.stdout)
     goodputs = [56e6 / time for time in (12, 11.5, 11, 10.5, 10)]
     mean = sum(goodputs) / 5
     assert float(three['f.goodput_bit_s_mean']) == pytest.approx(mean)
@@ -87,7 +75,7 @@ def test_means_and_pairs_by_hand(hand, tmp_path):
     assert (pair['a.queue'], pair['a.queue_packets']) == ('droptail:3 - droptail:2', '')
     assert float(pair['f.goodput_bit_s_mean']) == pytest.approx(640_000)
     assert float(pair['f.goodput_bit_s_half_width']) == pytest.approx(2.7764451 * 640_000)
-    rows = rows_of((tmp_path / 'rows.csv').read_text())
+    rows = csv_rows((tmp_path / 'rows.csv').read_text())
     assert [(row['a.queue'], row['f.start'], row['f.start_ns']) for row in rows] == [
         (queue, word, number) for queue in ('droptail:2', 'droptail:3')
         for word, number in (('0', '0'), ('500us', '500000'), ('1ms', '1000000'), ('1.5ms', '1500000'), ('2ms', '2000000'))]
@@ -109,7 +97,7 @@ def test_table_of_means(hand):
 def test_a_run_that_is_refused_is_in_no_mean(hand):
     """With a queue of seven all eight come in 8 * 1.04 + 1 + 0.04 + 1 ms, whenever the flow starts."""
     done = tool(hand, '--over', 'f.start=0,1ms,1s', '--show', 'f.goodput', '--csv')
-    row, = rows_of(done.stdout)
+    row, = csv_rows(done.stdout)
     assert (row['f.goodput_bit_s_runs'], row['status']) == ('2', '1 of 3 runs have no figures: refused L3 line 0')
     assert float(row['f.goodput_bit_s_mean']) == pytest.approx(64e6 / 10.36)
     assert done.returncode == 0
@@ -151,7 +139,7 @@ ADSL = net.scenario(['asymmetric', '--flows', '2', '--uploads', '1', '--up', '1M
 def shown(*words, **more):
     done = tool(*words, '--csv', **more)
     assert done.returncode == 0, done.stderr
-    return rows_of(done.stdout)[0], done.stderr
+    return csv_rows(done.stdout)[0], done.stderr
 
 
 def test_each_figure_is_that_of_the_trace(put):
@@ -254,8 +242,8 @@ def test_skip_goes_by_figures_from(put, tmp_path):
     done = tool(*words, '--csv', program=stand_in(put, tmp_path, FROM))
     assert done.returncode == 0, done.stderr
     assert sorted(asked(tmp_path)) == ['--version', 'figures --from 700ms', 'figures --from 700ms']
-    traces = rows_of(tool(*words, '--csv', '--exact').stdout)
-    for got, wanted in zip(rows_of(done.stdout), traces, strict=True):
+    traces = csv_rows(tool(*words, '--csv', '--exact').stdout)
+    for got, wanted in zip(csv_rows(done.stdout), traces, strict=True):
         assert got.pop('loss_percent') == ''
         assert float(wanted.pop('loss_percent')) > 0
         for name in ('wait_median_ns', 'wait_p99_ns'):
@@ -268,7 +256,7 @@ def test_skip_goes_by_traces_where_the_program_has_no_from(put, tmp_path):
     words = put('adsl.txt', ADSL), '--set', 'up.queue=droptail:5,codel:20ms:100ms', '--skip', '700ms', '--csv'
     done = tool(*words, program=stand_in(put, tmp_path, 1))
     assert sorted(asked(tmp_path)) == ['--version', 'run', 'run']
-    assert list(map(alike, rows_of(done.stdout))) == list(map(alike, rows_of(tool(*words, '--exact').stdout)))
+    assert list(map(alike, csv_rows(done.stdout))) == list(map(alike, csv_rows(tool(*words, '--exact').stdout)))
     assert 'tcpsim-sweep: each run\'s trace is read, for goodput_bit_s' in done.stderr
     assert 'this program has no `figures --from`' in done.stderr
     done = tool(*words, '--show', 'f0.rtt50', program=stand_in(put, tmp_path, 1))
@@ -289,7 +277,7 @@ def test_a_trace_is_read_only_where_a_column_needs_one(put, tmp_path):
 
 def test_nothing_of_a_run_past_its_end(hand, put, tmp_path):
     for program in (PROGRAM, stand_in(put, tmp_path, 2)):
-        row, = rows_of(tool(hand, '--skip', '1s', '--csv', program=program).stdout)
+        row, = csv_rows(tool(hand, '--skip', '1s', '--csv', program=program).stdout)
         assert 'nothing of it is at or after 1 s' in row['status'] or row['goodput_bit_s'] == ''
 
 
@@ -361,7 +349,7 @@ def test_interrupted_and_resumed(jobs, hand, put, tmp_path):
     the same words with --resume go on with them."""
     program = put('program', SLEEPS, stat.S_IRWXU)
     file = tmp_path / 'rows.csv'
-    process = subprocess.Popen([sys.executable, SWEEP, hand, *STARTS, '-j', jobs, '-o', str(file), '--program', program],
+    process = subprocess.Popen([*SWEEP, hand, *STARTS, '-j', jobs, '-o', str(file), '--program', program],
                                stdout=subprocess.PIPE, stderr=subprocess.PIPE, text=True, start_new_session=True,
                                preexec_fn=lambda: signal.signal(signal.SIGINT, signal.default_int_handler))
     for _ in range(4):
@@ -369,15 +357,11 @@ def test_interrupted_and_resumed(jobs, hand, put, tmp_path):
     process.send_signal(signal.SIGINT)
     said = process.communicate(timeout=60)
     assert process.returncode == 130, said
-    until = time.monotonic() + 20
-    while time.monotonic() < until and subprocess.run(['ps', '-o', 'stat=', '-s', str(process.pid)], capture_output=True, text=True,
-                                                      check=False).stdout.replace('Z', '').strip():
-        time.sleep(.1)
-    assert not [line for line in subprocess.run(['ps', '-o', 'stat=,args=', '-s', str(process.pid)], capture_output=True, text=True,
-                                                check=False).stdout.splitlines() if not line.startswith('Z')]
+    until(lambda: not [line for line in clone.ran('ps', '-o', 'stat=', '-s', str(process.pid), text=True).stdout.splitlines()
+                       if not line.startswith('Z')], 'something runs on')
     assert not file.exists()
     journal, = tmp_path.glob('rows.csv.*.part')
-    there = rows_of(journal.read_text().removeprefix(FIRST_LINE))
+    there = csv_rows(journal.read_text().removeprefix(FIRST_LINE))
     assert 4 <= len(there) <= 5
     assert {row['status'] for row in there} == {'done'}
     program = put('program', f'#!/bin/sh\nexec "{PROGRAM}" "$@"\n', stat.S_IRWXU)
@@ -440,14 +424,12 @@ def test_where_the_time_went():
     """The parts are those of tcpsim-time, for each value; the whole is what the flow took."""
     scenario = os.path.join(TOP, 'examples', 'two_timeouts_in_a_row.txt')
     names = ['queue', 'rto', 'delack', 'serialization', 'propagation']
-    done = subprocess.run([sys.executable, SWEEP, scenario, '--set', 'a.lose=none,5,5+6', '--csv', '--show',
-                           ','.join(['f.took', 'f.time.total', *(f'f.time.{name}' for name in names)]), '--program', PROGRAM],
-                          capture_output=True, text=True, check=True)
+    done = tool(scenario, '--set', 'a.lose=none,5,5+6', '--csv', '--show',
+                ','.join(['f.took', 'f.time.total', *(f'f.time.{name}' for name in names)]))
     assert 'each run\'s trace is read, for f.time.total, f.time.queue' in done.stderr
-    for row in csv.DictReader(io.StringIO(done.stdout)):
+    for row in csv_rows(done.stdout):
         assert row['f.took_ns'] == row['f.time.total_ns'] == str(sum(int(row[f'f.time.{name}_ns']) for name in names))
     assert int(row['f.time.rto_ns']) > .98 * int(row['f.took_ns'])
     for more, why in ((['--skip', '1s'], 'leave --skip out'), (['--engine'], '--engine reads no trace')):
-        done = subprocess.run([sys.executable, SWEEP, scenario, '--show', 'f.time.rto', *more, '--program', PROGRAM], capture_output=True, text=True,
-                              check=False)
+        done = tool(scenario, '--show', 'f.time.rto', *more)
         assert done.returncode == 2 and why in done.stderr

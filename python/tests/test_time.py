@@ -1,43 +1,31 @@
 """Tests of tcpsim-time: its tables, its CSV, its paths and what it refuses. The paths themselves are in test_critical_path.py; files
 that are no scenarios or traces are in test_ends.py and test_inputs.py."""
-import csv
+import functools
 import html
-import io
-import os
 import re
 import subprocess
-import sys
 
 import pytest
 
-from clone import NAMES, PROGRAM, TOP, example, paths, read_text, tool
+import clone
+from clone import NAMES, PROGRAM, TOP, csv_rows, example, paths, read_text
 from tcpsim.breakdown import breakdowns
 from tcpsim.critical_path import critical_paths
 from tcpsim.scenario.text import Scenario
-
-sys.path.append(os.path.join(TOP, 'dev'))
 
 HEAD = 'flow,part,at,behind,doubled,ns,percent,alone'.split(',')
 PATH_HEAD = 'flow,line,time,event,number,at,part,part at,behind,ns'.split(',')
 
 
-def told(*words):
-    """What the tool writes; its status is 0, and it says nothing else."""
-    done = tool('time', *words)
-    assert (done.returncode, done.stderr) == (0, b''), done.stderr
-    return done.stdout.decode()
+told = functools.partial(clone.told, 'time')
 
 
 def rows(*words):
     """The rows of its CSV."""
-    return list(csv.DictReader(io.StringIO(told(*words, '--csv'))))
+    return csv_rows(told(*words, '--csv'))
 
 
-def refused(*words):
-    """The status and the sentence with which it is refused."""
-    done = tool('time', *words)
-    assert done.stdout == b'' and done.stderr.count(b'\n') == 1
-    return done.returncode, done.stderr.decode().removeprefix('tcpsim-time: ').rstrip()
+refused = functools.partial(clone.refusal, 'time')
 
 
 def test_bufferbloat_is_told():
@@ -100,7 +88,7 @@ def test_a_path_has_the_lines_of_the_trace(name):
     """Each event is the trace's line of its number: its time, its kind, its number; `tx` is an act of it. The spans of an event last
     from the one before it."""
     lines = example(name)[1]
-    found = list(csv.DictReader(io.StringIO(told(*paths(name), '--path', '--csv'))))
+    found = csv_rows(told(*paths(name), '--path', '--csv'))
     assert list(found[0]) == PATH_HEAD
     at = {}
     for row in found:

@@ -28,12 +28,10 @@ eight, over the same links; 1000 and 3000 are lost.
 """
 import math
 import os
-import subprocess
-import sys
 
 import pytest
 
-from clone import BIN, TOP, Folder
+from clone import TOP, Folder, tool
 
 from tcpsim.cli.flows import table
 from tcpsim.fairness import jain
@@ -312,9 +310,7 @@ class TestPictures(Folder):
 
     def draw(self, ending, *words):
         path = os.path.join(self.folder, 'picture' + ending)
-        done = subprocess.run([sys.executable, os.path.join(BIN, 'tcpsim-plot'), self.scenario, self.trace,
-                               '-o', path, *words], capture_output=True, text=True, check=False)
-        return done, path
+        return tool('plot', self.scenario, self.trace, '-o', path, *words, text=True), path
 
     def test_files_begin_as_their_kind_does(self):
         for ending, begin in (('.png', b'\x89PNG'), ('.svg', b'<?xml'), ('.pdf', b'%PDF')):

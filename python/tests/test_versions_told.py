@@ -6,11 +6,8 @@ import sys
 
 import pytest
 
-TOP = os.path.dirname(os.path.dirname(os.path.dirname(os.path.abspath(__file__))))
-BIN = os.path.join(TOP, 'bin')
-sys.path.insert(1, os.path.join(TOP, 'python'))
-
-from tcpsim import VERSIONS  # noqa: E402
+from clone import BIN, TOP
+from tcpsim import VERSIONS
 
 NAMES = sorted(os.listdir(BIN))
 # A module that is not there, and an end of Python's that takes a second.
