@@ -8,7 +8,8 @@ import os
 import re
 import textwrap
 
-TOP = os.path.dirname(os.path.dirname(os.path.abspath(__file__)))
+from clone import TOP, read_text
+
 PAGE = 'docs/LAWS.md'
 SOURCE = 'crates/run_laws/src/laws.rt'
 SPECS = ['crates/table_run/specs/Laws.antt'] + [f'crates/run_laws/specs/{it}' for it in sorted(os.listdir(f'{TOP}/crates/run_laws/specs')) if it != 'Lib.antt']
@@ -20,14 +21,9 @@ A statement comes with the definitions that it goes by, each where it is used fi
 '''
 
 
-def read(path):
-    with open(os.path.join(TOP, path), encoding='utf-8') as file:
-        return file.read()
-
-
 def laws():
     """Of each law its function, its words and its clauses."""
-    for words, name, clauses in re.findall(r'((?:^///.*\n)+)^pub fn (\w+)\(\)\n((?: +ensures .*\n)+)', read(SOURCE), re.M):
+    for words, name, clauses in re.findall(r'((?:^///.*\n)+)^pub fn (\w+)\(\)\n((?: +ensures .*\n)+)', read_text(SOURCE), re.M):
         yield name, ' '.join(re.findall(r'^/// ?(.*)', words, re.M)), re.findall(r'ensures (?:\w+ )?\{ (.*) \}', clauses)
 
 
@@ -35,7 +31,7 @@ def definitions():
     """The text of each definition with its comment, by its name, and the file that it is in."""
     found = {}
     for path in SPECS:
-        for block in re.split(r'\n\n+', read(path)):
+        for block in re.split(r'\n\n+', read_text(path)):
             name = re.search(r'^(?:abbrev |unfoldable )?pub (?:record |data )?(\w+)', block, re.M)
             if name and 'use ' not in block.split('\n', 1)[0]:
                 found[name[1]] = block.strip('\n'), path

@@ -10,7 +10,8 @@ import functools
 import os
 import re
 
-TOP = os.path.dirname(os.path.dirname(os.path.abspath(__file__)))
+from clone import TOP, read_text
+
 PAGE = os.path.join(TOP, 'docs', 'MEMORY.md')
 BEGIN, END = '<!-- {} of dev/memory_page.py -->\n', '<!-- its end -->'
 # Crates that have tests alone and what these run by, and the program, which has no call but `main`.
@@ -21,11 +22,6 @@ PLAIN = re.compile(r'(u8|u16|u32|u64|u128|usize|bool|Global|Time|Key|Break|Packe
 REFUSED, GOES_ON, TOLD = ('Calls that can be refused', 'Calls that go on without', 'Answers that name the refusal of another call')
 
 Call = collections.namedtuple('Call', 'crate file owner name taken answer clauses')
-
-
-def read_text(*path):
-    with open(os.path.join(TOP, *path), encoding='utf-8') as file:
-        return file.read()
 
 
 def crates():
@@ -226,7 +222,6 @@ def page(text):
 
 
 if __name__ == '__main__':
-    with open(PAGE, encoding='utf-8') as page_file:
-        now = page(page_file.read())
+    now = page(read_text(PAGE))
     with open(PAGE, 'w', encoding='utf-8') as page_file:
         page_file.write(now)

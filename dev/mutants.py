@@ -265,11 +265,24 @@ def sum_of(name):
     return taken.hexdigest()[:16]
 
 
-def kept():
-    """The rows of the record, by crate."""
-    with contextlib.suppress(FileNotFoundError), open(RECORD, encoding='utf-8', newline='') as file:
-        return {row['crate']: row for row in csv.DictReader(file)}
+def record(path, key):
+    """The rows of a record, by one of its fields."""
+    with contextlib.suppress(FileNotFoundError), open(path, encoding='utf-8', newline='') as file:
+        return {row[key]: row for row in csv.DictReader(file)}
     return {}
+
+
+def keep_record(path, fields, rows):
+    """Writes a record anew."""
+    with open(path, 'w', encoding='utf-8', newline='') as file:
+        table = csv.DictWriter(file, fields, lineterminator='\n')
+        table.writeheader()
+        table.writerows(rows)
+
+
+def kept():
+    """The rows of the mutants' record, by crate."""
+    return record(RECORD, 'crate')
 
 
 def keep(refused, names):
@@ -278,10 +291,7 @@ def keep(refused, names):
     for name in names:
         if refused.get(name) == len(edits_in(f'{TOP}/crates/{name}/mutants')):
             rows[name] = dict(zip(FIELDS, (name, sum_of(name), refused[name], datetime.date.today(), pass_gate.said('rt', 'version'))))
-    with open(RECORD, 'w', encoding='utf-8', newline='') as file:
-        table = csv.DictWriter(file, FIELDS, lineterminator='\n')
-        table.writeheader()
-        table.writerows(rows[name] for name in build.declared() if name in rows)
+    keep_record(RECORD, FIELDS, [rows[name] for name in build.declared() if name in rows])
 
 
 def changed(name, row):

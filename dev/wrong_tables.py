@@ -13,8 +13,6 @@ The status is 1 where a table was not refused.
 """
 import argparse
 import concurrent.futures
-import contextlib
-import csv
 import datetime
 import hashlib
 import os
@@ -28,6 +26,7 @@ import threading
 import build
 import laws_page
 import mutants
+from clone import read_text
 
 TABLES, RECORD, FIELDS = f'{build.TOP}/dev/wrong_tables.txt', f'{build.TOP}/bench/wrong_tables.csv', ('table', 'refused by', 'sum', 'date', 'toolchain')
 LAWS = 'run_laws'
@@ -79,27 +78,20 @@ class Table:
         for crate, pairs in self.pairs.items():
             texts, _ = mutants.made(pairs, f'{build.TOP}/crates/{crate}')
             for path, text in texts.items():
-                taken.update(f'{crate}/{path}\0{read(f"crates/{crate}/{path}")}\0{text}\0'.encode())
+                taken.update(f'{crate}/{path}\0{read_text(f"crates/{crate}/{path}")}\0{text}\0'.encode())
         for law in laws:
             taken.update('\0'.join(laws_page.statement(law)).encode() + b'\0')
         return taken.hexdigest()[:16]
 
 
-def read(path):
-    with open(f'{build.TOP}/{path}', encoding='utf-8') as file:
-        return file.read()
-
-
 def tables():
-    text = re.sub(r'^#.*\n', '', read('dev/wrong_tables.txt'), flags=re.M)
+    text = re.sub(r'^#.*\n', '', read_text('dev/wrong_tables.txt'), flags=re.M)
     return [Table(block) for block in re.split(r'\n\n+', text.strip('\n'))]
 
 
 def kept():
     """The rows of the record, by table."""
-    with contextlib.suppress(FileNotFoundError), open(RECORD, encoding='utf-8', newline='') as file:
-        return {row['table']: row for row in csv.DictReader(file)}
-    return {}
+    return mutants.record(RECORD, 'table')
 
 
 def is_kept(table, row):
@@ -113,10 +105,7 @@ def keep(table, laws, toolchain):
     rows.pop(table.name, None)
     if laws:
         rows[table.name] = dict(zip(FIELDS, (table.name, ' '.join(laws), table.sum(laws), datetime.date.today(), toolchain)))
-    with open(RECORD, 'w', encoding='utf-8', newline='') as file:
-        to = csv.DictWriter(file, FIELDS, lineterminator='\n')
-        to.writeheader()
-        to.writerows(rows[it.name] for it in tables() if it.name in rows)
+    mutants.keep_record(RECORD, FIELDS, [rows[it.name] for it in tables() if it.name in rows])
 
 
 def check_words(kit, libraries, sources, folder, laws):
