@@ -4,13 +4,12 @@ import os
 import pathlib
 import re
 import shutil
-import subprocess
-import sys
 import tempfile
 
 import pytest
 
-from clone import BIN, PROGRAM, TOP
+import clone
+from clone import PROGRAM, TOP
 
 EXAMPLE = pathlib.Path(TOP, 'examples', 'two_timeouts_in_a_row')
 OLD = 'what stood here before\n'
@@ -34,14 +33,7 @@ def words(tool, scenario='s.txt', trace='s.trace'):
     return [scenario, *([trace] if trace else []), *(['--flow', 'f', '--byte', '4000'] if tool == 'follow' else [])]
 
 
-def call(tool):
-    return [sys.executable, os.path.join(BIN, f'tcpsim-{tool}')]
-
-
-def run(tool, *given, cwd, **more):
-    """A tool's process, once it has ended; what it writes as bytes."""
-    more = {'stdin': subprocess.DEVNULL, 'stdout': subprocess.PIPE, 'stderr': subprocess.PIPE, 'timeout': PATIENCE, **more}
-    return subprocess.run([*call(tool), *given], cwd=cwd, check=False, **more)
+run = functools.partial(clone.tool, timeout=PATIENCE)
 
 
 @pytest.fixture

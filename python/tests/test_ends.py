@@ -21,8 +21,8 @@ import time
 
 import pytest
 
-from clone import TOP, until
-from seven_tools import (ENDINGS, EXAMPLE, MODULES, OLD, PATIENCE, PROGRAM, READERS, TOOLS, call, failed, is_told, place, run,
+from clone import TOP, ran, tool_words as call, until
+from seven_tools import (ENDINGS, EXAMPLE, MODULES, OLD, PATIENCE, PROGRAM, READERS, TOOLS, failed, is_told, place, run,
                          target, to_old, to_private, whole, words)
 
 from tcpsim.cli import net as command
@@ -140,10 +140,9 @@ def test_others_as_nobody(tool, mode, fails, place):
         path = target(moved, tool)
         to_old(path)
         path.chmod(mode)
-        done = subprocess.run(['/usr/bin/python3', *call(tool)[1:], *words(tool), '-o', path], cwd=moved, check=False,
-                              capture_output=True, preexec_fn=as_nobody, timeout=PATIENCE,
-                              env={**os.environ, 'TMPDIR': str(moved / 'out'), 'MPLCONFIGDIR': str(moved / 'out'),
-                                   'HOME': '/', 'PYTHONDONTWRITEBYTECODE': '1'})
+        done = ran('/usr/bin/python3', *call(tool)[1:], *words(tool), '-o', path, cwd=moved, preexec_fn=as_nobody,
+                   env={**os.environ, 'TMPDIR': str(moved / 'out'), 'MPLCONFIGDIR': str(moved / 'out'),
+                        'HOME': '/', 'PYTHONDONTWRITEBYTECODE': '1'})
         if fails:
             is_told(done, failed(tool), str(path), 'Permission denied')
         assert done.returncode == (failed(tool) if fails else 0), done.stderr
@@ -244,8 +243,7 @@ def test_closed_standard_output(tool, closed, place):
     """What cannot be said is no success, and no file gets what was to be said."""
     path = target(place, tool)
     given = words(tool) + (['-o', path] if tool in ('plot', 'replay') else [])
-    done = subprocess.run(['sh', '-c', f'exec "$@" {closed}', 'sh', *call(tool), *map(str, given)], cwd=place, check=False,
-                          stdin=subprocess.DEVNULL, capture_output=True, timeout=PATIENCE)
+    done = ran('sh', '-c', f'exec "$@" {closed}', 'sh', *call(tool), *given, cwd=place)
     if tool == 'plot':
         assert (done.returncode, done.stderr) == (0, b'')
     elif '2>' in closed:
@@ -273,8 +271,7 @@ def test_reader_that_has_seen_enough(tool, place):
 
 @pytest.mark.parametrize('tool, more', [('flows', '--csv'), ('flows', '--series=1ms'), ('stalls', '--longer=0'), ('time', '--csv'), ('follow', '--csv')])
 def test_reader_that_reads_a_line(tool, more, place):
-    done = subprocess.run(['bash', '-c', '"$@" | head -n 1; exit "${PIPESTATUS[0]}"', 'bash', *call(tool), *words(tool), more], cwd=place,
-                          check=False, capture_output=True, timeout=PATIENCE)
+    done = ran('bash', '-c', '"$@" | head -n 1; exit "${PIPESTATUS[0]}"', 'bash', *call(tool), *words(tool), more, cwd=place)
     assert done.returncode in (0, 128 + signal.SIGPIPE)      # 0 where all was written before
     assert (done.stderr, done.stdout.count(b'\n')) == (b'', 1)
 
@@ -283,8 +280,7 @@ def test_reader_that_reads_a_line(tool, more, place):
 def test_closed_standard_error(tool, place):
     """What is written is what is written else."""
     path = target(place, tool)
-    done = subprocess.run(['sh', '-c', 'exec "$@" 2>&-', 'sh', *call(tool), *words(tool), '-o', str(path)], cwd=place,
-                          check=False, stdin=subprocess.DEVNULL, capture_output=True, timeout=PATIENCE)
+    done = ran('sh', '-c', 'exec "$@" 2>&-', 'sh', *call(tool), *words(tool), '-o', path, cwd=place)
     assert (done.returncode, done.stderr) == (0, b'')
     assert path.read_bytes() == whole(tool)
     assert b' of 2 runs' not in done.stdout
@@ -393,9 +389,8 @@ def test_interrupted_at_any_line(tool, place):
     given = ['1' if word == '2' else word for word in given]        # a worker of a sweep would count its own lines
 
     def interrupted(at):
-        return subprocess.run([sys.executable, '-c', INTERRUPTED, str(at), *call(tool)[1:], *given], cwd=place, check=False,
-                              capture_output=True, timeout=PATIENCE, stdin=subprocess.DEVNULL,
-                              preexec_fn=lambda: signal.signal(signal.SIGINT, signal.default_int_handler))
+        return ran(sys.executable, '-c', INTERRUPTED, str(at), *call(tool)[1:], *given, cwd=place,
+                   preexec_fn=lambda: signal.signal(signal.SIGINT, signal.default_int_handler))
     count = int(interrupted(0).stderr.split()[-1])
     tried = sorted({1, 2, 3, 4, 5, *(int(count**(part / 12)) for part in range(12)), *range(count - 12, count + 1, 3)})
     statuses = []
@@ -656,8 +651,7 @@ def test_install(prefix, tmp_path):
         assert done.returncode == 0, done.stderr
         if target_name == 'install':
             for tool in TOOLS:
-                done = subprocess.run([sys.executable, folder / 'bin' / f'tcpsim-{tool}', '--help'], check=False,
-                                      capture_output=True, timeout=PATIENCE)
+                done = ran(sys.executable, folder / 'bin' / f'tcpsim-{tool}', '--help')
                 assert (done.returncode, done.stderr) == (0, b'')
                 assert done.stdout.startswith(f'usage: tcpsim-{tool} '.encode())
     assert not [path for path in tmp_path.rglob('*') if not path.is_dir()]

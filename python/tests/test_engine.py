@@ -122,9 +122,7 @@ class Files(Folder):
         return tool('flows', *words, '--program', program or PROGRAM, cwd=self.folder, **more)
 
     def lines(self, *words, **more):
-        done = self.run_flows(*words, **more)
-        assert (done.returncode, done.stderr) == (0, b'')
-        return done.stdout.decode().splitlines()
+        return clone.told('flows', *words, '--program', PROGRAM, cwd=self.folder, **more).splitlines()
 
     def csv(self, *words):
         return {tuple(row[:4]): row[4] for row in csv.reader(self.lines(*words, '--csv'))}
