@@ -12,21 +12,20 @@ import time
 
 import pytest
 
-from clone import TOP, csv_rows, told, tool, until
-
+import clone
+from clone import TOP, csv_rows, paths, told, tool, until
 import tcpsim
 from tcpsim.api.answers import Missing, PastDrop, WaitingPacket
 from tcpsim.api.events import Names, events_of
 from tcpsim.program import BUILT
 
-EXAMPLES = os.path.join(TOP, 'examples')
 ENGINES = ['model', pytest.param('program', marks=pytest.mark.skipif(
     not os.path.exists(BUILT) and not os.environ.get('CI'), reason='the program is not built: make run'))]
 MISTAKEN = 'sim 1000\nnode s sendr\n'
 
 
 def example(name):
-    return os.path.join(EXAMPLES, f'{name}.txt')
+    return paths(name)[0]
 
 
 def one():
@@ -35,8 +34,7 @@ def one():
 
 
 def trace_of(name):
-    with open(os.path.join(EXAMPLES, f'{name}.trace'), encoding='ascii') as file:
-        return file.read().splitlines()
+    return clone.example(name)[1]
 
 
 def ran(*words, **more):

@@ -5,35 +5,30 @@ import io
 import os
 import random
 import re
-import shutil
 import subprocess
 import sys
 from collections import Counter, deque
 
 import pytest
 
-from clone import TOP
-
+from clone import CHROMIUM, EXAMPLES, read_text
 import tcpsim
 from tcpsim.api import progress
 from tcpsim.program import BUILT
 
-EXAMPLES = os.path.join(TOP, 'examples')
 built = pytest.mark.skipif(not os.path.exists(BUILT) and not os.environ.get('CI'), reason='the program is not built: make run')
-CHROMIUM = shutil.which('chromium')
 NET = tcpsim.dumbbell(flows=2, rate='2M', rtt=['40ms', '80ms'], queue='droptail:20', end='6s')
 
 
 def codel_of_the_page():
-    with open(os.path.join(TOP, 'docs', 'PYTHON.md'), encoding='utf-8') as file:
-        code, = re.findall(r'^(from collections import deque\n.*?)^mine = ', file.read(), re.M | re.S)
+    code, = re.findall(r'^(from collections import deque\n.*?)^mine = ', read_text('docs', 'PYTHON.md'), re.M | re.S)
     names = {}
     exec(code, names)
     return names['CoDel']
 
 
 CODEL = codel_of_the_page()
-WITH_CODEL = sorted(path for path in glob.glob(f'{EXAMPLES}/*.txt') if ' codel ' in open(path, encoding='ascii').read())
+WITH_CODEL = sorted(path for path in glob.glob(f'{EXAMPLES}/*.txt') if ' codel ' in read_text(path))
 
 
 class Red:
