@@ -236,8 +236,8 @@ class TestWhatIsShown(Drawn):
         path = os.path.join(self.folder, 'picture.png')
         with open(path, 'wb') as file:
             file.write(b'\x89PNG\r\n\x1a\n\x00\xff')
-        self.refused(1, 'tcpsim-plot: ', path, self.hand[1])
-        self.refused(1, 'tcpsim-plot: ', self.hand[0], path)
+        self.refused(1, f'{path} is no scenario', path, self.hand[1])
+        self.refused(1, f'{path} is no trace', self.hand[0], path)
 
     def test_links_are_those_of_the_flow(self):
         text = STALL.replace('flow f', 'node t sender\nnode u receiver\nlink c t u 8000000 1000000 droptail 2\n'
