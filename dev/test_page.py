@@ -510,11 +510,19 @@ def test_a_byte_order_mark_is_taken_off_with_a_word(browser):
     assert 'byte order' not in opened_file(browser, 'plain.txt', text)
 
 
-# Opens a file of 16 MiB, and answers the longest time in which the page did nothing else, in ms, until the text is judged.
+# Opens a file of 16 MiB, and answers the longest time in which the page did nothing else until the text is judged, beside that of
+# going three times through as many letters. It is 0.6 to 2.4, and above 40 where the editor shows all.
+MOST_PASSES = 10
 LONGEST_STOP = """async part => {
   const verdict = document.getElementById('verdict'), old = verdict.textContent, seen = new Set();
   let longest = 0, last = performance.now(), on = true;
-  const file = new File([part.repeat(Math.ceil(2 ** 24 / part.length)).slice(0, 2 ** 24)], 'long.txt');
+  const letters = part.repeat(Math.ceil(2 ** 24 / part.length)).slice(0, 2 ** 24), file = new File([letters], 'long.txt');
+  const passes = () => {
+    const begun = performance.now();
+    let sum = 0;
+    for (let turn = 0; turn < 3; turn++) for (let k = 0; k < letters.length; k++) sum += letters.charCodeAt(k);
+    return sum && performance.now() - begun;
+  };
   const {port1, port2} = new MessageChannel();
   port1.onmessage = () => {
     const now = performance.now();
@@ -530,7 +538,7 @@ LONGEST_STOP = """async part => {
   seen.clear();
   while (!document.documentElement.dataset.judged) await new Promise(done => setTimeout(done, 20));
   on = false;
-  return {longest, judged: document.documentElement.dataset.judged, verdict: verdict.textContent, old: seen.has(old), size: simulator.editor.text.length,
+  return {longest: longest / passes(), judged: document.documentElement.dataset.judged, verdict: verdict.textContent, old: seen.has(old), size: simulator.editor.text.length,
     lines: simulator.editor.box.lineCount()};
 }"""
 
@@ -543,7 +551,7 @@ def test_16_mib_leave_the_page_answering(browser, part):
     told = browser.json(f'({LONGEST_STOP})({json.dumps(part)})')
     assert told['judged'] == '1' and told['size'] == 1 << 24 and not told['old'], told
     assert 'refused' in told['verdict'] and 'the editor shows the first' in told['verdict']
-    assert told['lines'] <= 1 << 14 and told['longest'] < 1500, told
+    assert told['lines'] <= 1 << 14 and told['longest'] < MOST_PASSES, told
     look(browser, 'long')
     # A scenario of that size runs.
     text = page_cases.read('examples', 'one_segment.txt').decode()
