@@ -323,8 +323,8 @@ def test_figures_begin_with_what_people_ask(browser):
     text = page_cases.read('examples', 'parking_lot_of_three_routers.txt').decode()
     said, tables = figures_of(browser, text)
     assert said[0] == 'Bottleneck: qu, 90.6 % utilized in 8.000 s.' and said[1].startswith("Jain's index of goodput: 0.8491, of 3 flows")
-    assert tables[0][1:] == [['fa', '64 kbit/s', '26.7 %', 'qu', '13.6 %', '2', '184 ms', '361 ms', '-'], ['fb', '113 kbit/s', '63.3 %', 'pq', '8.4 %', '3', '71 ms', '111 ms', '-'],
-                             ['fc', '189 kbit/s', '73.3 %', 'qu', '5.8 %', '1', '71 ms', '168 ms', '-']]
+    assert tables[0][1:] == [['fa', '64 kbit/s', '26.7 %', 'qu', '13.6 %', '2', '7', '184 ms', '361 ms', '-'], ['fb', '113 kbit/s', '63.3 %', 'pq', '8.4 %', '3', '18', '71 ms', '111 ms', '-'],
+                             ['fc', '189 kbit/s', '73.3 %', 'qu', '5.8 %', '1', '25', '71 ms', '168 ms', '-']]
     assert [row[0] for row in tables[1]] == ['link', 'pq', 'qu'] and len(tables[2]) == 15
     closed = browser.json('[...document.querySelectorAll("#figures-table details")].map(it => [it.open, it.firstChild.textContent])')
     assert closed == [[False, '14 links carried less than a tenth of the busiest, and dropped nothing'], [False, 'all figures, as the program counts them']]

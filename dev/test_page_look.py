@@ -535,6 +535,25 @@ def test_bars_go_by_one_rule(sized):
     browser.value('simulator.showTab("net")')
 
 
+def heads_of_flows(browser):
+    """The heads of the table of flows: what each says, and its tooltip."""
+    return browser.json('[...document.querySelectorAll("#figures-table > .table:first-of-type thead th")].map(e => [e.textContent, e.title])')
+
+
+def test_round_trips_that_were_timed_say_so(sized):
+    """A sender times one segment a round trip and none that it sent again: the table of flows says how many these are."""
+    browser = sized
+    choose(browser, 'lesson 10')
+    show(browser, 'figures')
+    heads = heads_of_flows(browser)
+    names = [name for name, _ in heads]
+    at = names.index('RTTs timed')
+    assert names[at:at + 3] == ['RTTs timed', 'least timed RTT', 'median of timed RTTs'] and 'RFC 6298 section 3' in heads[at][1]
+    cells = browser.json('[...document.querySelectorAll("#figures-table > .table:first-of-type tbody tr")].map(row => [...row.cells].map(e => [e.textContent, e.title]))')
+    assert [[text for text, _ in row[at:at + 3]] for row in cells] == [['8', '48.8 ms', '134 ms'], ['1', '58.2 ms', '58.2 ms']]
+    assert cells[0][at + 2][1] == '134,217,727 ns, of 8 that were timed'
+
+
 def test_an_axis_of_delays_says_seconds(sized):
     browser = sized
     choose(browser, 'lesson 10')

@@ -99,11 +99,11 @@ class Overview {
   flowRows() {
     return this.facts.flows.map(({name}, f) => {
       const goodput = this.goodputs[f], share = this.share(f), lost = this.lost(f), sent = this.of('flow', f, 'sent'), done = this.completed[f];
-      const least = this.of('flow', f, 'least round trip'), median = this.of('flow', f, 'median round trip');
+      const timed = this.of('flow', f, 'round trips'), trips = ['least', 'median'].map(which => this.of('flow', f, `${which} round trip`));
       return [name, goodput === null ? '-' : [rateText(+goodput.toPrecision(4)), `${number(Math.round(goodput))} bit/s`, goodput],
         share === null ? '-' : [percent(share), `of the bytes that ${this.facts.links[this.bottleneck(f)].name} sent`, share], this.facts.links[this.bottleneck(f)].name,
         lost === null ? '-' : [percent(lost / (sent || 1)), `${number(lost)} of ${number(sent)} segments`, lost / (sent || 1)], [number(this.of('flow', f, 'timeouts')), '', this.of('flow', f, 'timeouts')],
-        ...[least, median].map(trip => trip === null ? '-' : [waitText(trip), `${number(trip)} ns`, trip]), done === null ? '-' : [seconds(done, 3), `${number(done)} ns`, done]];
+        number(timed), ...trips.map(trip => trip === null ? '-' : [waitText(trip), `${number(trip)} ns, of ${number(timed)} that were timed`, trip]), done === null ? '-' : [seconds(done, 3), `${number(done)} ns`, done]];
     });
   }
   linkRows(links) {
@@ -119,7 +119,8 @@ class Overview {
 const percent = part => `${(100 * part).toFixed(1)} %`;
 const FLOW_HEADS = ['flow', ['goodput', 'bytes in order at the receiver, a second, from the flow\u2019s start to its completion or the end'], ['share', 'of the bytes that its bottleneck sent'],
   ['bottleneck', 'the busiest link on its way'], ['loss', 'the part of its segments that was dropped'], ['timeouts', 'how often its retransmission timer ended'],
-  ['least RTT', 'the least round trip that its sender measured'], ['median RTT', 'the median of the round trips that its sender measured'], ['complete at', 'when all its bytes were acknowledged']];
+  ['RTTs timed', 'how many round trips its sender timed: one segment at a time, and none that was sent again (RFC 6298 section 3). So the longer they are, the fewer are timed'],
+  ['least timed RTT', 'the least of these'], ['median of timed RTTs', 'of these, not of all segments'], ['complete at', 'when all its bytes were acknowledged']];
 const LINK_HEADS = ['link', ['utilization', 'the part of the time in which it sends'], ['median wait', 'in its queue'], ['99 % wait', 'the 99th percentile of the wait in its queue'],
   ['most waiting', 'packets in its queue at most'], ['dropped', 'packets'], ['loss', 'the part of the packets offered to it that was dropped']];
 
