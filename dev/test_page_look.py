@@ -554,6 +554,14 @@ def test_round_trips_that_were_timed_say_so(sized):
     assert cells[0][at + 2][1] == '134,217,727 ns, of 8 that were timed'
 
 
+def test_goodput_and_share_say_of_which_time(sized):
+    """In lesson 13 the flow with more goodput has the smaller share: it starts later, and the other sends more again."""
+    browser = sized
+    choose(browser, 'lesson 13')
+    show(browser, 'figures')
+    assert [name for name, _ in heads_of_flows(browser)][1:3] == ['goodput from its start', 'share of the whole run']
+
+
 def test_an_axis_of_delays_says_seconds(sized):
     browser = sized
     choose(browser, 'lesson 10')
