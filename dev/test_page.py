@@ -594,6 +594,12 @@ def test_long_runs_are_asked_about(browser):
         browser.click(element('#ask-figures'))
         browser.wait('document.getElementById("said").textContent.startsWith("the table only, in")')
         assert browser.value('!page && document.querySelectorAll("#figures-table table").length >= 5')
+        assert 'no trace of it was kept' in text_of(browser, '#nothing')
+        browser.click(element('#run'))
+        browser.wait('document.getElementById("ask").open')
+        browser.click(element('#ask-leave'))
+        browser.wait('document.getElementById("run").disabled === false')
+        assert text_of(browser, '#nothing') == 'ended'
         browser.click(element('#run'))
         browser.wait('document.getElementById("ask").open')
         browser.click(element('#ask-keep'))

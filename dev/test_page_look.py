@@ -898,6 +898,17 @@ def test_labels_say_what_is_done(sized):
     assert browser.json('[...document.querySelectorAll("#shelf label:last-of-type option")].map(e => e.textContent)') == ['1', '4 and their mean', '10 and their mean', '20 and their mean']
 
 
+def test_a_table_alone_says_that_nothing_was_traced(sized):
+    """In the net's place, with what to press for it."""
+    browser = sized
+    choose(browser, 'lesson 3')
+    run(browser, 'figures')
+    assert browser.value('document.getElementById("nothing").checkVisibility()')
+    assert re.search('no trace of it was kept, .* Press ▶ run', text_of(browser, '#nothing'))
+    look(browser, 'table_only')
+    run(browser)
+
+
 def test_compare_says_what_it_does_before_it_is_pressed(sized):
     browser = sized
     choose(browser, 'lesson 3')

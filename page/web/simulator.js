@@ -288,8 +288,12 @@ class Simulator {
     this.shelf.told();
     this.drawSoon(mine);
     byId('save-figures').disabled = false;
-    if (!mine.record) this.showTab('figures');
+    if (!mine.record) this.showTableOnly();
     return counted;
+  }
+  showTableOnly() {
+    byId('nothing').textContent = 'This run has a table of figures only: no trace of it was kept, so it has no net and no curves. Press ▶ run to see them.';
+    this.showTab('figures');
   }
   // Draws what is known of the run by now, once it is seen.
   drawSoon(run = this.undrawn) {
@@ -340,8 +344,9 @@ class Simulator {
       const counted = await mine.figures.ended;
       if (this.run !== mine) return;
       this.enable(false);
-      this.showTab('figures');
-      this.say(counted.why || counted.status ? this.reason(counted) : `the table only, in ${((performance.now() - mine.begun) / 1000).toFixed(2)} s`);
+      if (counted.why || counted.status) { this.say(byId('nothing').textContent = this.reason(counted)); return; }
+      this.showTableOnly();
+      this.say(`the table only, in ${((performance.now() - mine.begun) / 1000).toFixed(2)} s`);
     };
     dialog.showModal();
   }
@@ -360,7 +365,7 @@ class Simulator {
     if (run.figures) run.figures.stop();
     if (run.trace) run.trace.stop();
     this.enable(false);
-    this.say('ended');
+    this.say(byId('nothing').textContent = 'ended');
   }
 
   // ---- while a hand moves a number
