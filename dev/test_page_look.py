@@ -876,7 +876,8 @@ def test_cwnd_and_ssthresh_are_told_apart(sized):
 
 # What each says, and words of its tooltip, for who has not built the page.
 LABELS = {'run': ('▶ run', 'curves, trace and figures'), 'figures': ('▶ run, table only', 'no trace is kept'), 'stop': ('■ stop', 'stops the program'), 'pin': ('slider for a number', 'slider above the net'),
-          'template-open': ('new from a template', 'writes the scenario'), 'lecture-open': ('full screen (l)', 'whole screen'), 'fold': ('compact (f)', 'as short stubs')}
+          'template-open': ('new from a template', 'writes the scenario'), 'lecture-open': ('full screen (l)', 'whole screen'), 'fold': ('compact (f)', 'as short stubs'),
+          'save-image': ('scenario image (binary)', 'tcpsim asm')}
 
 
 def test_labels_say_what_is_done(sized):

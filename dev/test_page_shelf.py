@@ -172,7 +172,9 @@ def test_any_number_is_pinned(browser):
     assert not browser.value('document.getElementById("shelf").checkVisibility()')
     browser.value('simulator.editor.box.setCursor({line: 0, ch: 0})')
     browser.click(element('#pin'))
-    assert text_of(browser, '#said').startswith('put the cursor on a number')
+    how, button = browser.json('["pin-how", "pin"].map(id => document.getElementById(id).getBoundingClientRect())')
+    assert text_of(browser, '#pin-how').startswith('Put the cursor on a number') and abs(how['left'] - button['left']) < 2 and 0 < how['top'] - button['bottom'] < 8
+    look(browser, 'pin_how')
     for begin, k, name in (('link pq ', 5, 'pq delay 20 ms'), ('link pq ', 4, 'pq rate 300 kbit/s'), ('flow fa ', 7, 'fa receive window'), ('sim ', 1, 'the run ends at')):
         _, _, line, ch = place_of(browser, begin, k)
         browser.value(f'simulator.editor.box.focus(); simulator.editor.box.setCursor({{line: {line}, ch: {ch}}})')
@@ -182,7 +184,7 @@ def test_any_number_is_pinned(browser):
             browser.press('p', 1)
         else:
             browser.click(element('#pin'))
-        assert text_of(browser, '#shelf .pin.chosen output').startswith(name)
+        assert text_of(browser, '#shelf .pin.chosen output').startswith(name) and not browser.value('document.getElementById("pin-how").checkVisibility()')
     assert browser.value('document.querySelectorAll("#shelf .pin").length') == 4
     browser.click(element('#pin'))
     assert browser.value('document.querySelectorAll("#shelf .pin").length') == 4

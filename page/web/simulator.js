@@ -124,8 +124,12 @@ class Simulator {
     this.shelfGiven = this.shelf.text;
   }
   pin(at) {
-    if (!at || at.name === 'lose') this.say(`put the cursor on a number of the scenario, and then add its slider${at ? '; that of a lost packet can have none' : ''}`);
-    else this.shelf.pin(at);
+    const how = byId('pin-how'), lacks = !at || at.name === 'lose', {left, bottom} = byId('pin').getBoundingClientRect();
+    how.textContent = `${at ? 'That of a lost packet can have no slider. ' : ''}Put the cursor on a number of the scenario, as a rate, a delay or a queue\u2019s capacity, and press this again.`;
+    how.togglePopover(lacks);
+    if (!lacks) { this.shelf.pin(at); return; }
+    how.style.left = `${Math.max(8, Math.min(left, innerWidth - how.offsetWidth - 8))}px`;
+    how.style.top = `${bottom}px`;
   }
   // An example that differs from a text by its queues alone.
   twinOf(text) {
