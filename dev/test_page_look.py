@@ -216,6 +216,29 @@ def test_a_net_without_room_scrolls(sized, width):
     assert browser.json('page.net.svg.on("wheel.zoom") ? 1 : 0') == (0 if larger[-1] else 1)
 
 
+@pytest.mark.parametrize('colours', ['light', 'dark'])
+def test_a_pressed_button_is_no_hovered_one(chromium, colours):
+    """What is pressed is filled, wherever the mouse is; a button below it, or the chosen tab, is not."""
+    browser = chromium
+    browser.size(1400, 900)
+    try:
+        scheme(browser, colours)
+        choose(browser, 'lesson 17')
+        ground = lambda css: browser.value(f'getComputedStyle({element(css)}).backgroundColor')  # noqa: E731
+        accent, paper = (rgb(looks.PAGE[name][colours == 'dark']) for name in ('accent', 'raised'))
+        for css, here in (('#fold', accent), ('[data-panel=lengths]', accent), ('[data-panel=windows]', None), ('#help', None)):
+            browser.mouse('moved', *browser.middle(element('#where')))
+            settle(browser)
+            before = ground(css)
+            browser.mouse('moved', *browser.middle(element(css)))
+            settle(browser)
+            assert browser.value(f'{element(css)}.matches(":hover")')
+            assert (before, ground(css)) == (accent, accent) if here else before == paper and ground(css) not in (paper, accent), css
+        look(browser, f'hovered_{colours}')
+    finally:
+        scheme(browser, 'light')
+
+
 def test_focus_is_seen_everywhere(chromium):
     """Each stop of the Tab key has an outline of two pixels or more. (A headless Firefox's window has no focus.)"""
     browser = chromium
@@ -822,6 +845,16 @@ def test_a_dropped_packet_is_its_flows_and_crossed_out(sized):
         assert all(fill == flow != cross and wide > 6 for fill, flow, _, wide, cross in crosses)
         assert all(abs(one[2] - two[2]) >= one[3] for one, two in zip(crosses, crosses[1:])), crosses
         look(browser, f'dropped_{example}')
+
+
+def test_boxes_of_flows_and_links_say_what_they_are_of(sized):
+    """Above the curves of a run and of two, with a word before them."""
+    browser = sized
+    choose(browser, 'lesson 17')
+    show(browser, 'compare')
+    browser.value('simulator.showTab("net")')
+    for place, word in (('flows', 'flows'), ('links', 'links'), ('both-flows', 'flows'), ('both-links', 'links')):
+        assert browser.value(f'getComputedStyle(document.getElementById("{place}"), "::before").content') in (f'"{word}" ":"', f'"{word}:"'), place
 
 
 def test_a_flow_whose_box_is_empty_is_in_no_panel(sized):
