@@ -234,7 +234,7 @@ class Compare {
       box.addEventListener('change', () => this.drawCharts());
       text.textContent = name;
       label.title = `shows or hides ${id === 'flows' ? 'flow' : 'link'} ${name} in the panel`;
-      text.style.borderBottom = `3px solid ${colour(k)}`;
+      text.style.borderBottom = `3px solid ${colour(name)}`;
       label.append(box, text);
       place.append(label);
       return box.checked;
@@ -244,25 +244,25 @@ class Compare {
   *drawingCharts() {
     const {records} = this, time = this.clock ? this.clock.time : 0, begin = Math.min(...records.map(it => it.times[0]));
     const span = {times: [begin, Math.max(...records.map(it => it.times[it.count]))], count: 1, facts: {whole: true, end: Math.max(...records.map(({facts}) => facts.end))}};
-    const names = (what, order) => [...new Set(records.flatMap(record => order(record).map(k => record.facts[what][k].name)))];
-    const flows = names('flows', record => d3.range(record.facts.flows.length));
+    const names = (what, order = record => d3.range(record.facts[what].length)) => [...new Set(records.flatMap(record => order(record).map(k => record.facts[what][k].name)))];
+    const flows = names('flows'), every = names('links'), ofFlow = name => colourOf(flows.indexOf(name)), ofLink = name => linkColourOf(every.indexOf(name));
     const links = names('links', record => d3.range(record.facts.links.length).sort((a, b) => record.longest[b] - record.longest[a] || a - b));
-    const draw = (svg, title, what, all, chosen, colour, curve) => {
+    const draw = (svg, title, what, chosen, colour, curve) => {
       const node = this.at(svg), before = node.parentNode.querySelector('.present');
       d3.select(node).selectAll('*').remove();
       if (before) before.remove();
       const chart = new Chart(d3.select(node), span, [title, title.split(':')[0]], at => this.clock.jump(at));
       chart.show([{series: chosen.flatMap(name => records.flatMap((record, k) => {
         const i = record.facts[what].findIndex(one => one.name === name);
-        return i < 0 ? [] : [{curve: curve(record, i), colour: colour(all.indexOf(name)), dash: [SOLID, DASHED][k], name: `${name}, ${record.facts.title}`}];
+        return i < 0 ? [] : [{curve: curve(record, i), colour: colour(name), dash: [SOLID, DASHED][k], name: `${name}, ${record.facts.title}`}];
       }))}]);
       chart.mark(time);
       return chart;
     };
     const said = 'solid the first run, dashed the second';
-    this.charts[0] = draw('windows', `cwnd in bytes: ${said}`, 'flows', flows, this.ticked('flows', flows, 2, colourOf), colourOf, (record, f) => record.curve(record.ofFlow(f, CWND)));
+    this.charts[0] = draw('windows', `cwnd in bytes: ${said}`, 'flows', this.ticked('flows', flows, 2, ofFlow), ofFlow, (record, f) => record.curve(record.ofFlow(f, CWND)));
     yield;
-    this.charts[1] = draw('lengths', `packets that wait: ${said}`, 'links', links, this.ticked('links', links, 1, linkColourOf), linkColourOf, (record, l) => record.queueCurve(l));
+    this.charts[1] = draw('lengths', `packets that wait: ${said}`, 'links', this.ticked('links', links, 1, ofLink), ofLink, (record, l) => record.queueCurve(l));
   }
   // Where the runs part, and a button that goes there in both nets.
   async sayParting([one, two], token) {
