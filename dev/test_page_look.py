@@ -883,6 +883,52 @@ def test_a_flow_has_one_colour(sized):
     assert len(areas) == 4 and sorted(areas) == sorted(signs) and {*map(tuple, (it[1:] for it in areas))} == {('1', '1')}
 
 
+def test_a_queue_has_flows_alone(sized):
+    """In its lane nothing is drawn but the packets of the flows that the key names: no line of the link's, until it is of a run before."""
+    browser = sized
+    choose(browser, 'lesson 17')
+    browser.value('page.panels.choose([["lengths", "pq", "qu"]])')
+    colours, key = browser.json('''[[...page.panels.charts.lengths.curves.node().children].map(e => getComputedStyle(e)[e.matches('.area') ? 'fill' : 'stroke']),
+      [...document.querySelectorAll('#lengths .flow')].map(e => getComputedStyle(e).fill)]''')
+    assert {*colours} == {*key} and len(colours) == 4 and len(key) == 3
+    browser.value('page.replace(page.record)')
+    assert browser.value('document.querySelectorAll("#lengths [stroke-dasharray]").length') == 2
+
+
+def test_a_link_has_one_colour(sized):
+    """Beside its box and below its name, above the curves of one run and of two."""
+    browser = sized
+    choose(browser, 'lesson 17')
+    browser.value('page.panels.choose([["lengths", "pq", "qu"]])')
+    boxes = '[...document.querySelectorAll("#%s label")].map(e => [e.textContent, getComputedStyle(e.lastChild)]).map(([name, style]) => [name, style.borderBottomStyle, style.borderBottomColor])'
+    alone = browser.json(boxes % 'links')
+    names = browser.json('[...document.querySelectorAll("#lengths .lane")].map(e => [e.textContent, "solid", getComputedStyle(e.nextSibling).fill])')
+    show(browser, 'compare')
+    both = browser.json(boxes % 'both-links')
+    assert len(both) == 16 and sorted(both) == sorted(alone) and [name for name, *_ in names] == ['pq', 'qu'] and all(it in alone for it in names)
+    look(browser, 'links_of_both')
+    browser.value('simulator.showTab("net")')
+
+
+def test_names_of_lanes_lie_over_no_curve(sized):
+    """They stand before the axis and its labels; one without room is cut, and its tooltip has it whole."""
+    browser = sized
+    for width in SIZES:
+        browser.size(width, SIZES[width], mobile=width < 500)
+        choose(browser, 'lesson 17')
+        browser.value('page.panels.choose(["windows", ["lengths", "pq", "qu"]])')
+        settle(browser)
+        for panel, lanes in (('windows', 3), ('lengths', 2)):
+            names, labels, curves = browser.json(f'''['.lane', '.axis text', '.area, path[stroke]'].map(css => [...document.querySelectorAll(`#{panel} ${{css}}`)].map(e => e.getBoundingClientRect()).filter(e => e.width))''')
+            assert len(names) == lanes, (width, panel)
+            assert not [1 for one in names for other in labels if one['right'] > other['left'] and one['bottom'] > other['top'] + 2 and other['bottom'] > one['top'] + 2], (width, panel)
+            assert max(it['right'] for it in names) < min(it['left'] for it in curves), (width, panel)
+        look(browser, f'lanes_{width}')
+    part, told, whole = browser.json('''((chart, lanes) => { lanes[0].name = 'a'.repeat(80); chart.show(lanes); const text = chart.names.node().querySelector('.lane');
+      return [text.getComputedTextLength() / chart.wide, text.firstChild.data, text.querySelector('title').textContent]; })(page.panels.charts.windows, page.panels.charts.windows.lanes)''')
+    assert part <= .21 and told.endswith('a\u2026') and whole == 'a' * 80
+
+
 def test_cwnd_and_ssthresh_are_told_apart(sized):
     """The title says which is thick, also where two flows have a longer key; and ssthresh lies at no panel's edge."""
     browser = sized

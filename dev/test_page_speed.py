@@ -32,7 +32,7 @@ RUN = '--rate', '50M', '--rtt', '20ms', '--queue', 'droptail:50', '--flows'
 SEEN = '''(() => {
   const all = css => [...document.querySelectorAll(css)].map(it => it.textContent + (it.getAttribute('d') || '')).join('|');
   return document.getElementById('replay') && getComputedStyle(document.getElementById('replay')).visibility === 'visible' ?
-    ['#net .node .name, #net .queue > title', '#charts .outline, #flows', '#where', '#lines li:not([hidden])'].map(all) : null;
+    ['#net .node .name, #net .queue > title', '#charts .area, #flows', '#where', '#lines li:not([hidden])'].map(all) : null;
 })()'''
 # What each frame shows until a script is done.
 FRAMES = '''(async () => {

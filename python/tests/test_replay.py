@@ -565,11 +565,11 @@ class TestInBrowser(WithBrowser):
 
     def test_ticks_draw_curves(self):
         self.browser.open(self.made('parking_lot_of_three_routers'))
-        paths = 'document.querySelectorAll("{} path[stroke]").length'.format
-        assert (self.browser.value(paths('#windows')), self.browser.value(paths('#lengths'))) == (6, 2)
+        drawn = 'document.querySelectorAll("#windows path[stroke], #lengths .area").length'
+        assert self.browser.value(drawn) == 6 + 4        # the packets of two flows wait at each link
         self.browser.click('document.querySelector("#flows input")')
         self.browser.click('document.querySelector("#links input")')
-        assert (self.browser.value(paths('#windows')), self.browser.value(paths('#lengths'))) == (4, 1)
+        assert self.browser.value(drawn) == 4 + 2
 
     def test_curves_are_the_traces(self):
         """cwnd at each sender's line, and the greatest length of each queue."""

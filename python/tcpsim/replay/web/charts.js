@@ -10,6 +10,7 @@ const DASHES = ['', '7 3', '2 3', '9 3 2 3'];
 const LEAST_LANE = 34, LETTERS_OF_LANE = 1.6, LANE_GAP = 5;    // pixels: of a lane's height, which has so many letters' too, and between two
 const AFTER_LAST = 0.03;                    // what the axis of time has behind the last event, as a part of the span, to see what that one does
 const NEAR = 1.25, EDGE = 3;            // what is thin counts for the scale up to so much above the rest; nothing thin is drawn so near to the frame, in pixels
+const MOST_OF_NAME = 0.2;               // of a chart's width, that a lane's name may have
 const OWN_SCALE = 5;                    // a lane with values smaller than the others' by this has an axis of its own
 const TOGETHER = 4;                     // marks of a kind that are no further apart are one
 const MARK = 4, KEY_SIGN = 26;          // half of a mark's width; what the key's signs take beside their words
@@ -157,7 +158,7 @@ class Chart {
   within(time) { return this.x(Math.min(this.x.domain()[1], Math.max(this.x.domain()[0], time))); }
 
   // Each lane is {name, colour, series, bands, marks}. Of `series` each is {curve, colour, dash, thin, name}, or {dots, ..} with points,
-  // or {area, ..} with [time, from, to] of each column; of `bands` a span that is shaded, {kind, from, to, name, whose}, in a strip above the
+  // or {area, ..} with [time, from, to] of each column; one with `behind` counts for the scale, and is drawn once it is of a run before; of `bands` a span that is shaded, {kind, from, to, name, whose}, in a strip above the
   // curves where it says `whose` it is, {name, mark, colour}; of `marks` a moment, {kind, time, value, name}. `key` has [kind, words, colour] of bands, marks and flows. Lanes that have no room are one, in which the
   // first is before the others in grey.
   show(lanes, key = []) {
@@ -180,27 +181,31 @@ class Chart {
       // Below another lane its highest label would lie over that one's lowest.
       axis.selectAll('text').filter(value => value && y(value) < from + (k ? 0.9 : 0.6) * this.letters).remove();
     });
-    const left = Math.max(CHART.left, this.widestOf(this.axes) + BESIDE_AXIS);
+    const names = kept.length > 1 ? d3.max(this.lanes, lane => this.drawName(lane)) : 0, left = Math.max(CHART.left, this.widestOf(this.axes) + BESIDE_AXIS + names);
     if (left !== this.leftOf) { this.layTime(left); this.mark(this.time); }
     this.axes.attr('transform', `translate(${this.x.range()[0]},0)`);
-    for (const one of this.lanes) this.drawLane(one, kept.length);
+    for (const one of this.lanes) this.drawLane(one);
   }
   // All lanes in one: the first, and of the others what is drawn most, in grey behind it.
   together([first, ...others]) {
     const grey = others.flatMap(({series}) => series.filter(s => !s.thin).map(s => ({...s, colour: GREY})));
     return {...first, series: [...grey, ...first.series]};
   }
-  drawLane({name, colour, series, bands = [], marks = [], strips, row, y, from, to}, count) {
+  // A lane's name before its axis, as far as there is room for it; answers what that takes.
+  drawName({name, colour, from}) {
+    const text = this.names.append('text').attr('class', 'lane').attr('x', 2).attr('y', from + this.letters).text(name);
+    for (let k = name.length - 1; k && this.widthOf(text) > MOST_OF_NAME * this.wide; k--) text.text(`${name.slice(0, k)}…`);
+    const wide = this.widthOf(text);
+    if (text.text() !== name) text.append('title').text(name);
+    this.names.append('rect').attr('x', 2).attr('y', from + this.letters + 2).attr('width', wide).attr('height', 3).attr('fill', colour);
+    return wide + 2;
+  }
+  drawLane({series, bands = [], marks = [], strips, row, y, from, to}) {
     const line = () => d3.svg.line().x(p => this.x(p[0])).y(p => Math.max(from, y(p[1]))).interpolate('step-after');
     for (const {kind, from: begin, to: end, name: words} of bands.filter(({whose}) => !whose)) this.drawBand(kind, words, begin, end, from, to - from);
     strips.forEach((strip, k) => this.drawStrip(strip, bands.filter(({whose}) => whose && whose.name === strip.name), from - (strips.length - k) * row, row - 2));
     for (const one of series) this.curveOf(one, y, line(), from);
     this.drawMarks(marks, y, from, to);
-    if (name && count > 1) {
-      const text = this.names.append('text').attr('class', 'lane').attr('x', this.x.range()[0] + 6).attr('y', from + this.letters).text(name);
-      if (colour) this.names.append('rect').attr('x', this.x.range()[0] + 6).attr('y', from + this.letters + 2).attr('width', this.widthOf(text))
-        .attr('height', 3).attr('fill', colour);
-    }
   }
   drawBand(kind, words, begin, end, top, tall) {
     const x = this.within(begin), wide = Math.max(1, this.within(end) - x);
@@ -222,7 +227,8 @@ class Chart {
       if (until > end || taken.some(([one, other]) => begin < other && one < until)) word.remove(); else taken.push([begin, until]);
     }
   }
-  curveOf({curve, dots, area, colour, dash, thin, before, outline, name}, y, line, from) {
+  curveOf({curve, dots, area, colour, dash, thin, before, behind, name}, y, line, from) {
+    if (behind) return;
     const path = this.curves.append('path');
     if (area)
       path.attr('class', 'area').style('fill', colour).attr('d', area.map(([x, low, high]) => `M${x} ${y(low).toFixed(1)}V${y(high).toFixed(1)}h1.02V${y(low).toFixed(1)}z`).join(''));
@@ -234,7 +240,7 @@ class Chart {
       // What is thin does not count for the scale: where it is above the frame it is not drawn, as a line there would be read as a value.
       if (thin && !before) line.defined(([, value]) => y(value) >= from + EDGE);
       path.attr('d', points.length ? line(points) : null).attr('stroke', colour).attr('stroke-dasharray', dash || null).attr('stroke-width', thin ? 1 : 1.7)
-        .attr('class', thin ? 'thin' : outline ? 'outline' : null);
+        .attr('class', thin ? 'thin' : null);
     }
     path.append('title').text(name);
   }

@@ -109,7 +109,7 @@ const PANELS = {
   lengths: {says: 'queues', of: 'links', titles: [LOOKS.panels.queue, 'packets that wait'],
     lane: (record, l, x) => ({name: record.facts.links[l].name, colour: linkColourOf(l), marks: dropMarks(record, ({link}) => link === l), series: [
       ...stacked(record, l, x).map((area, f) => ({area, most: 0, flow: f, colour: colourOf(f), name: `packets of ${flowName(record, f)} in the queue of ${record.facts.links[l].name}`})).filter(({area}) => area.length),
-      {curve: record.queueCurve(l), colour: linkColourOf(l), outline: true, name: `queue of ${record.facts.links[l].name}`}]})},
+      {curve: record.queueCurve(l), colour: linkColourOf(l), behind: true, name: `queue of ${record.facts.links[l].name}`}]})},
   delays: {says: 'delay', of: 'links', hides: 'flows', whole: false, text: ns => ns ? waitText(ns) : '0', titles: [LOOKS.panels.delay, 'delay of each packet', 'delay'], lane: (record, l, x, flows) => {
     const track = record.tracks[l], of = record.facts.flows.map(() => ({times: [], values: []})), shown = new Set(flows);
     for (let k = 0; k < track.gone; k++) { const entry = track.entryOf(k), one = of[track.flow[entry]]; one.times.push(track.entered(entry)); one.values.push(track.begun(k) - track.entered(entry)); }
@@ -138,7 +138,7 @@ function* lanesOf({lanes, lane}, record, ones, ...more) {
 function dashed(series, x) {
   const end = x.domain()[1], upTo = ({times, values}) => { const k = d3.bisectRight(times, end); return {times: times.slice(0, k), values: values.slice(0, k)}; };
   return series.filter(({dots, area, thin}) => !dots && !area && !thin)
-    .map(one => ({...one, curve: upTo(one.curve), dash: BEFORE, thin: true, before: true, outline: false, name: `${one.name}, before`}));
+    .map(one => ({...one, curve: upTo(one.curve), dash: BEFORE, thin: true, before: true, behind: false, name: `${one.name}, before`}));
 }
 
 class Panels {
@@ -178,7 +178,7 @@ class Panels {
       box.addEventListener('change', () => this.draw(id));
       Object.assign(text, {textContent: name, className: 'dash'});
       label.title = `shows or hides ${id === 'flows' ? 'flow' : 'link'} ${name} in the panels; pressed twice, the name comes before the others`;
-      text.style.borderBottom = `3px ${lineStyle(k)} ${colour}`;
+      text.style.borderBottom = `3px ${id === 'flows' ? lineStyle(k) : 'solid'} ${colour}`;
       text.addEventListener('dblclick', () => { this.first[id] = k; this.draw(id); });
       label.append(box, text);
       label.hidden = place >= MOST_NAMES;
