@@ -15,7 +15,7 @@ const ON_PAGE = {edge: 8, round: 12, row: 109, beside: 9, least: 245, mostName: 
 // links are shorter; where it is long, their ends keep their words above each other.
 const ON_SLIDE = {...ON_PAGE, round: 8, least: 150, mostName: 170, mark: 11, between: 3,
   stub: {...ON_PAGE.stub, upper: -30, lower: 16, row: 32, reach: [27, 29]}};
-const ON_LONG_SLIDE = {...ON_SLIDE, edge: 3, stub: {...ON_SLIDE.stub, node: 26}, row: 142, least: 84, router: 28, node: 30, end: 22,
+const ON_LONG_SLIDE = {...ON_SLIDE, edge: 2, stub: {...ON_SLIDE.stub, node: 26, length: 26}, row: 142, least: 84, router: 28, node: 30, end: 22,
   kinds: false, counts: 'apart', name: -56, dropped: 65};
 const SLIDE_LETTERS = 24, PAGE_LETTERS = 12, LETTERS = 12;       // the least that letters are on a slide and on a page, in pixels, and in units
 const NAME_SIZE = 15, MOST_NAME_SIZE = 21, LEAST_NAME = 12;        // of nodes: units, units, and pixels of the screen

@@ -2,11 +2,11 @@
 // The net: links as two lines side by side, queues as rows of boxes at their ports, packets on their way,
 // drops that fall. What is drawn says its numbers in data- attributes.
 
-const NAMES_WIDE = [94, 130];           // units of a name's line on a slide with a long net, whichever makes it larger
+const NAMES_WIDE = [64, 94, 130];           // units of a name's line on a slide with a long net, whichever makes it larger
 const DECK = 9, MOST_IN_A_DECK = 5;    // how far apart drops of one event lie
 const CROSS = 'm-4-3l1-1 3 3 3-3 1 1-3 3 3 3-1 1-3-3-3 3-1-1 3-3z';       // a drop's mark, 8 units wide
 // Of a queue: squares at least, and what it takes of its link besides these and its count, and besides its count alone.
-const LEAST_BOXES = 4, QUEUE_ROOM = 20, APART_ROOM = 8;
+const LEAST_BOXES = 4, QUEUE_ROOM = 16, APART_ROOM = 8;
 const EDGE_OF_ROOM = 80;                // pixels that are shown beside a node to which the room scrolls
 const MOST_BOXES = 30, MOST_ON_A_LINK = 240, MOST_FALLING = 12;
 // Packets carry their flow's mark besides its colour.
