@@ -119,7 +119,7 @@ class Overview {
 const percent = part => `${(100 * part).toFixed(1)} %`;
 const FLOW_HEADS = ['flow', ['goodput from its start', 'bytes in order at the receiver, a second, from the flow\u2019s own start to its completion or the end'],
   ['share of the whole run', 'of the bytes that its bottleneck sent from the run\u2019s begin to its end, with headers and what was sent again'],
-  ['bottleneck', 'the busiest link on its way'], ['loss', 'the part of its segments that was dropped'], ['timeouts', 'how often its retransmission timer ended'],
+  ['bottle\u00adneck', 'the busiest link on its way'], ['loss', 'the part of its segments that was dropped'], ['time\u00adouts', 'how often its retransmission timer ended'],
   ['RTTs timed', 'how many round trips its sender timed: one segment at a time, and none that was sent again (RFC 6298 section 3). So the longer they are, the fewer are timed'],
   ['least timed RTT', 'the least of these'], ['median of timed RTTs', 'of these, not of all segments'], ['complete at', 'when all its bytes were acknowledged']];
 const LINK_HEADS = ['link', ['utilization', 'the part of the time in which it sends'], ['median wait', 'in its queue'], ['99 % wait', 'the 99th percentile of the wait in its queue'],

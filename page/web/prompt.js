@@ -55,9 +55,9 @@ class Prompt {
     const form = document.createElement('form'), label = document.createElement('label'), button = document.createElement('button');
     label.textContent = 'tcpsim debug> ';
     this.line = document.createElement('input');
-    Object.assign(this.line, {autocomplete: 'off', autocapitalize: 'off', spellcheck: false, placeholder: 'help; stalls; step 3; until 2s; break drop; run; display flow 0'});
+    Object.assign(this.line, {autocomplete: 'off', autocapitalize: 'off', spellcheck: false, placeholder: 'help; step 3; run'});
     Object.assign(button, {textContent: 'do it', title: 'gives the command to the program (Enter)'});
-    this.line.title = 'a command of the prompt; Tab completes it, and the arrow keys bring earlier ones';
+    this.line.title = 'a command of the prompt, as help, stalls, step 3, until 2s, break drop, run, display flow 0; Tab completes it, and the arrow keys bring earlier ones';
     label.append(this.line);
     form.append(label, button);
     this.completion = new Completion(this.line, command => this.ask(command), facts);

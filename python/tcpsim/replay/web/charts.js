@@ -7,7 +7,7 @@ const UNDER_AXIS = 1.7;                 // the room below a chart, as a part of 
 const BESIDE_AXIS = 10;                 // what an axis' ticks take beside their labels
 const TICKS = [8, 6, 5, 4, 3, 2, 1];
 const DASHES = ['', '7 3', '2 3', '9 3 2 3'];
-const LEAST_LANE = 34, LETTERS_OF_LANE = 1.6, LANE_GAP = 5;    // pixels: of a lane's height, which has so many letters' too, and between two
+const LEAST_LANE = 32, LETTERS_OF_LANE = 1.6, LANE_GAP = 5;    // pixels: of a lane's height, which has so many letters' too, and between two
 const AFTER_LAST = 0.03;                    // what the axis of time has behind the last event, as a part of the span, to see what that one does
 const NEAR = 1.25, EDGE = 3;            // what is thin counts for the scale up to so much above the rest; nothing thin is drawn so near to the frame, in pixels
 const MOST_OF_NAME = 0.2;               // of a chart's width, that a lane's name may have
