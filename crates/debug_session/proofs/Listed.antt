@@ -1,9 +1,10 @@
 -- The number of a breakpoint, or of a display.
-use Rattle.std.proofs.Common.{◌≡◌, ◌<◌, ◌≤◌, ◌+◌, ◌∙◌, ⊎_elim, ℕ, List, ◌∷◌, ◌++◌, length, take, drop, get_or, sym, ap, subst, arith}
+use Rattle.std.proofs.Common.{◌≡◌, ◌<◌, ◌≤◌, ◌+◌, ◌∙◌, ◌⊎◌, ⊎_elim, ℕ, List, ◌∷◌, ◌++◌, length, take, drop, get_or, sym, ap, subst, arith, length-append}
 use Rattle.std.proofs.lemmas.Bool.{cases_lt}
 use Rattle.std.proofs.lemmas.List.{length-take-le, take-append-drop, drop_more, get_or-take, take_all}
 use Rattle.std.specs.List.{Contains}
-use Rattle.debug_session.specs.Numbered.{IsNumber}
+use Rattle.std.proofs.Math.Seq.{get_or-append_seam}
+use Rattle.debug_session.specs.Numbered.{IsNumber, HasNumber}
 
 -- the first of so many that is this one has the number behind those before it
 pub is_number : {A : Type 0} (xs : List A) (x : A) (i n : ℕ) → i < length xs → ¬ Contains (take i xs) x → Contains (take (i + 1) xs) x → n ≡ i + 1 → IsNumber xs x n
@@ -25,3 +26,14 @@ is_number xs x i n within before has count =
 
 pub nowhere : {A : Type 0} (xs : List A) (x : A) (i : ℕ) → length xs ≤ i → ¬ Contains (take i xs) x → ¬ Contains xs x
 nowhere xs x i past before = λ has. before (subst (λ bs. Contains bs x) (sym (take_all i xs past)) has)
+
+-- what has a number is there
+pub is_there : {A : Type 0} (xs : List A) (x : A) (i : ℕ) → IsNumber xs x i → Contains xs x
+is_there xs x i n = (
+  length n.before,
+  omega (arith, ap length n.parted, length-append n.before (x ∷ n.after)),
+  ap (λ l. get_or l (length n.before) x) n.parted ∙ get_or-append_seam n.before x n.after x,
+)
+
+pub has_none : {A : Type 0} (xs : List A) (i : ℕ) → (i < 1) ⊎ (length xs < i) → ¬ HasNumber xs i
+has_none xs i outside has = ⊎_elim (λ (low : i < 1). omega (arith, low, has.above)) (λ (high : length xs < i). omega (arith, high, has.upto)) outside

@@ -11,16 +11,18 @@ use Rattle.scenario_asm.specs.Lines.{lines_of_text}
 use Rattle.scenario_asm.proofs.Pieces.{pieces_first, pieces_none}
 use Rattle.debug_session.specs.declared.command.Limits.{Limits}
 use Rattle.debug_session.specs.Taking.{Takes, IsBeginningOf}
-use Rattle.debug_session.specs.Answers.{SessionState, Answers}
+use Rattle.debug_session.specs.Answers.{SessionState, Answer, Answers, answer_text}
 use Rattle.debug_session.specs.Sessions.{Ran, Output, OutputStart}
 
 -- one line more is answered
-pub ran_more : (limits : Limits) (start : State) (lines : List (List ℕ)) (line : List ℕ) (old between new : SessionState) (made said : List ℕ)
-    → Ran limits start lines old between made → Answers limits start line between new said → Ran limits start (lines ++ line ∷ []) old new (made ++ said)
-ran_more limits start [] line old between new made said ran one =
-    (new, said, [], subst (λ (at : SessionState). Answers limits start line at new said) ran.same one, record { same = refl; reported = refl }, ap (λ l. l ++ said) ran.reported ∙ sym (append-nil said))
-ran_more limits start (l ∷ lines) line old between new made said ran one =
-    (ran.0, ran.1, ran.2 ++ said, ran.3, ran_more limits start lines line ran.0 between new ran.2 said ran.4 one, ap (λ x. x ++ said) ran.5 ∙ append_assoc ran.1 ran.2 said)
+pub ran_more : (limits : Limits) (start : State) (lines : List (List ℕ)) (line : List ℕ) (old between new : SessionState) (made : List ℕ) (answer : Answer)
+    → Ran limits start lines old between made → Answers limits start line between new answer → Ran limits start (lines ++ line ∷ []) old new (made ++ answer_text answer)
+ran_more limits start [] line old between new made answer ran one =
+    let said = answer_text answer in
+    (new, answer, [], subst (λ (at : SessionState). Answers limits start line at new answer) ran.same one, record { same = refl; reported = refl }, ap (λ l. l ++ said) ran.reported ∙ sym (append-nil said))
+ran_more limits start (l ∷ lines) line old between new made answer ran one =
+    let said = answer_text answer in
+    (ran.0, ran.1, ran.2 ++ said, ran.3, ran_more limits start lines line ran.0 between new ran.2 answer ran.4 one, ap (λ x. x ++ said) ran.5 ∙ append_assoc (answer_text ran.1) ran.2 said)
 
 -- the first bytes of these were taken
 pub first_taken : (bytes : List ℕ) (before after : Option (List ℕ)) (count : ℕ) → TakesFirst count bytes before after → Takes (IsBeginningOf (λ all. all ≡ bytes)) before after
@@ -41,25 +43,26 @@ next_line : (commands rest line after : List ℕ) (done : List (List ℕ)) → l
 next_line commands rest line after done parted some is behind =
     parted ∙ ap (λ ls. done ++ ls) (pieces_first 10 rest some ∙ (λ i. sym is i ∷ lines_of_text (sym behind i))) ∙ sym (append_assoc done (line ∷ []) (lines_of_text after))
 
-module _ (limits : Limits) (start : State) (commands rest line after said : List ℕ) (old between new : SessionState) (first was now : Option (List ℕ)) where
+module _ (limits : Limits) (start : State) (commands rest line after : List ℕ) (answer : Answer) (old between new : SessionState) (first was now : Option (List ℕ)) where
   -- one line more is answered, and the answer is taken
   pub one_more : SoFar limits start commands rest old between first was → 0 < length rest → line ≡ before_first (λ b. b == 10) rest → after ≡ after_first (λ b. b == 10) rest
-      → Answers limits start line between new said → Appends was now said → SoFar limits start commands after old new first now
+      → Answers limits start line between new answer → Appends was now (answer_text answer) → SoFar limits start commands after old new first now
   one_more s some is behind one taken = record {
     done = s.done ++ line ∷ [];
     parted = next_line commands rest line after s.done s.parted some is behind;
-    made = (s.made.0 ++ said, Appends-trans first was now s.made.0 said s.made.1 taken, ran_more limits start s.done line old between new s.made.0 said s.made.2 one);
+    made = (s.made.0 ++ answer_text answer, Appends-trans first was now s.made.0 (answer_text answer) s.made.1 taken, ran_more limits start s.done line old between new s.made.0 answer s.made.2 one);
   }
 
   -- or only a beginning of the answer was
   pub one_failed : SoFar limits start commands rest old between first was → 0 < length rest → line ≡ before_first (λ b. b == 10) rest → after ≡ after_first (λ b. b == 10) rest
-      → Answers limits start line between new said → Takes (IsBeginningOf (λ all. all ≡ said)) was now → Takes (IsBeginningOf (OutputStart limits start (lines_of_text commands) old)) first now
+      → Answers limits start line between new answer → Takes (IsBeginningOf (λ all. all ≡ answer_text answer)) was now → Takes (IsBeginningOf (OutputStart limits start (lines_of_text commands) old)) first now
   one_failed s some is behind one taken =
       let bytes = s.made.0 in
+      let said = answer_text answer in
       let parted = next_line commands rest line after s.done s.parted some is behind in
       let lines = s.done ++ line ∷ [] in
       let front : lines ≡ take (length lines) (lines_of_text commands) = sym (ap (take (length lines)) parted ∙ take-append_seam lines (lines_of_text after)) in
-      let ran = ran_more limits start s.done line old between new bytes said s.made.2 one in
+      let ran = ran_more limits start s.done line old between new bytes answer s.made.2 one in
       let all : bytes ++ said ≡ (bytes ++ taken.0) ++ taken.2.0 = ap (λ l. bytes ++ l) (sym taken.2.1) ∙ sym (append_assoc bytes taken.0 taken.2.0) in (
         bytes ++ taken.0,
         Appends-trans first was now bytes taken.0 s.made.1 taken.1,

@@ -9,8 +9,7 @@ use Rattle.debugger.specs.declared.breaks.BreakFault.{BreakFault}
 use Rattle.debugger.specs.declared.breaks.BreakFault.TheVariants.{TooMany, NoMemory}
 use Rattle.debugger.specs.Debugging.{Debugging}
 use Rattle.debug_session.specs.declared.command.Command.TheVariants.{SetBreak}
-use Rattle.debug_session.specs.declared.refusal.Refusal.TheVariants.{B4, M}
-use Rattle.debug_session.specs.Answers.{session_state, Obeys, break_line, refusal_line}
+use Rattle.debug_session.specs.Answers.{session_state, Obeys, break_line}
 
 pub decided : (P : Type 0) (b : Bool) → MatchBool b P (¬ P) → P ⊎ (¬ P)
 decided P true h = inl h
@@ -20,35 +19,29 @@ decided P false h = inr h
 pub stands : (old new : Debugging) → new ≡ record old { breaks = new.breaks } → (breaks : List Break) → new.breaks ≡ breaks → session_state new ≡ record { shown = old.shown; breaks = breaks }
 stands old new same breaks is = let shown : new.shown ≡ old.shown = ap (λ (d : Debugging). d.shown) same in λ i. record { shown = shown i; breaks = is i }
 
+pub is_full : (breaks : List Break) → length breaks ≤ 64 → (length breaks < 64 → ⊥) → length breaks ≡ 64
+is_full breaks few room = ⊎_elim (λ (under : length breaks < 64). absurd (room under)) (λ (past : 64 ≤ length breaks). omega (arith, past, few)) (cases_lt (length breaks) 64)
+
+pub has_room : (breaks : List Break) → length breaks ≤ 64 → (length breaks ≡ 64 → ⊥) → length breaks < 64
+has_room breaks few full = ⊎_elim (λ (under : length breaks < 64). under) (λ (past : 64 ≤ length breaks). absurd (full (omega (arith, past, few)))) (cases_lt (length breaks) 64)
+
 pub set_done : (b : Break) (old new : Debugging) (n : ℕ) (out : List ℕ) → Contains old.breaks b ⊎ (¬ Contains old.breaks b) → length old.breaks ≤ 64
     → new ≡ record old { breaks = new.breaks } → n ≡ length new.breaks → (Contains old.breaks b → new ≡ old) → (¬ Contains old.breaks b → new.breaks ≡ old.breaks ++ b ∷ [])
-    → (¬ Contains old.breaks b → length old.breaks ≡ 64 → ⊥) → out ≡ break_line n → Obeys old.start (SetBreak b) (session_state old) (session_state new) out
+    → (¬ Contains old.breaks b → length old.breaks ≡ 64 → ⊥) → out ≡ break_line n → Obeys old.start (SetBreak b) (session_state old) (session_state new) (Ok out)
 set_done b old new n out known few same count again fresh full reported =
-    inl (⊎_elim
+    ⊎_elim
     (λ (has : Contains old.breaks b).
     let kept : new ≡ old = again has in
     inl (has, record { same = ap session_state kept; reported = reported ∙ ap break_line (count ∙ ap (λ (d : Debugging). length d.breaks) kept) }))
     (λ (hasn't : ¬ Contains old.breaks b).
     let joined : new.breaks ≡ old.breaks ++ b ∷ [] = fresh hasn't in
-    inr (inl (record {
+    inr (record {
       fresh = hasn't;
-      few = ⊎_elim (λ (under : length old.breaks < 64). under) (λ (past : 64 ≤ length old.breaks). absurd (full hasn't (omega (arith, past, few)))) (cases_lt (length old.breaks) 64);
+      few = has_room old.breaks few (full hasn't);
       joined = stands old new same (old.breaks ++ b ∷ []) joined;
       reported = reported ∙ ap break_line (count ∙ ap length joined ∙ length-append old.breaks (b ∷ []));
-    })))
-    known)
-
-pub set_full : (b : Break) (old new : Debugging) (out : List ℕ) → Contains old.breaks b ⊎ (¬ Contains old.breaks b) → length old.breaks ≤ 64
-    → new ≡ old → (Contains old.breaks b → ⊥) → (length old.breaks < 64 → ⊥) → out ≡ refusal_line B4 → Obeys old.start (SetBreak b) (session_state old) (session_state new) out
-set_full b old new out known few same again room reported =
-    let many : length old.breaks ≡ 64 = ⊎_elim (λ (under : length old.breaks < 64). absurd (room under)) (λ (past : 64 ≤ length old.breaks). omega (arith, past, few)) (cases_lt (length old.breaks) 64) in
-    inl (inr (inr (again, many, record { same = ap session_state same; reported = reported })))
-
-pub set_refused : (b : Break) (old new : Debugging) (out : List ℕ) → length old.breaks ≤ 64
-    → new ≡ old → (Contains old.breaks b → ⊥) → (¬ Contains old.breaks b → length old.breaks ≡ 64 → ⊥) → out ≡ refusal_line M → Obeys old.start (SetBreak b) (session_state old) (session_state new) out
-set_refused b old new out few same again full reported =
-    let under : length old.breaks < 64 = ⊎_elim (λ (under : length old.breaks < 64). under) (λ (past : 64 ≤ length old.breaks). absurd (full again (omega (arith, past, few)))) (cases_lt (length old.breaks) 64) in
-    inr ((again, under), record { same = ap session_state same; reported = reported })
+    }))
+    known
 
 -- the answers differ
 pub ok_no_err : (n : ℕ) (fault : BreakFault) → Ok n ≡ Err fault → ⊥

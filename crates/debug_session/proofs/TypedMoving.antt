@@ -4,13 +4,12 @@ use Rattle.std.proofs.lemmas.Bool.{cases_lt}
 use Rattle.std.proofs.lemmas.List.{length-reverse, reverse-append}
 use Rattle.std.specs.Prelude.{nat_lt}
 use Rattle.std.specs.List.{concat}
-use Rattle.std.specs.Result.{IfOk, OnErr}
+use Rattle.std.specs.Result.{MatchResult, OnOk}
 use borrow.Author.Tests.{lt-ltb, le-ltb}
 use lib.Seq.{drop_at}
 use Rattle.node_core.specs.TraceLine.{TraceLine}
 use Rattle.table_run.specs.State.{State, due, step}
 use Rattle.net_machine.specs.Run.{Reached}
-use Rattle.debugger.specs.declared.fault.MoveFault.{MoveFault}
 use Rattle.debugger.specs.declared.passed.LastEvent.{LastEvent}
 use Rattle.debugger.specs.declared.passed.LineOrder.TheVariants.{Rising, Falling}
 use Rattle.debugger.specs.declared.passed.Stretch.{Stretch}
@@ -20,14 +19,18 @@ use Rattle.debugger.specs.Moves.{Passes, HasPosition, GivesAt, EndsAt, StepGoesT
 use Rattle.debugger.specs.Passed.{lines_between, texts_between, stretch_texts}
 use Rattle.debugger.proofs.Between.{one_line, length_between, between_parts}
 use Rattle.debugger.proofs.Walks.{has_earlier, none_due, passes_next, step_done}
+use Rattle.debug_session.specs.declared.command.Move.{Move}
+use Rattle.debug_session.specs.declared.command.Typed.TheVariants.{Go}
 use Rattle.debug_session.specs.declared.memo.Extent.{Extent}
 use Rattle.debug_session.specs.declared.naming.Naming.{Naming}
+use Rattle.debug_session.specs.declared.refusal.Refusal.{Refusal}
 use Rattle.debug_session.specs.declared.refusal.Refusal.TheVariants.{M}
 use Rattle.debug_session.specs.declared.report.Report.{Report}
-use Rattle.debug_session.specs.Answers.{SessionState, session_state, Stays, refusal_line}
-use Rattle.debug_session.specs.Reported.{GoesBack, CanBeUndone, ReportedPast, AddsPlace, AddsMove, passed_count, reported_hit, reported_origin, shown_stretch}
-use Rattle.debug_session.specs.TypedMoves.{lowest, passed, more_line, last_ten, passed_lines, last_time, place_line, where_line, origin_text, origin_line, hit_line, next_text, known_line, where_text, TellsPast, MovesPast}
-use Rattle.debug_session.proofs.Moved.{left_of, start_of, breaks_of}
+use Rattle.debug_session.specs.Answers.{SessionState, answer_of, session_state, GoesTo}
+use Rattle.debug_session.specs.Reported.{GoesBack, CanBeUndone, AddsPlace, AddsMove, passed_count, reported_hit, reported_origin, shown_stretch}
+use Rattle.debug_session.specs.TypedMoves.{lowest, passed, more_line, last_ten, passed_lines, last_time, place_line, where_line, origin_text, origin_line, hit_line, next_text, known_line, where_text, report_of, TellsPast, MovesPast}
+use Rattle.debug_session.specs.TypedAnswers.{TypedIsRefused, ObeysTyped}
+use Rattle.debug_session.proofs.Moved.{start_of, breaks_of, start_again, state_again}
 
 -- where the lines of a move backwards begin
 lowest_upto : (bound p : ℕ) → lowest bound p ≤ p
@@ -188,59 +191,35 @@ move_reported naming start m report at out made all lines place =
     let behind = place.0 ++ (where_line start at.shown ++ place.1) in
     (texts ++ behind, record { origin = place.0; matched = place.1; matches = place.2; reported = refl }, place.3 ∙ ap (λ l. l ++ behind) lines ∙ append_assoc out texts behind)
 
--- the move is told, or nothing changed and memory was refused
-abbrev pub WentPast : Naming → State → Report → (ℕ → Type 0) → SessionState → SessionState → List ℕ → Type 0
-WentPast naming start report goes old new out = MovesPast naming start report goes old new out ⊎ (Unit {0} × Stays old new out (refusal_line M))
-
-pub record GonePast (naming : Naming) (report : Report) (goes : ℕ → Type 0) (old new : Debugging) (out : List ℕ) : Type 0 where
+pub record GonePast (naming : Naming) (move : Move) (old new : Debugging) (result : Result (Unit {0}) Refusal) (out : List ℕ) : Type 0 where
   pub start : new.start ≡ old.start
-  pub went : WentPast naming old.start report goes (session_state old) (session_state new) out
-  pub left : CanBeUndone old new out
+  pub obeyed : ObeysTyped naming old.start (Go move) (session_state old) (session_state new) (answer_of result out)
+  pub left : OnOk result (CanBeUndone old new)
 
 -- where a move began the run has a position
-pub has_from : (old between : Debugging) (moved : Result ℕ MoveFault) (m : ℕ) → m ≡ old.shown.position → Passes old.start old.shown → IfOk moved (HasMoved old between) → OnErr moved (between ≡ old) → HasPosition between.start m
-has_from old between (Ok p) m is here has err = subst (λ (s : State). HasPosition s m) (sym (start_of old between p has)) (subst (HasPosition old.start) (sym is) (old.shown.state, here))
-has_from old between (Err fault) m is here has err = subst (λ (d : Debugging). HasPosition d.start m) (sym err) (subst (HasPosition old.start) (sym is) (old.shown.state, here))
+pub has_from : (old between : Debugging) (p m : ℕ) → m ≡ old.shown.position → Passes old.start old.shown → HasMoved old between p → HasPosition between.start m
+has_from old between p m is here has = subst (λ (s : State). HasPosition s m) (sym (start_of old between p has)) (subst (HasPosition old.start) (sym is) (old.shown.state, here))
 
-on_reported : (naming : Naming) (report : Report) (goes : ℕ → Type 0) (old new : Debugging) (m : ℕ) (w : Report) (p : ℕ) (out : List ℕ) → m ≡ old.shown.position → w ≡ report → HasMoved old new p → goes p → TellsPast naming new.start m w (session_state new) out → GonePast naming report goes old new out
-on_reported naming report goes old new m w p out is report_is moved there reported =
-    let same = start_of old new p moved in
-    record {
-      start = same;
-      went = inl (record {
-        at = subst goes (sym moved.at) there;
-        on_run = subst (λ (s : State). Passes s new.shown) same moved.on_run;
-        breaks = breaks_of old new p moved;
-        reported =
-            subst (λ n. TellsPast naming old.start n report (session_state new) out) is
-            (subst (λ (v : Report). TellsPast naming old.start m v (session_state new) out) report_is (subst (λ (s : State). TellsPast naming s m w (session_state new) out) same reported));
-      });
-      left = inr moved.after;
-    }
-
-back_again : (naming : Naming) (report : Report) (goes : ℕ → Type 0) (old between new : Debugging) (p : ℕ) (out : List ℕ) → HasMoved old between p → GoesBack between new → out ≡ refusal_line M → GonePast naming report goes old new out
-back_again naming report goes old between new p out moved back reported =
-    let undone : new ≡ record between { shown = old.shown; left = None } = back old.shown (left_of old between p moved) in
-    let shown : new.shown ≡ old.shown = ap (λ (d : Debugging). d.shown) undone in
-    let breaks : new.breaks ≡ old.breaks = ap (λ (d : Debugging). d.breaks) undone ∙ breaks_of old between p moved in
-    record {
-      start = ap (λ (d : Debugging). d.start) undone ∙ start_of old between p moved;
-      went = inr (tt, record { same = λ i. record { shown = shown i; breaks = breaks i }; reported = reported });
-      left = inl reported;
-    }
-
-pub gone_past : (naming : Naming) (report : Report) (goes : ℕ → Type 0) (old between new : Debugging) (m : ℕ) (w : Report) (moved : Result ℕ MoveFault) (out : List ℕ) → m ≡ old.shown.position → w ≡ report
-    → IfOk moved (HasMoved old between) → IfOk moved goes → OnErr moved (between ≡ old)
-    → IfOk moved (λ _. ReportedPast naming m w between new out) → OnErr moved ((new ≡ between) × (out ≡ refusal_line M)) → GonePast naming report goes old new out
-gone_past naming report goes old between new m w (Ok p) out is report_is has there err reported refused =
-    ⊎_elim
-    (λ (t : (new ≡ between) × TellsPast naming between.start m w (session_state between) out).
-    subst (λ (d : Debugging). GonePast naming report goes old d out) (sym t.0) (on_reported naming report goes old between m w p out is report_is has there t.1))
-    (λ (t : GoesBack between new × (out ≡ refusal_line M)). back_again naming report goes old between new p out has t.0 t.1)
-    reported
-gone_past naming report goes old between new m w (Err fault) out is report_is has there err reported refused =
-    let same = refused.0 ∙ err in
-    record { start = ap (λ (d : Debugging). d.start) same; went = inr (tt, record { same = ap session_state same; reported = refused.1 }); left = inl refused.1 }
+-- the move is told, or memory was refused and it is undone
+pub gone_past : (naming : Naming) (move : Move) (old between here new : Debugging) (m : ℕ) (w : Report) (p : ℕ) (told result : Result (Unit {0}) Refusal) (out : List ℕ) → m ≡ old.shown.position → w ≡ report_of move m
+    → HasMoved old between p → GoesTo move old.start (session_state old) p → here ≡ between → MatchResult told (λ _. TellsPast naming between.start m w (session_state between) out) (λ why. why ≡ M)
+    → result ≡ told → MatchResult told (λ _. new ≡ here) (λ _. GoesBack here new) → GonePast naming move old new result out
+gone_past naming move old between here new m w p (Ok done) result out is report_is moved there looked told is_told same =
+    let start : between.start ≡ old.start = start_of old between p moved in
+    let past : MovesPast naming old.start (report_of move old.shown.position) (GoesTo move old.start (session_state old)) (session_state old) (session_state between) out = record {
+      at = subst (GoesTo move old.start (session_state old)) (sym moved.at) there;
+      on_run = subst (λ (s : State). Passes s between.shown) start moved.on_run;
+      breaks = breaks_of old between p moved;
+      reported =
+          subst (λ n. TellsPast naming old.start n (report_of move n) (session_state between) out) is
+          (subst (λ (v : Report). TellsPast naming old.start m v (session_state between) out) report_is (subst (λ (s : State). TellsPast naming s m w (session_state between) out) start told));
+    } in
+    subst (λ (r : Result (Unit {0}) Refusal). GonePast naming move old new r out) (sym is_told)
+    (subst (λ (d : Debugging). GonePast naming move old d (Ok done) out) (sym (same ∙ looked)) (record { start = start; obeyed = past; left = moved.after }))
+gone_past naming move old between here new m w p (Err why) result out is report_is moved there looked told is_told back =
+    let gone : GoesBack between new = subst (λ (d : Debugging). GoesBack d new) looked back in
+    subst (λ (r : Result (Unit {0}) Refusal). GonePast naming move old new r out) (sym is_told)
+    (record { start = start_again old between new moved.after gone; obeyed = (state_again old between new moved.after gone, subst (λ (v : Refusal). TypedIsRefused v (Go move) (session_state old)) (sym told) tt); left = tt })
 
 -- `where`: behind the place, where no breakpoint is told, the next event and how far the run is known to go
 pub where_reported : (naming : Naming) (start : State) (at : SessionState) (known : Extent) (out made all : List ℕ) → AddsPlace naming start at.shown.position at out made → all ≡ made ++ (next_text start at.shown ++ known_line known) → all ≡ out ++ where_text start at.shown known

@@ -1,5 +1,5 @@
 -- What a session answers to a line of commands, and where it stands afterwards.
-use Rattle.std.specs.Prelude.{◌≡◌, ◌<◌, ◌+◌, ◌-◌, ◌⊎◌, ℕ, List, [], ◌∷◌, ◌++◌, length, Contains, codes, decimal, Option, None, Some, Ok, Err}
+use Rattle.std.specs.Prelude.{◌≡◌, ◌<◌, ◌+◌, ◌-◌, ◌⊎◌, ℕ, List, [], ◌∷◌, ◌++◌, length, Contains, codes, decimal, Option, None, Some, Result, Ok, Err}
 use Rattle.table_run.specs.State.{State as NetState}
 use Rattle.net_machine.specs.Run.{Reached}
 use Rattle.trace_text.specs.Words.{line_of_words}
@@ -39,6 +39,19 @@ refusal_code M = codes "M"
 abbrev pub refusal_line : Refusal → List ℕ
 refusal_line refusal = line_of_words (codes "refused" ∷ refusal_code refusal ∷ [])
 
+-- what is answered: a text, or why the command is refused
+abbrev pub Answer : Type 0
+Answer = Result (List ℕ) Refusal
+
+abbrev pub answer_of : Result (Unit {0}) Refusal → List ℕ → Answer
+answer_of (Ok done) said = Ok said
+answer_of (Err refusal) said = Err refusal
+
+-- what is put out of it, where refusals are told among the answers
+abbrev pub answer_text : Answer → List ℕ
+answer_text (Ok said) = said
+answer_text (Err refusal) = refusal_line refusal
+
 -- so many breakpoints are set
 abbrev pub break_line : ℕ → List ℕ
 break_line count = line_of_words (codes "break" ∷ decimal count ∷ [])
@@ -75,12 +88,9 @@ pub record Joins (b : Break) (old new : SessionState) (out : List ℕ) : Type 0 
   pub joined : new ≡ record old { breaks = old.breaks ++ b ∷ [] }
   pub reported : out ≡ break_line (length old.breaks + 1)
 
--- a breakpoint is set: one that is set already stays, and there are at most 64
+-- a breakpoint is set: one that is set already stays
 abbrev pub Sets : Break → SessionState → SessionState → List ℕ → Type 0
-Sets b old new out =
-    (Contains old.breaks b × Stays old new out (break_line (length old.breaks)))
-    ⊎ Joins b old new out
-    ⊎ (¬ Contains old.breaks b × (length old.breaks ≡ 64) × Stays old new out (refusal_line B4))
+Sets b old new out = (Contains old.breaks b × Stays old new out (break_line (length old.breaks))) ⊎ Joins b old new out
 
 -- all breakpoints are taken away
 pub record Clears (old new : SessionState) (out : List ℕ) : Type 0 where
@@ -101,15 +111,27 @@ CanBeRefused Clear old = ⊥
 CanBeRefused (Go move) old = Unit {0}
 CanBeRefused State old = Unit {0}
 
--- a command is done, or refused for want of memory or of workers
-abbrev pub Obeys : NetState → Command → SessionState → SessionState → List ℕ → Type 0
-Obeys start command old new out = Does start command old new out ⊎ (CanBeRefused command old × Stays old new out (refusal_line M))
+-- there are as many breakpoints as there may be
+abbrev pub IsFull : Command → SessionState → Type 0
+IsFull (SetBreak b) old = ¬ Contains old.breaks b × (length old.breaks ≡ 64)
+IsFull command old = ⊥
 
-abbrev pub Follows : NetState → Option Reading → SessionState → SessionState → List ℕ → Type 0
-Follows start None old new out = Stays old new out []
-Follows start (Some (Err refusal)) old new out = Stays old new out (refusal_line refusal)
-Follows start (Some (Ok command)) old new out = Obeys start command old new out
+-- why a command that was read is refused
+abbrev pub IsRefused : Refusal → Command → SessionState → Type 0
+IsRefused M command old = CanBeRefused command old
+IsRefused B4 command old = IsFull command old
+IsRefused refusal command old = ⊥
+
+-- a command is done, or refused, and then nothing changes
+abbrev pub Obeys : NetState → Command → SessionState → SessionState → Answer → Type 0
+Obeys start command old new (Ok said) = Does start command old new said
+Obeys start command old new (Err refusal) = (new ≡ old) × IsRefused refusal command old
+
+abbrev pub Follows : NetState → Option Reading → SessionState → SessionState → Answer → Type 0
+Follows start None old new answer = (new ≡ old) × (answer ≡ Ok [])
+Follows start (Some (Err refusal)) old new answer = (new ≡ old) × (answer ≡ Err refusal)
+Follows start (Some (Ok command)) old new answer = Obeys start command old new answer
 
 -- what a line says is followed
-abbrev pub Answers : Limits → NetState → List ℕ → SessionState → SessionState → List ℕ → Type 0
-Answers limits start line old new out = Follows start (reading limits line) old new out
+abbrev pub Answers : Limits → NetState → List ℕ → SessionState → SessionState → Answer → Type 0
+Answers limits start line old new answer = Follows start (reading limits line) old new answer

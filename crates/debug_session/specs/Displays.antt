@@ -1,5 +1,5 @@
 -- What is displayed after each move: values of flows and links, each with what it was before.
-use Rattle.std.specs.Prelude.{◌≡◌, ◌<◌, ◌≤◌, ◌+◌, ◌⊎◌, ◌==◌, ℕ, Bool, true, false, if◌then◌else◌, List, [], ◌∷◌, ◌++◌, length, slice_index_or, Contains, codes, decimal}
+use Rattle.std.specs.Prelude.{◌≡◌, ◌<◌, ◌≤◌, ◌+◌, ◌⊎◌, ◌==◌, ℕ, Bool, true, false, if◌then◌else◌, List, [], ◌∷◌, ◌++◌, length, slice_index_or, Contains, codes, decimal, Ok, Err}
 use Rattle.std.specs.List.{remove, flat_map}
 use Rattle.std.specs.Str.{bytes_eq}
 use Rattle.flow_waits.specs.declared.names.ScenarioNames.{ScenarioNames}
@@ -16,8 +16,9 @@ use Rattle.debug_session.specs.declared.display.DisplayCommand.{DisplayCommand}
 use Rattle.debug_session.specs.declared.display.DisplayCommand.TheVariants.{All, Add, TakeAway}
 use Rattle.debug_session.specs.declared.display.DisplayItem.{DisplayItem}
 use Rattle.debug_session.specs.declared.display.DisplayItem.TheVariants.{Flow, Link, One}
+use Rattle.debug_session.specs.declared.refusal.Refusal.{Refusal}
 use Rattle.debug_session.specs.declared.refusal.Refusal.TheVariants.{B4, B5, M}
-use Rattle.debug_session.specs.Answers.{refusal_line}
+use Rattle.debug_session.specs.Answers.{Answer}
 use Rattle.debug_session.specs.Numbered.{IsNumber, HasNumber}
 use Rattle.debug_session.specs.ValueNames.{phase_word, value_name, value_unit}
 use Rattle.debug_session.specs.ValueTexts.{reading_text}
@@ -100,12 +101,9 @@ pub record JoinsDisplays (names : ScenarioNames) (now : Reads) (item : DisplayIt
   pub joined : new ≡ old ++ item ∷ []
   pub reported : out ≡ present_line names now (length old + 1) item
 
--- something is displayed: what is displayed already keeps its number, and there are at most 64 displays
+-- something is displayed: what is displayed already keeps its number
 abbrev pub SetsDisplay : ScenarioNames → Reads → DisplayItem → List DisplayItem → List DisplayItem → List ℕ → Type 0
-SetsDisplay names now item old new out =
-    ((i : ℕ) × IsNumber old item i × (new ≡ old) × (out ≡ present_line names now i item))
-    ⊎ JoinsDisplays names now item old new out
-    ⊎ (¬ Contains old item × (64 ≤ length old) × (new ≡ old) × (out ≡ refusal_line B4))
+SetsDisplay names now item old new out = ((i : ℕ) × IsNumber old item i × (new ≡ old) × (out ≡ present_line names now i item)) ⊎ JoinsDisplays names now item old new out
 
 -- the display of a number is taken away, and the later ones move up
 pub record Undisplays (names : ScenarioNames) (i : ℕ) (old new : List DisplayItem) (out : List ℕ) : Type 0 where
@@ -121,8 +119,26 @@ pub record Undisplays (names : ScenarioNames) (i : ℕ) (old new : List DisplayI
 abbrev pub DoesDisplay : ScenarioNames → Reads → DisplayCommand → List DisplayItem → List DisplayItem → List ℕ → Type 0
 DoesDisplay names now All old new out = (new ≡ old) × (out ≡ display_listing names now old)
 DoesDisplay names now (Add item) old new out = SetsDisplay names now item old new out
-DoesDisplay names now (TakeAway i) old new out = Undisplays names i old new out ⊎ (¬ HasNumber old i × (new ≡ old) × (out ≡ refusal_line B5))
+DoesDisplay names now (TakeAway i) old new out = Undisplays names i old new out
 
--- or it is refused for want of memory
-abbrev pub ObeysDisplays : ScenarioNames → Reads → DisplayCommand → List DisplayItem → List DisplayItem → List ℕ → Type 0
-ObeysDisplays names now asked old new out = DoesDisplay names now asked old new out ⊎ ((new ≡ old) × (out ≡ refusal_line M))
+-- there are as many displays as there may be
+abbrev pub DisplaysFull : DisplayCommand → List DisplayItem → Type 0
+DisplaysFull (Add item) old = ¬ Contains old item × (64 ≤ length old)
+DisplaysFull asked old = ⊥
+
+-- no display has the number
+abbrev pub NoDisplay : DisplayCommand → List DisplayItem → Type 0
+NoDisplay (TakeAway i) old = ¬ HasNumber old i
+NoDisplay asked old = ⊥
+
+-- why a command on displays is refused: there may be no memory for any
+abbrev pub DisplayIsRefused : Refusal → DisplayCommand → List DisplayItem → Type 0
+DisplayIsRefused M asked old = Unit {0}
+DisplayIsRefused B4 asked old = DisplaysFull asked old
+DisplayIsRefused B5 asked old = NoDisplay asked old
+DisplayIsRefused refusal asked old = ⊥
+
+-- it is done, or refused, and then nothing changes
+abbrev pub ObeysDisplays : ScenarioNames → Reads → DisplayCommand → List DisplayItem → List DisplayItem → Answer → Type 0
+ObeysDisplays names now asked old new (Ok out) = DoesDisplay names now asked old new out
+ObeysDisplays names now asked old new (Err refusal) = (new ≡ old) × DisplayIsRefused refusal asked old

@@ -1,26 +1,28 @@
 -- A session at a prompt: a line is answered before the next one is asked for.
-use Rattle.std.specs.Prelude.{◌≡◌, ◌⊎◌, ◌&&◌, ℕ, nat_lt, nat_eq, Bool, true, false, not, MatchBool, if◌then◌else◌, List, [], ◌∷◌, ◌++◌, length, map, codes, Option, None, Some, Ok, Err}
-use Rattle.std.specs.List.{list_all, starts_with}
+use Rattle.std.specs.Prelude.{◌≡◌, ◌⊎◌, ℕ, nat_lt, Bool, true, false, not, MatchBool, if◌then◌else◌, List, [], ◌∷◌, ◌++◌, length, map, codes, Option, None, Some, Ok, Err}
+use Rattle.std.specs.List.{list_all}
 use Rattle.table_run.specs.State.{State}
 use Rattle.net_machine.specs.Run.{Reached}
 use Rattle.flow_waits.specs.declared.names.ScenarioNames.{ScenarioNames}
 use Rattle.debugger.specs.Seen.{read_in}
 use Rattle.debug_session.specs.declared.command.Request.{Request}
 use Rattle.debug_session.specs.declared.command.Request.TheVariants.{Command, Display}
+use Rattle.debug_session.specs.declared.command.Move.{Move}
 use Rattle.debug_session.specs.declared.command.Typed.{Typed as TypedCommand}
+use Rattle.debug_session.specs.declared.command.Typed.TheVariants.{Go}
 use Rattle.debug_session.specs.declared.dialogue.Dialogue.{Dialogue}
 use Rattle.debug_session.specs.declared.display.DisplayCommand.{DisplayCommand}
 use Rattle.debug_session.specs.declared.display.DisplayItem.{DisplayItem}
 use Rattle.debug_session.specs.declared.memo.Memo.{Memo}
 use Rattle.debug_session.specs.declared.naming.Naming.{Naming}
 use Rattle.debug_session.specs.declared.refusal.Refusal.TheVariants.{B2}
-use Rattle.debug_session.specs.Answers.{SessionState, session_state, refusal_line}
+use Rattle.debug_session.specs.Answers.{SessionState, Answer, session_state}
 use Rattle.debug_session.specs.Displays.{Reads, displays_from, ObeysDisplays}
 use Rattle.debug_session.specs.Input.{words_in}
 use Rattle.debug_session.specs.Memos.{known_after, knowing, no_memo}
 use Rattle.debug_session.specs.Entries.{begins}
 use Rattle.debug_session.specs.Taking.{Takes}
-use Rattle.debug_session.specs.TypedAnswers.{ObeysTyped, last_after, is_move}
+use Rattle.debug_session.specs.TypedAnswers.{DoesTyped, ObeysTyped, last_after}
 use Rattle.debug_session.specs.TypedGrammar.{TypedReading, typed_reading}
 use Rattle.debug_session.specs.TypedMoves.{present_time}
 
@@ -38,9 +40,9 @@ abbrev pub unmoved : SessionState → AtPrompt
 unmoved s = record { session_state = s; memo = no_memo; displays = [] }
 
 -- nothing changes, and this is answered
-pub record Rests (old new : AtPrompt) (out said : List ℕ) : Type 0 where
+pub record Rests (old new : AtPrompt) (answer said : Answer) : Type 0 where
   pub same : new ≡ old
-  pub reported : out ≡ said
+  pub reported : answer ≡ said
 
 -- more bytes than a line may have
 abbrev pub is_long : List ℕ → Bool
@@ -60,69 +62,67 @@ is_quit line = if is_long line then false else quits (words_in line)
 abbrev pub memo_after : TypedCommand → AtPrompt → Memo
 memo_after asked at = record { last = last_after asked at.memo.last; known = known_after at.memo.known at.session_state }
 
--- the answer is that the line is refused
-abbrev pub is_refusal : List ℕ → Bool
-is_refusal said = starts_with nat_eq said (codes "refused ")
-
 -- what is read where a session stands
 abbrev pub read_at : State → Reached → Reads
 read_at start at what = read_in (present_time start at.position) what at.state
 
--- a move that is not refused tells the displays behind all else
-abbrev pub told_behind : ScenarioNames → List DisplayItem → State → TypedCommand → SessionState → SessionState → List ℕ → List ℕ
-told_behind names displays start asked old new said = if is_move asked && not (is_refusal said) then displays_from names (read_at start old.shown) (read_at start new.shown) 1 displays else []
+-- a move that is not refused tells what is displayed behind all else
+abbrev pub MovesShowing : Naming → List DisplayItem → State → Move → SessionState → SessionState → Answer → Type 0
+MovesShowing naming displays start move old new (Ok out) =
+    (said : List ℕ) × DoesTyped naming start (Go move) old new said × (out ≡ said ++ displays_from naming.names (read_at start old.shown) (read_at start new.shown) 1 displays)
+MovesShowing naming displays start move old new (Err refusal) = ObeysTyped naming start (Go move) old new (Err refusal)
 
--- a command is obeyed, and what is displayed is told behind a move
-pub record ObeysShowing (naming : Naming) (displays : List DisplayItem) (start : State) (asked : TypedCommand) (old new : SessionState) (out : List ℕ) : Type 0 where
-  pub said : List ℕ
-  pub obeyed : ObeysTyped naming start asked old new said
-  pub reported : out ≡ said ++ told_behind naming.names displays start asked old new said
+-- any other command tells no displays
+abbrev pub ObeysShowing : Naming → List DisplayItem → State → TypedCommand → SessionState → SessionState → Answer → Type 0
+ObeysShowing naming displays start (Go move) old new answer = MovesShowing naming displays start move old new answer
+ObeysShowing naming displays start asked old new answer = ObeysTyped naming start asked old new answer
 
 -- a command is done, or refused for want of memory or of workers; a move is the last one either way
-pub record ObeysAtPrompt (naming : Naming) (start : State) (asked : TypedCommand) (old new : AtPrompt) (out : List ℕ) : Type 0 where
-  pub obeyed : ObeysShowing naming old.displays start (knowing new.memo.known asked) old.session_state new.session_state out
+pub record ObeysAtPrompt (naming : Naming) (start : State) (asked : TypedCommand) (old new : AtPrompt) (answer : Answer) : Type 0 where
+  pub obeyed : ObeysShowing naming old.displays start (knowing new.memo.known asked) old.session_state new.session_state answer
   pub memo : new.memo ≡ memo_after asked old
   pub displays : new.displays ≡ old.displays
 
 -- a command on displays changes nothing but them
-pub record ObeysDisplay (naming : Naming) (start : State) (asked : DisplayCommand) (old new : AtPrompt) (out : List ℕ) : Type 0 where
-  pub obeyed : ObeysDisplays naming.names (read_at start old.session_state.shown) asked old.displays new.displays out
+pub record ObeysDisplay (naming : Naming) (start : State) (asked : DisplayCommand) (old new : AtPrompt) (answer : Answer) : Type 0 where
+  pub obeyed : ObeysDisplays naming.names (read_at start old.session_state.shown) asked old.displays new.displays answer
   pub session_state : new.session_state ≡ old.session_state
   pub memo : new.memo ≡ old.memo
 
 -- what a line asks for is obeyed
-abbrev pub ObeysRequest : Naming → State → Request → AtPrompt → AtPrompt → List ℕ → Type 0
-ObeysRequest naming start (Command asked) old new out = ObeysAtPrompt naming start asked old new out
-ObeysRequest naming start (Display asked) old new out = ObeysDisplay naming start asked old new out
+abbrev pub ObeysRequest : Naming → State → Request → AtPrompt → AtPrompt → Answer → Type 0
+ObeysRequest naming start (Command asked) old new answer = ObeysAtPrompt naming start asked old new answer
+ObeysRequest naming start (Display asked) old new answer = ObeysDisplay naming start asked old new answer
 
 -- the last move is done again, where there was one
-abbrev pub MovesAgain : Naming → State → Option TypedCommand → AtPrompt → AtPrompt → List ℕ → Type 0
-MovesAgain naming start None old new out = Rests old new out []
-MovesAgain naming start (Some move) old new out = ObeysAtPrompt naming start move old new out
+abbrev pub MovesAgain : Naming → State → Option TypedCommand → AtPrompt → AtPrompt → Answer → Type 0
+MovesAgain naming start None old new answer = Rests old new answer (Ok [])
+MovesAgain naming start (Some move) old new answer = ObeysAtPrompt naming start move old new answer
 
-abbrev pub FollowsTyped : Naming → State → Option TypedReading → AtPrompt → AtPrompt → List ℕ → Type 0
-FollowsTyped naming start None old new out = MovesAgain naming start old.memo.last old new out
-FollowsTyped naming start (Some (Err refusal)) old new out = Rests old new out (refusal_line refusal)
-FollowsTyped naming start (Some (Ok asked)) old new out = ObeysRequest naming start asked old new out
+abbrev pub FollowsTyped : Naming → State → Option TypedReading → AtPrompt → AtPrompt → Answer → Type 0
+FollowsTyped naming start None old new answer = MovesAgain naming start old.memo.last old new answer
+FollowsTyped naming start (Some (Err refusal)) old new answer = Rests old new answer (Err refusal)
+FollowsTyped naming start (Some (Ok asked)) old new answer = ObeysRequest naming start asked old new answer
 
 -- what a line says that is typed is followed; a line of no words does the last move again
-abbrev pub AnswersTyped : Naming → State → List ℕ → AtPrompt → AtPrompt → List ℕ → Type 0
-AnswersTyped naming start line old new out = FollowsTyped naming start (typed_reading naming line) old new out
+abbrev pub AnswersTyped : Naming → State → List ℕ → AtPrompt → AtPrompt → Answer → Type 0
+AnswersTyped naming start line old new answer = FollowsTyped naming start (typed_reading naming line) old new answer
 
 -- how a line is answered: one that is too long has no command, `quit` is answered by nothing, and what any other line says is followed
-abbrev pub TypedAnswers : Naming → State → List ℕ → AtPrompt → AtPrompt → List ℕ → Type 0
-TypedAnswers naming start line old new said =
-    MatchBool (is_long line) (Rests old new said (refusal_line B2)) (MatchBool (is_quit line) (Rests old new said []) (AnswersTyped naming start line old new said))
+abbrev pub TypedAnswers : Naming → State → List ℕ → AtPrompt → AtPrompt → Answer → Type 0
+TypedAnswers naming start line old new answer =
+    MatchBool (is_long line) (Rests old new answer (Err B2)) (MatchBool (is_quit line) (Rests old new answer (Ok [])) (AnswersTyped naming start line old new answer))
 
 -- what the output gets of an answer: all but a refusal, which is told beside it
-abbrev pub answer_out : List ℕ → List ℕ
-answer_out said = if is_refusal said then [] else said
+abbrev pub answer_out : Answer → List ℕ
+answer_out (Ok said) = said
+answer_out (Err refusal) = []
 
 -- the lines are answered one after another, from where the session stands
 abbrev pub TypedRan : Naming → State → List (List ℕ) → AtPrompt → AtPrompt → List ℕ → Type 0
-TypedRan naming start [] old new out = Rests old new out []
+TypedRan naming start [] old new out = (new ≡ old) × (out ≡ [])
 TypedRan naming start (line ∷ lines) old new out =
-    (between : AtPrompt) × (said rest : List ℕ) × TypedAnswers naming start line old between said × TypedRan naming start lines between new rest × (out ≡ answer_out said ++ rest)
+    (between : AtPrompt) × (answer : Answer) × (rest : List ℕ) × TypedAnswers naming start line old between answer × TypedRan naming start lines between new rest × (out ≡ answer_out answer ++ rest)
 
 -- these lines give this output, wherever the session stands in the end
 abbrev pub TypedOutput : Naming → State → List (List ℕ) → AtPrompt → List ℕ → Type 0

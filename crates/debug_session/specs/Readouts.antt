@@ -1,5 +1,5 @@
 -- What displays read, for the contracts of private steps.
-use Rattle.std.specs.Prelude.{◌≡◌, ◌⊎◌, ℕ, List, ◌++◌, Option, None, Some}
+use Rattle.std.specs.Prelude.{◌≡◌, ℕ, List, ◌++◌, Option, None, Some}
 use Rattle.flow_waits.specs.declared.names.ScenarioNames.{ScenarioNames}
 use Rattle.debugger.specs.declared.values.Reading.{Reading}
 use Rattle.debugger.specs.declared.values.ValueOf.{ValueOf}
@@ -7,10 +7,7 @@ use Rattle.debugger.specs.Seen.{read_in, read_left_in}
 use Rattle.debugger.specs.Debugging.{Debugging}
 use Rattle.debug_session.specs.declared.display.DisplayItem.{DisplayItem}
 use Rattle.debug_session.specs.declared.readout.Readout.{Readout}
-use Rattle.debug_session.specs.declared.refusal.Refusal.TheVariants.{M}
-use Rattle.debug_session.specs.Answers.{refusal_line}
 use Rattle.debug_session.specs.Displays.{displays_from}
-use Rattle.debug_session.specs.Reported.{GoesBack}
 use Rattle.debug_session.specs.TypedMoves.{present_time}
 
 -- of the state that is shown
@@ -32,7 +29,3 @@ present d time what = read_in time what d.shown.state
 -- the lines of displays stand behind an answer: they compare what is shown with what the last move left, which was of a moment
 abbrev pub TellsBehind : ScenarioNames → List DisplayItem → ℕ → Debugging → List ℕ → List ℕ → Type 0
 TellsBehind names displays before d said out = out ≡ said ++ displays_from names (λ what. read_left_in before what d.left) (present d (present_time d.start d.shown.position)) 1 displays
-
--- or memory was refused, and the move is undone
-abbrev pub ShowsBehind : ScenarioNames → List DisplayItem → ℕ → Debugging → Debugging → List ℕ → List ℕ → Type 0
-ShowsBehind names displays before old new said out = ((new ≡ old) × TellsBehind names displays before old said out) ⊎ (GoesBack old new × (out ≡ refusal_line M))

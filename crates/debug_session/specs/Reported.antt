@@ -1,34 +1,24 @@
 -- What is told after a move, for the contracts of private steps: no definition of a session uses it.
-use Rattle.std.specs.Prelude.{◌≡◌, ◌⊎◌, ◌-◌, List, [], ℕ, ◌++◌, min, nat_lt, if◌then◌else◌, Option, None, Some}
+use Rattle.std.specs.Prelude.{◌≡◌, ◌-◌, List, [], ℕ, ◌++◌, min, nat_lt, if◌then◌else◌, Option, None, Some}
 use Rattle.table_run.specs.State.{State as NetState}
 use Rattle.net_machine.specs.Run.{Reached}
-use Rattle.trace_text.specs.Dump.{dump_bytes}
 use Rattle.debugger.specs.declared.breaks.Hit.{Hit}
 use Rattle.debugger.specs.declared.passed.LastEvent.{LastEvent}
 use Rattle.debugger.specs.declared.passed.LineOrder.TheVariants.{Rising, Falling}
 use Rattle.debugger.specs.declared.passed.Stretch.{Stretch}
 use Rattle.debugger.specs.Debugging.{Debugging}
 use Rattle.debug_session.specs.declared.naming.Naming.{Naming}
-use Rattle.debug_session.specs.declared.refusal.Refusal.TheVariants.{M}
 use Rattle.debug_session.specs.declared.report.Report.{Report}
-use Rattle.debug_session.specs.Answers.{SessionState, session_state, refusal_line}
+use Rattle.debug_session.specs.Answers.{SessionState}
 use Rattle.debug_session.specs.TypedMoves.{origin_text, where_line, TellsMatch, TellsPast}
 
 -- the state that the last move left is shown again
 abbrev pub GoesBack : Debugging → Debugging → Type 0
 GoesBack old new = (was : Reached) → old.left ≡ Some was → new ≡ record old { shown = was; left = None }
 
--- a move was refused, or it can be undone
-abbrev pub CanBeUndone : Debugging → Debugging → List ℕ → Type 0
-CanBeUndone old new out = (out ≡ refusal_line M) ⊎ (new ≡ record old { shown = new.shown; left = Some old.shown })
-
--- the dump is told, or that memory was refused, and then the move is undone
-abbrev pub Reported : Debugging → Debugging → List ℕ → Type 0
-Reported old new out = ((new ≡ old) × (out ≡ dump_bytes old.shown)) ⊎ (GoesBack old new × (out ≡ refusal_line M))
-
--- a move from a position is told with a breakpoint past a bound, or that memory was refused, and then it is undone
-abbrev pub ReportedPast : Naming → ℕ → Report → Debugging → Debugging → List ℕ → Type 0
-ReportedPast naming m report old new out = ((new ≡ old) × TellsPast naming old.start m report (session_state old) out) ⊎ (GoesBack old new × (out ≡ refusal_line M))
+-- a move that can be undone
+abbrev pub CanBeUndone : Debugging → Debugging → Type 0
+CanBeUndone old new = new ≡ record old { shown = new.shown; left = Some old.shown }
 
 -- past a bound where the last line comes from, where a session stands after a move, and past that bound which breakpoint stopped it, behind other bytes
 abbrev pub AddsPlace : Naming → NetState → ℕ → SessionState → List ℕ → List ℕ → Type 0

@@ -11,13 +11,13 @@ use Rattle.debug_session.specs.declared.session.DialogueFault.TheVariants.{NoMem
 use Rattle.window_engine.specs.Failures.{counted}
 use Rattle.debug_session.specs.Taking.{IsBeginningOf}
 use Rattle.debug_session.specs.Input.{text_lines, command_lines}
-use Rattle.debug_session.specs.Answers.{SessionState, opened_at, Stays, Answers}
+use Rattle.debug_session.specs.Answers.{SessionState, Answer, opened_at, Stays, Answers, answer_text}
 
 -- the lines are answered one after another, from where the session stands
 abbrev pub Ran : Limits → State → List (List ℕ) → SessionState → SessionState → List ℕ → Type 0
 Ran limits start [] old new out = Stays old new out []
 Ran limits start (line ∷ lines) old new out =
-    (between : SessionState) × (first rest : List ℕ) × Answers limits start line old between first × Ran limits start lines between new rest × (out ≡ first ++ rest)
+    (between : SessionState) × (answer : Answer) × (rest : List ℕ) × Answers limits start line old between answer × Ran limits start lines between new rest × (out ≡ answer_text answer ++ rest)
 
 -- these lines give this output, wherever the session stands in the end
 abbrev pub Output : Limits → State → List (List ℕ) → SessionState → List ℕ → Type 0

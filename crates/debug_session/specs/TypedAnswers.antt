@@ -1,5 +1,5 @@
 -- What a session at a prompt answers to a command, and where it stands afterwards.
-use Rattle.std.specs.Prelude.{◌≡◌, ◌<◌, ◌+◌, ◌-◌, ◌⊎◌, ℕ, List, [], ◌∷◌, ◌++◌, length, Contains, Bool, Option, None, Some, is_some}
+use Rattle.std.specs.Prelude.{◌≡◌, ◌<◌, ◌+◌, ◌-◌, ◌⊎◌, ℕ, List, [], ◌∷◌, ◌++◌, length, Contains, Option, Some, Ok, Err}
 use Rattle.table_run.specs.State.{State as NetState}
 use Rattle.trace_text.specs.DumpParts.{part_bytes}
 use Rattle.debug_session.specs.Missing.{why_text}
@@ -11,8 +11,9 @@ use Rattle.debug_session.specs.declared.command.Typed.TheVariants.{Go, State, Se
 use Rattle.debug_session.specs.declared.command.Shown.{Shown}
 use Rattle.debug_session.specs.declared.command.Shown.TheVariants.{Part, Why, Stalls, Lines, Where, Names, Help, HelpOn}
 use Rattle.debug_session.specs.declared.naming.Naming.{Naming}
+use Rattle.debug_session.specs.declared.refusal.Refusal.{Refusal}
 use Rattle.debug_session.specs.declared.refusal.Refusal.TheVariants.{B4, B5, M}
-use Rattle.debug_session.specs.Answers.{SessionState, GoesTo, Stays, Does, refusal_line}
+use Rattle.debug_session.specs.Answers.{SessionState, Answer, GoesTo, Stays, Does}
 use Rattle.debug_session.specs.Entries.{help_text, help_on}
 use Rattle.debug_session.specs.NamesReported.{names_text}
 use Rattle.debug_session.specs.StallLists.{TellsStalls}
@@ -26,12 +27,9 @@ pub record JoinsLast (naming : Naming) (b : Break) (old new : SessionState) (out
   pub joined : new ≡ record old { breaks = old.breaks ++ b ∷ [] }
   pub reported : out ≡ set_line naming (length old.breaks + 1) b
 
--- a breakpoint is set: one that is set already keeps its number, and there are at most 64
+-- a breakpoint is set: one that is set already keeps its number
 abbrev pub SetsNumbered : Naming → Break → SessionState → SessionState → List ℕ → Type 0
-SetsNumbered naming b old new out =
-    ((i : ℕ) × IsNumber old.breaks b i × Stays old new out (set_line naming i b))
-    ⊎ JoinsLast naming b old new out
-    ⊎ (¬ Contains old.breaks b × (length old.breaks ≡ 64) × Stays old new out (refusal_line B4))
+SetsNumbered naming b old new out = ((i : ℕ) × IsNumber old.breaks b i × Stays old new out (set_line naming i b)) ⊎ JoinsLast naming b old new out
 
 -- the breakpoint of a number is taken away, and the later ones move up
 pub record TakesAway (naming : Naming) (i : ℕ) (old new : SessionState) (out : List ℕ) : Type 0 where
@@ -41,9 +39,6 @@ pub record TakesAway (naming : Naming) (i : ℕ) (old new : SessionState) (out :
   pub taken : IsTakenOut old.breaks new.breaks index b
   pub same : new ≡ record old { breaks = new.breaks }
   pub reported : out ≡ deleted_line naming i b
-
-abbrev pub Deletes : Naming → ℕ → SessionState → SessionState → List ℕ → Type 0
-Deletes naming i old new out = TakesAway naming i old new out ⊎ (¬ HasNumber old.breaks i × Stays old new out (refusal_line B5))
 
 -- what is shown where a session stands, where the nodes, links and flows are called so
 abbrev pub Tells : Naming → NetState → SessionState → Shown → List ℕ → Type 0
@@ -61,7 +56,7 @@ abbrev pub DoesTyped : Naming → NetState → Typed → SessionState → Sessio
 DoesTyped naming start (Go move) old new out = MovesPast naming start (report_of move old.shown.position) (GoesTo move start old) old new out
 DoesTyped naming start State old new out = Does start command.State old new out
 DoesTyped naming start (SetBreak b) old new out = SetsNumbered naming b old new out
-DoesTyped naming start (Delete i) old new out = Deletes naming i old new out
+DoesTyped naming start (Delete i) old new out = TakesAway naming i old new out
 DoesTyped naming start Clear old new out = Does start command.Clear old new out
 DoesTyped naming start Breaks old new out = Stays old new out (listing naming old.breaks)
 DoesTyped naming start (Show what) old new out = (new ≡ old) × Tells naming start old what out
@@ -76,15 +71,29 @@ TypedCanBeRefused Clear old = ⊥
 TypedCanBeRefused Breaks old = 0 < length old.breaks
 TypedCanBeRefused (Show what) old = Unit {0}
 
--- a command is done, or refused for want of memory or of workers
-abbrev pub ObeysTyped : Naming → NetState → Typed → SessionState → SessionState → List ℕ → Type 0
-ObeysTyped naming start asked old new out = DoesTyped naming start asked old new out ⊎ (TypedCanBeRefused asked old × Stays old new out (refusal_line M))
+-- there are as many breakpoints as there may be
+abbrev pub TypedIsFull : Typed → SessionState → Type 0
+TypedIsFull (SetBreak b) old = ¬ Contains old.breaks b × (length old.breaks ≡ 64)
+TypedIsFull asked old = ⊥
 
--- the last move, once a command was read
+-- no breakpoint has the number
+abbrev pub TypedHasNone : Typed → SessionState → Type 0
+TypedHasNone (Delete i) old = ¬ HasNumber old.breaks i
+TypedHasNone asked old = ⊥
+
+-- why a command that was read is refused
+abbrev pub TypedIsRefused : Refusal → Typed → SessionState → Type 0
+TypedIsRefused M asked old = TypedCanBeRefused asked old
+TypedIsRefused B4 asked old = TypedIsFull asked old
+TypedIsRefused B5 asked old = TypedHasNone asked old
+TypedIsRefused refusal asked old = ⊥
+
+-- a command is done, or refused, and then nothing changes
+abbrev pub ObeysTyped : Naming → NetState → Typed → SessionState → SessionState → Answer → Type 0
+ObeysTyped naming start asked old new (Ok said) = DoesTyped naming start asked old new said
+ObeysTyped naming start asked old new (Err refusal) = (new ≡ old) × TypedIsRefused refusal asked old
+
+-- the last move, which an empty line does again, once a command was read
 abbrev pub last_after : Typed → Option Typed → Option Typed
 last_after (Go move) last = Some (Go move)
 last_after asked last = last
-
--- a command is a move, which an empty line does again
-abbrev pub is_move : Typed → Bool
-is_move asked = is_some (last_after asked None)

@@ -1,9 +1,10 @@
 //! Displays that are set, taken away and shown.
 ghost use Rattle.std.specs.Prelude.{◌≡◌, ◌<◌, ◌≤◌, Contains, MatchBool, length};
+ghost use Rattle.debug_session.specs.Answers.{answer_of};
 ghost use Rattle.debug_session.specs.Displays.{Reads, ObeysDisplays};
 ghost use Rattle.debug_session.specs.Numbered.{HasNumber};
 ghost use Rattle.debug_session.specs.Prompt.{at_prompt, ObeysDisplay};
-ghost use Rattle.debug_session.specs.Readouts.{present, ShowsBehind};
+ghost use Rattle.debug_session.specs.Readouts.{present};
 
 use crate::dialogue::Dialogue;
 use crate::display::{DisplayCommand, DisplayItem, MOST_DISPLAYS, item_at, number_of_display};
@@ -25,17 +26,18 @@ fn add_display(
     item: DisplayItem,
     displays: &mut Vec<DisplayItem>,
     said: &mut Said,
-)
+) -> Result<(), Refusal>
     requires fresh { ¬ Contains displays.old.items item }
     requires room { length displays.old.items < 64 }
-    ensures { ObeysDisplays names.now (present debugger.now time) (DisplayCommand.Add item) displays.old.items displays.new.items said.new }
+    ensures { ObeysDisplays names.now (present debugger.now time) (DisplayCommand.Add item) displays.old.items displays.new.items (answer_of result said.new) }
 {
     let number = displays.as_slice().len() as u64 + 1;
-    if said.say_display(debugger, names, time, number, item) {
-        match displays.push(item) {
-            Ok(()) => {}
-            Err(_) => said.say_refused(Refusal::M),
-        }
+    match said.say_display(debugger, names, time, number, item) {
+        Ok(()) => match displays.push(item) {
+            Ok(()) => Ok(()),
+            Err(_) => Err(Refusal::M),
+        },
+        Err(_) => Err(Refusal::M),
     }
 }
 
@@ -55,19 +57,17 @@ fn set_display(
     item: DisplayItem,
     displays: &mut Vec<DisplayItem>,
     said: &mut Said,
-)
-    ensures { ObeysDisplays names.now (present debugger.now time) (DisplayCommand.Add item) displays.old.items displays.new.items said.new }
+) -> Result<(), Refusal>
+    ensures { ObeysDisplays names.now (present debugger.now time) (DisplayCommand.Add item) displays.old.items displays.new.items (answer_of result said.new) }
 {
     let set = displays.as_slice();
     match number_of_display(set, item) {
-        Some(number) => {
-            let _is_told = said.say_display(debugger, names, time, number, item);
-        }
+        Some(number) => said.say_display(debugger, names, time, number, item),
         None => {
             if has_room(set) {
-                add_display(debugger, names, time, item, displays, said);
+                add_display(debugger, names, time, item, displays, said)
             } else {
-                said.say_refused(Refusal::B4);
+                Err(Refusal::B4)
             }
         }
     }
@@ -80,29 +80,35 @@ fn take_display(
     number: u64,
     displays: &mut Vec<DisplayItem>,
     said: &mut Said,
-)
+) -> Result<(), Refusal>
     requires { HasNumber displays.old.items number }
-    ensures { (now : Reads) → ObeysDisplays names.now now (DisplayCommand.TakeAway number) displays.old.items displays.new.items said.new }
+    ensures { (now : Reads) → ObeysDisplays names.now now (DisplayCommand.TakeAway number) displays.old.items displays.new.items (answer_of result said.new) }
 {
     let index = number as usize - 1;
     let item = item_at(displays.as_slice(), index);
     match said.say_undisplayed(names, number, item) {
         Ok(()) => {
             let _taken = displays.remove(index);
+            Ok(())
         }
-        Err(_) => said.say_refused(Refusal::M),
+        Err(_) => Err(Refusal::M),
     }
 }
 
 /// Takes a display away, where one has the number.
 #[tactic(none)]
-fn undisplay(names: &ScenarioNames, number: u64, displays: &mut Vec<DisplayItem>, said: &mut Said)
-    ensures { (now : Reads) → ObeysDisplays names.now now (DisplayCommand.TakeAway number) displays.old.items displays.new.items said.new }
+fn undisplay(
+    names: &ScenarioNames,
+    number: u64,
+    displays: &mut Vec<DisplayItem>,
+    said: &mut Said,
+) -> Result<(), Refusal>
+    ensures { (now : Reads) → ObeysDisplays names.now now (DisplayCommand.TakeAway number) displays.old.items displays.new.items (answer_of result said.new) }
 {
     if has_number(displays.as_slice(), number) {
-        take_display(names, number, displays, said);
+        take_display(names, number, displays, said)
     } else {
-        said.say_refused(Refusal::B5);
+        Err(Refusal::B5)
     }
 }
 
@@ -115,13 +121,11 @@ fn change_displays(
     asked: DisplayCommand,
     displays: &mut Vec<DisplayItem>,
     said: &mut Said,
-)
-    ensures { ObeysDisplays names.now (present debugger.now time) asked displays.old.items displays.new.items said.new }
+) -> Result<(), Refusal>
+    ensures { ObeysDisplays names.now (present debugger.now time) asked displays.old.items displays.new.items (answer_of result said.new) }
 {
     match asked {
-        DisplayCommand::All => {
-            said.say_displays(debugger, names, time, displays.as_slice());
-        }
+        DisplayCommand::All => said.say_displays(debugger, names, time, displays.as_slice()),
         DisplayCommand::Add(item) => set_display(debugger, names, time, item, displays, said),
         DisplayCommand::TakeAway(number) => undisplay(names, number, displays, said),
     }
@@ -134,8 +138,8 @@ pub(crate) fn obey_display(
     naming: &Naming,
     asked: DisplayCommand,
     said: &mut Said,
-)
-    ensures obeyed { ObeysDisplay naming.now dialogue.old.debugger.start asked (at_prompt dialogue.old) (at_prompt dialogue.new) said.new }
+) -> Result<(), Refusal>
+    ensures obeyed { ObeysDisplay naming.now dialogue.old.debugger.start asked (at_prompt dialogue.old) (at_prompt dialogue.new) (answer_of result said.new) }
     ensures start { dialogue.new.debugger.start ≡ dialogue.old.debugger.start }
 {
     match present_time(&mut dialogue.debugger) {
@@ -147,22 +151,6 @@ pub(crate) fn obey_display(
             &mut dialogue.displays,
             said,
         ),
-        Err(_) => said.say_refused(Refusal::M),
-    }
-}
-
-/// Tells displays behind the answer to a move from a moment. Where they cannot be told, the move is undone.
-#[tactic(none)]
-pub(crate) fn show_behind(
-    debugger: &mut Debugger,
-    names: &ScenarioNames,
-    displays: &[DisplayItem],
-    before: Time,
-    said: &mut Said,
-)
-    ensures { ShowsBehind names.now displays.now before debugger.old debugger.new said.old said.new }
-{
-    if !said.say_behind(debugger, names, displays, before) {
-        let _undone = debugger.undo_move();
+        Err(_) => Err(Refusal::M),
     }
 }

@@ -93,13 +93,6 @@ fn typed_alone(asked: Typed, line: &[u8]) -> Result<Request, Refusal>
     }
 }
 
-/// What is shown, where a line has no word.
-fn shown_alone(what: Shown, line: &[u8]) -> Result<Request, Refusal>
-    ensures { result ≡ typed_alone (Typed.Show what) (words_in line.now) }
-{
-    typed_alone(Typed::Show(what), line)
-}
-
 /// What is asked by the words behind `help`.
 fn help_asked(line: &[u8]) -> Result<Request, Refusal>
     ensures { result ≡ help_asked (words_in line.now) }
@@ -108,7 +101,7 @@ fn help_asked(line: &[u8]) -> Result<Request, Refusal>
         None => Ok(shows(Shown::Help)),
         Some((word, rest)) => match topic_of(word) {
             None => Err(Refusal::B1),
-            Some(place) => shown_alone(Shown::HelpOn(place), rest),
+            Some(place) => typed_alone(Typed::Show(Shown::HelpOn(place)), rest),
         },
     }
 }
@@ -171,13 +164,6 @@ fn count_typed(line: &[u8]) -> Result<u64, Refusal>
     number_or(1, line, AMOUNTS)
 }
 
-/// How many lines are asked for.
-fn lines_typed(line: &[u8]) -> Result<u64, Refusal>
-    ensures { result ≡ number_or 10 1001 (words_in line.now) }
-{
-    number_or(USUAL_LINES, line, MOST_LINES + 1)
-}
-
 /// The command of a name, with the words behind it, where those name no node, link or flow.
 fn plain_typed(name: CommandName, rest: &[u8]) -> Result<Request, Refusal>
     ensures { result ≡ plain_typed name (words_in rest.now) }
@@ -189,31 +175,34 @@ fn plain_typed(name: CommandName, rest: &[u8]) -> Result<Request, Refusal>
         CommandName::Run => typed_alone(Typed::Go(Move::Run), rest),
         CommandName::Reverse => typed_alone(Typed::Go(Move::Reverse), rest),
         CommandName::Until => Ok(goes(Move::Until(one_moment(rest)?))),
-        CommandName::Lines => Ok(shows(Shown::Lines(lines_typed(rest)?))),
+        CommandName::Lines => {
+            let count = number_or(USUAL_LINES, rest, MOST_LINES + 1)?;
+            Ok(shows(Shown::Lines(count)))
+        }
         CommandName::Delete => Ok(Request::Command(Typed::Delete(one_break_number(rest)?))),
         CommandName::Clear => typed_alone(Typed::Clear, rest),
         CommandName::Help => help_asked(rest),
         CommandName::Quit => Err(Refusal::B2),
         CommandName::Goto => Ok(goes(one_target(rest)?)),
-        CommandName::Where => shown_alone(Shown::Where(Extent::nothing()), rest),
-        CommandName::Names => shown_alone(Shown::Names, rest),
+        CommandName::Where => typed_alone(Typed::Show(Shown::Where(Extent::nothing())), rest),
+        CommandName::Names => typed_alone(Typed::Show(Shown::Names), rest),
         CommandName::Undisplay => {
             let number = one_break_number(rest)?;
             Ok(Request::Display(DisplayCommand::TakeAway(number)))
         }
-        CommandName::Stalls => shown_alone(Shown::Stalls, rest),
+        CommandName::Stalls => typed_alone(Typed::Show(Shown::Stalls), rest),
         CommandName::Break | CommandName::State | CommandName::Why | CommandName::Display => {
             Err(Refusal::B1)
         }
     }
 }
 
-/// What is read, with nothing to say of a word where it is refused.
-fn with_code<'a>(read: Result<Request, Refusal>) -> Result<Request, Refused<'a>>
+/// What came of a line, with nothing to say of a word where it is a refusal.
+pub(crate) fn with_code<'a, T>(read: Result<T, Refusal>) -> Result<T, Refused<'a>>
     ensures { by_code result ≡ read }
 {
     match read {
-        Ok(asked) => Ok(asked),
+        Ok(value) => Ok(value),
         Err(code) => Err(Refused::from(code)),
     }
 }
@@ -248,12 +237,4 @@ pub(crate) fn read_typed<'a>(
 {
     let (word, rest) = next_word(line)?;
     Some(command_typed(naming, name_of(word), rest))
-}
-
-/// Why a line says no command, and what would fit.
-pub fn refused_in<'a>(naming: &Naming, line: &'a [u8]) -> Option<Refused<'a>> {
-    match read_typed(naming, line)? {
-        Ok(_) => None,
-        Err(why) => Some(why),
-    }
 }

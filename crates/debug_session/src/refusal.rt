@@ -1,7 +1,10 @@
 //! Why a command is refused.
 ghost use Rattle.std.specs.Prelude.{◌≡◌};
+ghost use Rattle.debug_session.specs.Answers.{refusal_line};
 
 use crate::naming::PartSort;
+use debugger::MoveFault;
+use std::alloc::AllocError;
 
 /// Why a command is refused: the first of these that holds. A refused command changes nothing.
 #[derive(Clone, Copy)]
@@ -62,6 +65,44 @@ pub struct Refused<'a> {
     pub expected: Option<Expected>,
     /// The first name of a part of another sort than is asked for.
     pub misnamed: Option<Misnamed<'a>>,
+}
+
+impl Refusal {
+    /// The line that tells of it.
+    pub fn line(self) -> &'static [u8]
+        ensures { result.now ≡ refusal_line self }
+    {
+        match self {
+            Refusal::B1 => b"refused B1\n",
+            Refusal::B2 => b"refused B2\n",
+            Refusal::B3 => b"refused B3\n",
+            Refusal::B4 => b"refused B4\n",
+            Refusal::B5 => b"refused B5\n",
+            Refusal::M => b"refused M\n",
+        }
+    }
+}
+
+impl From<AllocError> for Refusal {
+    ghost use Rattle.std.specs.Prelude.{◌≡◌};
+    ghost use Rattle.debug_session.specs.declared.refusal.Refusal.TheVariants.{M};
+
+    ghost from_gives = { λ _ e. e ≡ M };
+
+    fn from(_error: AllocError) -> Refusal {
+        Refusal::M
+    }
+}
+
+impl From<MoveFault> for Refusal {
+    ghost use Rattle.std.specs.Prelude.{◌≡◌};
+    ghost use Rattle.debug_session.specs.declared.refusal.Refusal.TheVariants.{M};
+
+    ghost from_gives = { λ _ e. e ≡ M };
+
+    fn from(_fault: MoveFault) -> Refusal {
+        Refusal::M
+    }
 }
 
 impl<'a> From<Refusal> for Refused<'a> {

@@ -1,72 +1,78 @@
 //! A session's answer to a line of commands.
-ghost use Rattle.std.specs.Prelude.{◌≡◌, IfOk, OnErr};
-ghost use Rattle.debug_session.specs.Answers.{session_state, refusal_line, Sets, Obeys, Answers};
-ghost use Rattle.debug_session.specs.Reported.{Reported};
+ghost use Rattle.std.specs.Prelude.{◌≡◌, MatchResult};
+ghost use Rattle.debug_session.specs.Answers.{answer_of, session_state, Obeys, Answers};
+ghost use Rattle.debug_session.specs.Reported.{GoesBack};
 
 use crate::command::{Command, Limits};
 use crate::grammar::read_line;
 use crate::moves::make;
 use crate::refusal::Refusal;
 use crate::said::Said;
-use debugger::{Break, BreakFault, Debugger, MoveFault};
+use debugger::{Break, BreakFault, Debugger};
 use window_engine::{Gate, Hands};
 
-/// Tells what a move came to. Where there is no memory for that, the move is undone.
+/// Takes the last move back, where what it came to could not be told.
 #[tactic(none)]
-fn show_move(debugger: &mut Debugger, moved: Result<u64, MoveFault>, said: &mut Said)
-    ensures reported { IfOk moved (λ _. Reported debugger.old debugger.new said.new) }
-    ensures refused { OnErr moved ((debugger.new ≡ debugger.old) × (said.new ≡ refusal_line Refusal.M)) }
+pub(crate) fn or_undone(debugger: &mut Debugger, told: Result<(), Refusal>) -> Result<(), Refusal>
+    ensures same { result ≡ told }
+    ensures undone { MatchResult told (λ _. debugger.new ≡ debugger.old) (λ _. GoesBack debugger.old debugger.new) }
 {
-    match moved {
-        Ok(_) => {
-            if !said.say_state(debugger) {
-                let _undone = debugger.undo_move();
-            }
+    match told {
+        Ok(()) => Ok(()),
+        Err(why) => {
+            let _undone = debugger.undo_move();
+            Err(why)
         }
-        Err(_) => said.say_refused(Refusal::M),
     }
 }
 
 /// Sets a breakpoint.
 #[tactic(none)]
-fn set_break(debugger: &mut Debugger, b: Break, said: &mut Said)
-    ensures obeyed { Obeys debugger.old.start (Command.SetBreak b) (session_state debugger.old) (session_state debugger.new) said.new }
+fn set_break(debugger: &mut Debugger, b: Break, said: &mut Said) -> Result<(), Refusal>
+    ensures obeyed { Obeys debugger.old.start (Command.SetBreak b) (session_state debugger.old) (session_state debugger.new) (answer_of result said.new) }
     ensures start { debugger.new.start ≡ debugger.old.start }
 {
     let _is_set = debugger.has_break(b);
     match debugger.add_break(b) {
-        Ok(count) => said.say_set(count),
-        Err(BreakFault::TooMany) => said.say_refused(Refusal::B4),
-        Err(BreakFault::NoMemory) => said.say_refused(Refusal::M),
+        Ok(count) => {
+            said.say_set(count);
+            Ok(())
+        }
+        Err(BreakFault::TooMany) => Err(Refusal::B4),
+        Err(BreakFault::NoMemory) => Err(Refusal::M),
     }
 }
 
 /// Does what a command asks for. The moves `run` and `until` go by the debugger's workers.
 #[tactic(none)]
-pub(crate) fn obey<H: Hands>(
+fn obey<H: Hands>(
     hands: &H,
     gate: &Gate,
     debugger: &mut Debugger,
     command: Command,
     said: &mut Said,
-)
+) -> Result<(), Refusal>
     requires ready { H.ready hands.now }
-    ensures obeyed { Obeys debugger.old.start command (session_state debugger.old) (session_state debugger.new) said.new }
+    ensures obeyed { Obeys debugger.old.start command (session_state debugger.old) (session_state debugger.new) (answer_of result said.new) }
     ensures start { debugger.new.start ≡ debugger.old.start }
 {
     match command {
-        Command::Go(asked) => {
-            let moved = make(hands, gate, debugger, asked);
-            show_move(debugger, moved, said);
-        }
+        Command::Go(asked) => match make(hands, gate, debugger, asked) {
+            Ok(_) => {
+                let told = said.say_state(debugger);
+                or_undone(debugger, told)
+            }
+            Err(_) => Err(Refusal::M),
+        },
         Command::State => {
             let _here = debugger.position();
-            let _reported = said.say_state(debugger);
+            said.say_state(debugger)
         }
         Command::SetBreak(b) => set_break(debugger, b, said),
         Command::Clear => {
             debugger.clear_breaks();
             said.say_cleared();
+            Ok(())
         }
     }
 }
@@ -80,14 +86,17 @@ pub fn answer<H: Hands>(
     limits: Limits,
     line: &[u8],
     said: &mut Said,
-)
+) -> Result<(), Refusal>
     requires ready { H.ready hands.now }
-    ensures answers { Answers limits debugger.old.start line.now (session_state debugger.old) (session_state debugger.new) said.new }
+    ensures answers { Answers limits debugger.old.start line.now (session_state debugger.old) (session_state debugger.new) (answer_of result said.new) }
     ensures start { debugger.new.start ≡ debugger.old.start }
 {
     match read_line(limits, line) {
-        None => said.clear(),
-        Some(Err(refusal)) => said.say_refused(refusal),
+        None => {
+            said.clear();
+            Ok(())
+        }
+        Some(Err(refusal)) => Err(refusal),
         Some(Ok(command)) => obey(hands, gate, debugger, command, said),
     }
 }

@@ -1,8 +1,8 @@
 //! The answer to a command.
-ghost use Rattle.std.specs.Prelude.{◌≡◌, ◌<◌, ◌≤◌, ◌+◌, ◌++◌, ◌⊎◌, [], MatchBool, OnOk, OnErr, length, drop, decimal};
+ghost use Rattle.std.specs.Prelude.{◌≡◌, ◌<◌, ◌≤◌, ◌+◌, ◌++◌, [], OnOk, MatchResult, length, drop, decimal};
 ghost use Rattle.trace_text.specs.Dump.{dump_bytes};
 ghost use Rattle.debugger.specs.Moves.{HasPosition};
-ghost use Rattle.debug_session.specs.Answers.{session_state, refusal_line, break_line, clear_line};
+ghost use Rattle.debug_session.specs.Answers.{answer_of, answer_text, session_state, break_line, clear_line};
 ghost use Rattle.debugger.specs.Seen.{read_left_in};
 ghost use Rattle.debug_session.specs.Displays.{present_line, display_listing, displays_from, undisplayed_line};
 ghost use Rattle.debug_session.specs.Readouts.{now_of, was_of, present, TellsBehind};
@@ -99,6 +99,16 @@ impl Said {
         }
     }
 
+    /// What is put out where a command was answered so, and refusals are told among the answers.
+    pub fn text_of(&self, answered: Result<(), Refusal>) -> &[u8]
+        ensures { result.now ≡ answer_text (answer_of answered self.now) }
+    {
+        match answered {
+            Ok(()) => self.as_slice(),
+            Err(refusal) => refusal.line(),
+        }
+    }
+
     /// Answers nothing.
     pub fn clear(&mut self)
         ensures { self.new ≡ [] }
@@ -116,20 +126,6 @@ impl Said {
         self.start = put_text(&mut line, ROOM, text);
         self.short = line;
         self.is_short = true;
-    }
-
-    /// Answers that a command is refused.
-    pub fn say_refused(&mut self, refusal: Refusal)
-        ensures { self.new ≡ refusal_line refusal }
-    {
-        match refusal {
-            Refusal::B1 => self.say(b"refused B1\n"),
-            Refusal::B2 => self.say(b"refused B2\n"),
-            Refusal::B3 => self.say(b"refused B3\n"),
-            Refusal::B4 => self.say(b"refused B4\n"),
-            Refusal::B5 => self.say(b"refused B5\n"),
-            Refusal::M => self.say(b"refused M\n"),
-        }
     }
 
     /// Answers that all breakpoints are taken away.
@@ -158,8 +154,8 @@ impl Said {
         naming: &Naming,
         number: u64,
         b: Break,
-    ) -> Result<(), AllocError>
-        ensures { OnOk result (self.new ≡ set_line naming.now number b) }
+    ) -> Result<(), Refusal>
+        ensures { MatchResult result (λ _. self.new ≡ set_line naming.now number b) (λ why. why ≡ Refusal.M) }
     {
         self.dump.clear();
         self.is_short = false;
@@ -170,7 +166,8 @@ impl Said {
             number,
             b,
             Reading::Nothing,
-        )
+        )?;
+        Ok(())
     }
 
     /// Answers that a breakpoint is taken away, with the number that it had.
@@ -179,8 +176,8 @@ impl Said {
         naming: &Naming,
         number: u64,
         b: Break,
-    ) -> Result<(), AllocError>
-        ensures { OnOk result (self.new ≡ deleted_line naming.now number b) }
+    ) -> Result<(), Refusal>
+        ensures { MatchResult result (λ _. self.new ≡ deleted_line naming.now number b) (λ why. why ≡ Refusal.M) }
     {
         self.dump.clear();
         self.is_short = false;
@@ -191,13 +188,13 @@ impl Said {
             number,
             b,
             Reading::Nothing,
-        )
+        )?;
+        Ok(())
     }
 
-    /// Answers a line for each breakpoint. On a fault the answer is a part of that.
-    pub(crate) fn say_breaks(&mut self, naming: &Naming, breaks: &[Break]) -> Result<(), AllocError>
-        ensures ok { OnOk result (self.new ≡ listing naming.now breaks.now) }
-        ensures err { OnErr result (0 < length breaks.now) }
+    /// Answers a line for each breakpoint.
+    pub(crate) fn say_breaks(&mut self, naming: &Naming, breaks: &[Break]) -> Result<(), Refusal>
+        ensures { MatchResult result (λ _. self.new ≡ listing naming.now breaks.now) (λ why. (why ≡ Refusal.M) × (0 < length breaks.now)) }
     {
         if breaks.is_empty() {
             self.say(b"no breakpoint\n");
@@ -205,45 +202,36 @@ impl Said {
         }
         self.dump.clear();
         self.is_short = false;
-        append_listing(&mut self.dump, naming, breaks)
+        append_listing(&mut self.dump, naming, breaks)?;
+        Ok(())
     }
 
-    /// Answers a move from a position. The answer is whether it could be told.
+    /// Answers a move from a position.
     pub(crate) fn say_move(
         &mut self,
         debugger: &mut Debugger,
         naming: &Naming,
         from: u64,
         report: Report,
-    ) -> bool
+    ) -> Result<(), Refusal>
         requires { HasPosition debugger.old.start from }
-        ensures reported { MatchBool result (TellsPast naming.now debugger.old.start from report (session_state debugger.old) self.new) (self.new ≡ refusal_line Refusal.M) }
+        ensures reported { MatchResult result (λ _. TellsPast naming.now debugger.old.start from report (session_state debugger.old) self.new) (λ why. why ≡ Refusal.M) }
         ensures same { debugger.new ≡ debugger.old }
     {
         self.dump.clear();
         self.is_short = false;
-        match append_move(&mut self.dump, debugger, naming, from, report) {
-            Ok(()) => true,
-            Err(_) => {
-                self.say_refused(Refusal::M);
-                false
-            }
-        }
+        append_move(&mut self.dump, debugger, naming, from, report)?;
+        Ok(())
     }
 
-    /// Answers the dump of the state that is shown. The answer is whether there was memory for it.
-    pub(crate) fn say_state(&mut self, debugger: &Debugger) -> bool
-        ensures { MatchBool result (self.new ≡ dump_bytes debugger.now.shown) (self.new ≡ refusal_line Refusal.M) }
+    /// Answers the dump of the state that is shown.
+    pub(crate) fn say_state(&mut self, debugger: &Debugger) -> Result<(), Refusal>
+        ensures { MatchResult result (λ _. self.new ≡ dump_bytes debugger.now.shown) (λ why. why ≡ Refusal.M) }
     {
         self.dump.clear();
         self.is_short = false;
-        match debugger.state_text(&mut self.dump) {
-            Ok(()) => true,
-            Err(_) => {
-                self.say_refused(Refusal::M);
-                false
-            }
-        }
+        debugger.state_text(&mut self.dump)?;
+        Ok(())
     }
 
     /// Answers a line for each display, with the values that they have at a moment.
@@ -253,12 +241,12 @@ impl Said {
         names: &ScenarioNames,
         time: Time,
         displays: &[DisplayItem],
-    )
-        ensures { (self.new ≡ display_listing names.now (present debugger.now time) displays.now) ⊎ (self.new ≡ refusal_line Refusal.M) }
+    ) -> Result<(), Refusal>
+        ensures { MatchResult result (λ _. self.new ≡ display_listing names.now (present debugger.now time) displays.now) (λ why. why ≡ Refusal.M) }
     {
         if displays.is_empty() {
             self.say(b"no display\n");
-            return;
+            return Ok(());
         }
         let readout = Readout {
             debugger,
@@ -267,13 +255,11 @@ impl Said {
         };
         self.dump.clear();
         self.is_short = false;
-        match append_displays(&mut self.dump, names, &readout, displays) {
-            Ok(()) => {}
-            Err(_) => self.say_refused(Refusal::M),
-        }
+        append_displays(&mut self.dump, names, &readout, displays)?;
+        Ok(())
     }
 
-    /// Answers the display of a number, with the values that it has at a moment. The answer is whether there was memory for it.
+    /// Answers the display of a number, with the values that it has at a moment.
     pub(crate) fn say_display(
         &mut self,
         debugger: &Debugger,
@@ -281,8 +267,8 @@ impl Said {
         time: Time,
         number: u64,
         item: DisplayItem,
-    ) -> bool
-        ensures { MatchBool result (self.new ≡ present_line names.now (present debugger.now time) number item) (self.new ≡ refusal_line Refusal.M) }
+    ) -> Result<(), Refusal>
+        ensures { MatchResult result (λ _. self.new ≡ present_line names.now (present debugger.now time) number item) (λ why. why ≡ Refusal.M) }
     {
         let readout = Readout {
             debugger,
@@ -291,27 +277,23 @@ impl Said {
         };
         self.dump.clear();
         self.is_short = false;
-        match append_display(&mut self.dump, names, &readout, number, item) {
-            Ok(()) => true,
-            Err(_) => {
-                self.say_refused(Refusal::M);
-                false
-            }
-        }
+        append_display(&mut self.dump, names, &readout, number, item)?;
+        Ok(())
     }
 
-    /// Answers that a display is taken away. On a fault the answer is a part of that.
+    /// Answers that a display is taken away.
     pub(crate) fn say_undisplayed(
         &mut self,
         names: &ScenarioNames,
         number: u64,
         item: DisplayItem,
-    ) -> Result<(), AllocError>
-        ensures { OnOk result (self.new ≡ undisplayed_line names.now number item) }
+    ) -> Result<(), Refusal>
+        ensures { MatchResult result (λ _. self.new ≡ undisplayed_line names.now number item) (λ why. why ≡ Refusal.M) }
     {
         self.dump.clear();
         self.is_short = false;
-        append_undisplayed(&mut self.dump, names, number, item)
+        append_undisplayed(&mut self.dump, names, number, item)?;
+        Ok(())
     }
 
     // Answers a line for each display behind what is answered already.
@@ -341,53 +323,48 @@ impl Said {
         displays: &[DisplayItem],
         before: Time,
         time: Time,
-    ) -> Result<(), AllocError>
-        ensures { OnOk result (self.new ≡ self.old ++ displays_from names.now (λ what. read_left_in before what debugger.now.left) (present debugger.now time) 1 displays.now) }
+    ) -> Result<(), Refusal>
+        ensures { MatchResult result (λ _. self.new ≡ self.old ++ displays_from names.now (λ what. read_left_in before what debugger.now.left) (present debugger.now time) 1 displays.now) (λ why. why ≡ Refusal.M) }
     {
         let readout = Readout {
             debugger,
             left: Some(before),
             time,
         };
-        self.say_more(names, &readout, displays)
+        self.say_more(names, &readout, displays)?;
+        Ok(())
     }
 
-    /// Answers the lines of displays behind the answer to a move from a moment. The answer is whether they could be told.
+    /// Answers the lines of displays behind the answer to a move from a moment.
     pub(crate) fn say_behind(
         &mut self,
         debugger: &mut Debugger,
         names: &ScenarioNames,
         displays: &[DisplayItem],
         before: Time,
-    ) -> bool
-        ensures told { MatchBool result (TellsBehind names.now displays.now before debugger.old self.old self.new) (self.new ≡ refusal_line Refusal.M) }
+    ) -> Result<(), Refusal>
+        ensures told { MatchResult result (λ _. TellsBehind names.now displays.now before debugger.old self.old self.new) (λ why. why ≡ Refusal.M) }
         ensures same { debugger.new ≡ debugger.old }
     {
         match present_time(debugger) {
-            Ok(time) => match self.say_compared(debugger, names, displays, before, time) {
-                Ok(()) => true,
-                Err(_) => {
-                    self.say_refused(Refusal::M);
-                    false
-                }
-            },
-            Err(_) => {
-                self.say_refused(Refusal::M);
-                false
-            }
+            Ok(time) => self.say_compared(debugger, names, displays, before, time),
+            Err(_) => Err(Refusal::M),
         }
     }
 
     /// Answers what is shown.
-    pub(crate) fn say_shown(&mut self, debugger: &mut Debugger, naming: &Naming, what: Shown)
-        ensures reported { Tells naming.now debugger.old.start (session_state debugger.old) what self.new ⊎ (self.new ≡ refusal_line Refusal.M) }
+    pub(crate) fn say_shown(
+        &mut self,
+        debugger: &mut Debugger,
+        naming: &Naming,
+        what: Shown,
+    ) -> Result<(), Refusal>
+        ensures reported { MatchResult result (λ _. Tells naming.now debugger.old.start (session_state debugger.old) what self.new) (λ why. why ≡ Refusal.M) }
         ensures same { debugger.new ≡ debugger.old }
     {
         self.dump.clear();
         self.is_short = false;
-        match append_shown(&mut self.dump, debugger, naming, what) {
-            Ok(()) => {}
-            Err(_) => self.say_refused(Refusal::M),
-        }
+        append_shown(&mut self.dump, debugger, naming, what)?;
+        Ok(())
     }
 }

@@ -47,8 +47,8 @@ pub fn run_commands<H: Hands, S: Sink>(
     let mut rest = commands;
     while !rest.is_empty() {
         let (line, after) = cut(rest, b'\n');
-        answer(hands, gate, debugger, limits, line, said);
-        match put_all(out, said.as_slice()) {
+        let answered = answer(hands, gate, debugger, limits, line, said);
+        match put_all(out, said.text_of(answered)) {
             Ok(()) => {}
             Err(_) => return Err(SinkFail),
         }

@@ -8,7 +8,7 @@ use Rattle.std.specs.Io.KnownBytes.{Appends}
 use Rattle.table_run.specs.State.{State}
 use Rattle.debug_session.specs.declared.naming.Naming.{Naming}
 use Rattle.debug_session.specs.declared.refusal.Refusal.TheVariants.{B2}
-use Rattle.debug_session.specs.Answers.{refusal_line}
+use Rattle.debug_session.specs.Answers.{Answer}
 use Rattle.debug_session.specs.Prompt.{Ask, AnswersTyped, AtPrompt, Rests, Typing, Typed, TypedAnswers, TypedRan, AreInTime, IsSoFar, IsTypedOut, is_long, is_quit, lines_in, none_quits, answer_out, quits}
 use Rattle.debug_session.specs.Input.{words_in}
 use Rattle.debug_session.specs.Taking.{Takes}
@@ -60,20 +60,20 @@ cut_quits room line count cut wide =
     (λ (long : (is_long line ≡ true) × (is_long (take count room) ≡ true)). long_goes_on (take count room) long.1 ∙ sym (long_goes_on line long.0)) (same_or_long room line count cut wide)
 
 -- and is answered as the line is
-pub cut_answers : (naming : Naming) (start : State) (room line : List ℕ) (count : ℕ) (old new : AtPrompt) (said : List ℕ) → IsCut room count line → 65536 < length room
+pub cut_answers : (naming : Naming) (start : State) (room line : List ℕ) (count : ℕ) (old new : AtPrompt) (said : Answer) → IsCut room count line → 65536 < length room
     → TypedAnswers naming start (take count room) old new said → TypedAnswers naming start line old new said
 cut_answers naming start room line count old new said cut wide answers =
     ⊎_elim (λ (same : take count room ≡ line). subst (λ (l : List ℕ). TypedAnswers naming start l old new said) same answers)
     (λ (long : (is_long line ≡ true) × (is_long (take count room) ≡ true)). refused line long.0 (refuses (take count room) long.1 answers)) (same_or_long room line count cut wide)
   where
-    refuses : (l : List ℕ) → is_long l ≡ true → TypedAnswers naming start l old new said → Rests old new said (refusal_line B2)
-    refuses l long = subst (λ (t : Bool). MatchBool t (Rests old new said (refusal_line B2)) (MatchBool (is_quit l) (Rests old new said []) (AnswersTyped naming start l old new said))) long
+    refuses : (l : List ℕ) → is_long l ≡ true → TypedAnswers naming start l old new said → Rests old new said (Err B2)
+    refuses l long = subst (λ (t : Bool). MatchBool t (Rests old new said (Err B2)) (MatchBool (is_quit l) (Rests old new said (Ok [])) (AnswersTyped naming start l old new said))) long
 
-    refused : (l : List ℕ) → is_long l ≡ true → Rests old new said (refusal_line B2) → TypedAnswers naming start l old new said
-    refused l long = subst (λ (t : Bool). MatchBool t (Rests old new said (refusal_line B2)) (MatchBool (is_quit l) (Rests old new said []) (AnswersTyped naming start l old new said))) (sym long)
+    refused : (l : List ℕ) → is_long l ≡ true → Rests old new said (Err B2) → TypedAnswers naming start l old new said
+    refused l long = subst (λ (t : Bool). MatchBool t (Rests old new said (Err B2)) (MatchBool (is_quit l) (Rests old new said (Ok [])) (AnswersTyped naming start l old new said))) (sym long)
 
 -- a line that was found was answered
-pub answered_as : (naming : Naming) (start : State) (count : ℕ) (room : List ℕ) (old new : AtPrompt) (said : List ℕ) (before after : Streams) (IsPut : List ℕ → Type 0) → Found before.typed after.typed count room before.written → 65536 < length room
+pub answered_as : (naming : Naming) (start : State) (count : ℕ) (room : List ℕ) (old new : AtPrompt) (said : Answer) (before after : Streams) (IsPut : List ℕ → Type 0) → Found before.typed after.typed count room before.written → 65536 < length room
     → is_quit (take count room) ≡ false → TypedAnswers naming start (take count room) old new said → IsPut (answer_out said) → IsAnswered IsPut naming start old new before after
 answered_as naming start count room old new said before after IsPut found wide goes_on answers put =
     record {
@@ -93,10 +93,10 @@ file_hindered {T} (Err other) known file is =
     let input = text_of known in (input.0, input.1, subst (λ (r : Result T SessionFault). IfErr r (IsFileFault file input.0)) (sym is) tt)
 
 -- one line more is answered
-ran_more : (naming : Naming) (start : State) (lines : List (List ℕ)) (line : List ℕ) (old between new : AtPrompt) (made said : List ℕ)
+ran_more : (naming : Naming) (start : State) (lines : List (List ℕ)) (line : List ℕ) (old between new : AtPrompt) (made : List ℕ) (said : Answer)
     → TypedRan naming start lines old between made → TypedAnswers naming start line between new said → TypedRan naming start (lines ++ line ∷ []) old new (made ++ answer_out said)
 ran_more naming start [] line old between new made said ran one =
-    (new, said, [], subst (λ (at : AtPrompt). TypedAnswers naming start line at new said) ran.same one, record { same = refl; reported = refl }, ap (λ l. l ++ answer_out said) ran.reported ∙ sym (append-nil (answer_out said)))
+    (new, said, [], subst (λ (at : AtPrompt). TypedAnswers naming start line at new said) ran.0 one, (refl, refl), ap (λ l. l ++ answer_out said) ran.1 ∙ sym (append-nil (answer_out said)))
 ran_more naming start (l ∷ lines) line old between new made said ran one =
     (ran.0, ran.1, ran.2 ++ answer_out said, ran.3, ran_more naming start lines line ran.0 between new ran.2 said ran.4 one, ap (λ x. x ++ answer_out said) ran.5 ∙ append_assoc (answer_out ran.1) ran.2 (answer_out said))
 
@@ -143,7 +143,7 @@ pub record SoFar (naming : Naming) (start : State) (old now : AtPrompt) (before 
   pub none : none_quits (lines_in asks) ≡ true
 
 pub none_yet : (naming : Naming) (start : State) (at : AtPrompt) (streams : Streams) → SoFar naming start at at streams streams
-none_yet naming start at streams = record { asks = []; typed = none_typed streams.typed; in_time = tt; answered = ([], Appends-nil streams.written, record { same = refl; reported = refl }); none = refl }
+none_yet naming start at streams = record { asks = []; typed = none_typed streams.typed; in_time = tt; answered = ([], Appends-nil streams.written, (refl, refl)); none = refl }
 
 module _ (naming : Naming) (start : State) (old was : AtPrompt) (first before : Streams) (so_far : SoFar naming start old was first before) where
   answers_so_far : IsSoFar naming start old (lines_in so_far.asks) first.written before.written
@@ -177,8 +177,8 @@ module _ (naming : Naming) (start : State) (old was : AtPrompt) (first before : 
       let ask = turn.ask in
       let asks = so_far.asks ++ ask ∷ [] in
       let made = so_far.answered.0 in
-      let silent : TypedAnswers naming start ask.line was was [] = quit_silent ask.line turn.quits in
-      let ran : TypedRan naming start (lines_in so_far.asks ++ ask.line ∷ []) old was (made ++ []) = ran_more naming start (lines_in so_far.asks) ask.line old was was made [] so_far.answered.2 silent in
+      let silent : TypedAnswers naming start ask.line was was (Ok []) = quit_silent ask.line turn.quits in
+      let ran : TypedRan naming start (lines_in so_far.asks ++ ask.line ∷ []) old was (made ++ []) = ran_more naming start (lines_in so_far.asks) ask.line old was was made (Ok []) so_far.answered.2 silent in
       let all : TypedRan naming start (lines_in asks) old was made =
       subst (λ (ls : List (List ℕ)). TypedRan naming start ls old was made) (sym (lines_more so_far.asks ask)) (subst (λ (out : List ℕ). TypedRan naming start (lines_in so_far.asks ++ ask.line ∷ []) old was out) (append-nil made) ran) in
       record {
@@ -188,12 +188,12 @@ module _ (naming : Naming) (start : State) (old was : AtPrompt) (first before : 
         ending = ((made, subst (λ (held : Option (List ℕ)). Appends first.written held made) (sym turn.unwritten) so_far.answered.1, (was, all)), inl (lines_in so_far.asks, ask.line, lines_more so_far.asks ask, so_far.none, turn.quits));
       }
     where
-      quit_silent : (line : List ℕ) → is_quit line ≡ true → TypedAnswers naming start line was was []
+      quit_silent : (line : List ℕ) → is_quit line ≡ true → TypedAnswers naming start line was was (Ok [])
       quit_silent line quits = go (is_long line) refl
         where
-          go : (long : Bool) → is_long line ≡ long → MatchBool long (Rests was was [] (refusal_line B2)) (MatchBool (is_quit line) (Rests was was [] []) (AnswersTyped naming start line was was []))
+          go : (long : Bool) → is_long line ≡ long → MatchBool long (Rests was was (Ok []) (Err B2)) (MatchBool (is_quit line) (Rests was was (Ok []) (Ok [])) (AnswersTyped naming start line was was (Ok [])))
           go true is = absurd (false≢true (sym (long_goes_on line is) ∙ quits))
-          go false is = subst (λ (t : Bool). MatchBool t (Rests was was [] []) (AnswersTyped naming start line was was [])) (sym quits) (record { same = refl; reported = refl })
+          go false is = subst (λ (t : Bool). MatchBool t (Rests was was (Ok []) (Ok [])) (AnswersTyped naming start line was was (Ok []))) (sym quits) (record { same = refl; reported = refl })
 
   -- no line was typed
   unanswered : (now : AtPrompt) (after : Streams) → IsSilent was now before after → IsSoFar naming start old (lines_in so_far.asks) first.written after.written

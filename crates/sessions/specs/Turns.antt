@@ -3,6 +3,7 @@ use Rattle.std.specs.Prelude.{◌≡◌, ℕ, true, false, List, [], ◌∷◌, 
 use Rattle.std.specs.Io.KnownBytes.{Appends}
 use Rattle.table_run.specs.State.{State}
 use Rattle.debug_session.specs.declared.naming.Naming.{Naming}
+use Rattle.debug_session.specs.Answers.{Answer}
 use Rattle.debug_session.specs.Prompt.{Ask, AtPrompt, Typed, TypedAnswers, IsTypedOut, is_quit, answer_out}
 use Rattle.sessions.specs.declared.fault.SessionFault.{SessionFault}
 use Rattle.sessions.specs.declared.fault.SessionFault.TheVariants.{ReadFailed, WriteFailed}
@@ -21,7 +22,7 @@ pub record IsAnswered (IsPut : List ℕ → Type 0) (naming : Naming) (start : S
   pub ask : Ask
   pub asked : IsAsked ask before after
   pub goes_on : is_quit ask.line ≡ false
-  pub said : List ℕ
+  pub said : Answer
   pub answers : TypedAnswers naming start ask.line old new said
   pub put : IsPut (answer_out said)
 

@@ -4,7 +4,9 @@ ghost use Rattle.std.specs.Io.KnownBytes.{Appends};
 ghost use Rattle.table_run.specs.State.{initial};
 ghost use Rattle.debugger.specs.Debugging.{debugging_opened};
 ghost use Rattle.debug_session.specs.Memos.{no_memo};
+ghost use Rattle.debug_session.specs.Answers.{answer_of};
 ghost use Rattle.debug_session.specs.Prompt.{at_prompt, answer_out};
+ghost use Rattle.debug_session.specs.Refusals.{by_code};
 ghost use Rattle.sessions.specs.Done.{IsPromptDone, IsPromptOpened, IsRefused};
 ghost use Rattle.sessions.specs.Ended.{writes_after, reads_after};
 ghost use Rattle.sessions.specs.Prompt.{IsTypedSession};
@@ -24,7 +26,7 @@ use crate::scenario_input::reported_scenario;
 use crate::source::Source;
 use command_line::notes::Notes;
 use command_line::sharing::Sharing;
-use debug_session::{Dialogue, MOST_LINE, Naming, Said, answer_typed, is_quit, is_refusal};
+use debug_session::{Dialogue, MOST_LINE, Naming, Refused, Said, answer_typed, is_quit};
 use debugger::Debugger;
 use scenario_image::Scenario;
 use std::alloc::{AllocError, Global};
@@ -60,19 +62,21 @@ fn put_answer<W: Sink, N: Notes>(
     alloc: Global,
     prompt: &Prompt,
     line: &[u8],
+    answered: Result<(), Refused<'_>>,
     writer: &mut W,
     notes: &mut N,
 ) -> Result<(), SinkFail>
-    ensures ok { OnOk result (Appends (W.contents writer.old) (W.contents writer.new) (answer_out prompt.now.said)) }
-    ensures err { OnErr result (Writes (IsBeginningOf (λ all. all ≡ answer_out prompt.now.said)) (W.contents writer.old) (W.contents writer.new)) }
+    ensures ok { OnOk result (Appends (W.contents writer.old) (W.contents writer.new) (answer_out (answer_of (by_code answered.entry) prompt.now.said))) }
+    ensures err { OnErr result (Writes (IsBeginningOf (λ all. all ≡ answer_out (answer_of (by_code answered.entry) prompt.now.said))) (W.contents writer.old) (W.contents writer.new)) }
     ensures failures { W.failures writer.new ≡ failures_after result (W.failures writer.old) }
 {
-    let answer = prompt.said.as_slice();
-    if is_refusal(answer) {
-        tell_refused(alloc, &prompt.naming, line, answer, notes);
-        return Ok(());
+    match answered {
+        Ok(()) => put_all(writer, prompt.said.as_slice()),
+        Err(why) => {
+            tell_refused(alloc, &prompt.naming, line, &why, notes);
+            Ok(())
+        }
     }
-    put_all(writer, answer)
 }
 
 /// Asks for a line, and answers it.
@@ -101,7 +105,7 @@ fn take_turn<R: Source, W: Sink, H: Hands, N: Notes>(
     if is_quit(line) {
         return Ok(Turn::Quit);
     }
-    answer_typed(
+    let answered = answer_typed(
         tools.hands,
         tools.means.gate,
         &mut prompt.dialogue,
@@ -109,7 +113,7 @@ fn take_turn<R: Source, W: Sink, H: Hands, N: Notes>(
         line,
         &mut prompt.said,
     );
-    put_answer(tools.means.alloc, prompt, line, writer, notes)?;
+    put_answer(tools.means.alloc, prompt, line, answered, writer, notes)?;
     Ok(Turn::Answered)
 }
 

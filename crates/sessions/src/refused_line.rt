@@ -4,7 +4,7 @@ use crate::nearest::{command_begun, first_word, tell_nearest};
 use command_line::notes::{Notes, Numbers};
 use command_line::reasons::{meaning_of, shown_bytes};
 use debug_session::{
-    CommandName, Expected, MOST_LINE, Misnamed, Naming, PartSort, Refusal, Refused, refused_in,
+    CommandName, Expected, MOST_LINE, Misnamed, Naming, PartSort, Refusal, Refused,
 };
 use std::alloc::{AllocError, Global};
 use std::str;
@@ -80,16 +80,16 @@ fn of_other_debuggers(word: &[u8]) -> Option<&'static str> {
 }
 
 /// What there is in the place of what a line of a command has, or lacks.
-fn advice(code: &str, command: Option<CommandName>) -> Option<&'static str> {
+fn advice(code: Refusal, command: Option<CommandName>) -> Option<&'static str> {
     match (code, command?) {
-        ("B1" | "B2", CommandName::Display) => Some(DISPLAYS),
-        ("B1" | "B2", CommandName::State) => Some(PARTS),
-        ("B1", CommandName::Help) => Some(TOPICS),
-        ("B2" | "B3", CommandName::Until | CommandName::Goto) => Some(UNITS),
-        ("B2", CommandName::Why) => Some(WHY),
-        ("B2", CommandName::Stalls) => Some(STALLS),
-        ("B2" | "B5", CommandName::Delete) => Some(BREAKS),
-        ("B2" | "B5", CommandName::Undisplay) => Some(DISPLAYED),
+        (Refusal::B1 | Refusal::B2, CommandName::Display) => Some(DISPLAYS),
+        (Refusal::B1 | Refusal::B2, CommandName::State) => Some(PARTS),
+        (Refusal::B1, CommandName::Help) => Some(TOPICS),
+        (Refusal::B2 | Refusal::B3, CommandName::Until | CommandName::Goto) => Some(UNITS),
+        (Refusal::B2, CommandName::Why) => Some(WHY),
+        (Refusal::B2, CommandName::Stalls) => Some(STALLS),
+        (Refusal::B2 | Refusal::B5, CommandName::Delete) => Some(BREAKS),
+        (Refusal::B2 | Refusal::B5, CommandName::Undisplay) => Some(DISPLAYED),
         _ => None,
     }
 }
@@ -158,13 +158,11 @@ fn tell_expected<N: Notes>(naming: &Naming, expected: Option<Expected>, notes: &
 }
 
 /// Tells what would fit, where a line says no command.
-fn tell_fitting<N: Notes>(alloc: Global, naming: &Naming, line: &[u8], notes: &mut N) {
-    if let Some(refused) = refused_in(naming, line) {
-        if matches!(refused.code, Refusal::B3) {
-            tell_misnamed(alloc, &refused, notes);
-        }
-        tell_expected(naming, refused.expected, notes);
+fn tell_fitting<N: Notes>(alloc: Global, naming: &Naming, refused: &Refused<'_>, notes: &mut N) {
+    if matches!(refused.code, Refusal::B3) {
+        tell_misnamed(alloc, refused, notes);
     }
+    tell_expected(naming, refused.expected, notes);
 }
 
 /// Tells that a line is refused, and what that means; where it names no command, the nearest one, or what does the same
@@ -173,28 +171,30 @@ pub(crate) fn tell_refused<N: Notes>(
     alloc: Global,
     naming: &Naming,
     line: &[u8],
-    refusal: &[u8],
+    refused: &Refused<'_>,
     notes: &mut N,
 ) {
-    notes.line_refused(refusal);
-    let Some(code) = code_in(refusal) else {
-        return;
-    };
-    if let Some(meaning) = meaning_of(code) {
-        notes.refusal_means(meaning);
+    let text = refused.code.line();
+    notes.line_refused(text);
+    if let Some(code) = code_in(text) {
+        if let Some(meaning) = meaning_of(code) {
+            notes.refusal_means(meaning);
+        }
     }
-    if code == "B2" && line.len() > MOST_LINE {
+    if line.len() > MOST_LINE {
         return;
     }
     let command = command_begun(line);
-    match (code, command) {
-        ("B1", None) => tell_instead(alloc, line, notes),
-        ("B1" | "B2", Some(CommandName::Break)) => tell_fitting(alloc, naming, line, notes),
-        _ => match advice(code, command) {
+    match (refused.code, command) {
+        (Refusal::B1, None) => tell_instead(alloc, line, notes),
+        (Refusal::B1 | Refusal::B2, Some(CommandName::Break)) => {
+            tell_fitting(alloc, naming, refused, notes);
+        }
+        _ => match advice(refused.code, command) {
             Some(advice) => notes.refusal_means(advice),
             None => {
-                if code == "B3" {
-                    tell_fitting(alloc, naming, line, notes);
+                if matches!(refused.code, Refusal::B3) {
+                    tell_fitting(alloc, naming, refused, notes);
                 }
             }
         },

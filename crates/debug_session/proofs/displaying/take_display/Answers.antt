@@ -1,4 +1,4 @@
-use Rattle.std.proofs.Common.{◌∙◌, ◌-◌, List, length, get_or, inl, inr, refl, sym, ap, arith}
+use Rattle.std.proofs.Common.{◌∙◌, ◌-◌, List, length, get_or, refl, sym, ap, arith}
 use Rattle.debug_session.specs.declared.display.DisplayItem.{DisplayItem}
 use Rattle.debug_session.proofs.displaying.take_display.Goals as goal
 
@@ -15,7 +15,7 @@ pub returns-in-Ok : goal.returns-in-Ok
 returns-in-Ok c = λ now.
     let index = c.args.number - 1 in
     let item = c.item_at-item.result in
-    inl (inl (record {
+    record {
       index = index;
       item = item;
       number = omega (arith, c.requires.above);
@@ -23,7 +23,7 @@ returns-in-Ok c = λ now.
       there = ap (λ (items : List DisplayItem). get_or items index item) (sym c.as_slice.ensures.value) ∙ c.item_at-item.ensures item;
       left = c.remove-taken.ensures.items;
       reported = c.in-Ok.ensures;
-    }))
+    }
 
 pub returns-in-Err : goal.returns-in-Err
-returns-in-Err c = λ now. inr (refl, c.say_refused.ensures)
+returns-in-Err c = λ now. (refl, tt)

@@ -1,7 +1,7 @@
-use Rattle.std.proofs.Common.{◌<◌, ◌⊎◌, List, length, subst}
+use Rattle.std.proofs.Common.{◌<◌, ◌⊎◌, List, length, refl, subst}
 use Rattle.debug_session.specs.declared.display.DisplayItem.{DisplayItem}
 use Rattle.debug_session.specs.Numbered.{HasNumber}
-use Rattle.debug_session.proofs.Displayed.{none_to_take}
+use Rattle.debug_session.proofs.Listed.{has_none}
 use Rattle.debug_session.proofs.displaying.undisplay.Goals as goal
 
 pub take_display-requires : goal.take_display-requires
@@ -12,4 +12,4 @@ returns-then-has_number c = c.take_display.ensures
 
 pub returns-else-has_number : goal.returns-else-has_number
 returns-else-has_number c = λ now.
-    none_to_take c.args.names.now now c.args.displays.now.items c.say_refused.new.self c.args.number (subst (λ (items : List DisplayItem). (c.args.number < 1) ⊎ (length items < c.args.number)) c.as_slice.ensures.value c.if-has_number.ensures) c.say_refused.ensures
+    (refl, has_none c.args.displays.now.items c.args.number (subst (λ (items : List DisplayItem). (c.args.number < 1) ⊎ (length items < c.args.number)) c.as_slice.ensures.value c.if-has_number.ensures))

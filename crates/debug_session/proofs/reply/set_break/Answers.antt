@@ -2,7 +2,8 @@ use Rattle.std.proofs.Common.{ap, sym, ◌∙◌}
 use Rattle.std.specs.List.{Contains}
 use Rattle.debugger.specs.declared.breaks.BreakFault.TheVariants.{TooMany}
 use Rattle.debugger.specs.Debugging.{Debugging}
-use Rattle.debug_session.proofs.Setting.{decided, set_done, set_full, set_refused, ok_no_err, err_no_ok, many_no_memory, fault_of}
+use Rattle.debug_session.specs.Answers.{session_state}
+use Rattle.debug_session.proofs.Setting.{decided, has_room, is_full, set_done, ok_no_err, err_no_ok, many_no_memory, fault_of}
 use Rattle.debug_session.proofs.reply.set_break.Goals as goal
 
 pub returns-in-Ok-clause-obeyed : goal.returns-in-Ok-clause-obeyed
@@ -17,20 +18,18 @@ returns-in-Ok-clause-start c = ap (λ (d : Debugging). d.start) c.in-Ok.ensures.
 
 pub returns-in-Err-TooMany-clause-obeyed : goal.returns-in-Err-TooMany-clause-obeyed
 returns-in-Err-TooMany-clause-obeyed c =
-    let d = c.args.debugger.now in
     let e = c.in-Err-TooMany.ensures in
-    set_full c.args.b d c.add_break.new.self c.say_refused.new.self (decided (Contains d.breaks c.args.b) c.has_break-is_set.result c.has_break-is_set.ensures.value) c.has_break-is_set.ensures.few
-    e.err (λ has. err_no_ok _ _ (e.again has).1) (λ under. many_no_memory (sym c.in-Err-TooMany.field-0-is ∙ e.room under)) c.say_refused.ensures
+    let many = is_full c.args.debugger.now.breaks c.has_break-is_set.ensures.few (λ under. many_no_memory (sym c.in-Err-TooMany.field-0-is ∙ e.room under)) in
+    (ap session_state e.err, ((λ has. err_no_ok _ _ (e.again has).1), many))
 
 pub returns-in-Err-TooMany-clause-start : goal.returns-in-Err-TooMany-clause-start
 returns-in-Err-TooMany-clause-start c = ap (λ (d : Debugging). d.start) c.in-Err-TooMany.ensures.err
 
 pub returns-in-Err-NoMemory-clause-obeyed : goal.returns-in-Err-NoMemory-clause-obeyed
 returns-in-Err-NoMemory-clause-obeyed c =
-    let d = c.args.debugger.now in
     let e = c.in-Err-NoMemory.ensures in
-    set_refused c.args.b d c.add_break.new.self c.say_refused-in-Err-NoMemory.new.self c.has_break-is_set.ensures.few
-    e.err (λ has. err_no_ok _ _ (e.again has).1) (λ hasn't many. many_no_memory (sym (ap fault_of (e.full hasn't many)) ∙ c.in-Err-NoMemory.field-0-is)) c.say_refused-in-Err-NoMemory.ensures
+    let hasn't : ¬ Contains c.args.debugger.now.breaks c.args.b = λ has. err_no_ok _ _ (e.again has).1 in
+    (ap session_state e.err, (hasn't, has_room c.args.debugger.now.breaks c.has_break-is_set.ensures.few (λ many. many_no_memory (sym (ap fault_of (e.full hasn't many)) ∙ c.in-Err-NoMemory.field-0-is))))
 
 pub returns-in-Err-NoMemory-clause-start : goal.returns-in-Err-NoMemory-clause-start
 returns-in-Err-NoMemory-clause-start c = ap (λ (d : Debugging). d.start) c.in-Err-NoMemory.ensures.err

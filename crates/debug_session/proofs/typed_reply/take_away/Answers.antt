@@ -1,4 +1,4 @@
-use Rattle.std.proofs.Common.{◌≡◌, ◌∙◌, ◌+◌, ◌-◌, List, length, get_or, inr, refl, sym, ap, arith}
+use Rattle.std.proofs.Common.{◌≡◌, ◌∙◌, ◌+◌, ◌-◌, List, length, get_or, refl, sym, ap, arith}
 use Rattle.debugger.specs.declared.breaks.Break.{Break}
 use Rattle.debugger.specs.Debugging.{Debugging}
 use Rattle.debug_session.proofs.Deleting.{taken_away}
@@ -26,7 +26,7 @@ pub returns-in-Ok-clause-start : goal.returns-in-Ok-clause-start
 returns-in-Ok-clause-start c = ap (λ (d : Debugging). d.start) c.delete_break-taken.ensures.same
 
 pub returns-in-Err-clause-obeyed : goal.returns-in-Err-clause-obeyed
-returns-in-Err-clause-obeyed c = inr (c.requires, record { same = refl; reported = c.say_refused.ensures })
+returns-in-Err-clause-obeyed c = (refl, c.requires)
 
 pub returns-in-Err-clause-start : goal.returns-in-Err-clause-start
 returns-in-Err-clause-start c = refl

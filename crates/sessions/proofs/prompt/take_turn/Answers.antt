@@ -1,5 +1,7 @@
 use Rattle.std.proofs.Common.{◌≡◌, ◌<◌, ◌∙◌, true, false, refl, sym, subst, take, length, arith, Result, Err, rules}
+use Rattle.debug_session.specs.Answers.{answer_of}
 use Rattle.debug_session.specs.Prompt.{at_prompt, is_quit}
+use Rattle.debug_session.specs.Refusals.{by_code}
 use Rattle.sessions.specs.declared.fault.SessionFault.{SessionFault}
 use Rattle.sessions.specs.declared.fault.SessionFault.TheVariants.{WriteFailed}
 use Rattle.sessions.specs.declared.prompt.Turn.{Turn}
@@ -20,7 +22,7 @@ returns-clause-turn g c =
     let found = found_line SourceFail before.typed after.typed c.in_ok-count.field-0 count room before.written c.in-Some.is c.in_ok-count.ensures.line in
     let wide : 65536 < length room = omega (arith, c.requires.room, c.next_line.auto.room) in
     let goes_on : is_quit (take count room) ≡ false = sym c.is_quit.ensures ∙ c.if-is_quit.false in
-    answered_as prompt.naming prompt.dialogue.debugger.start count room (at_prompt prompt.dialogue) (at_prompt c.answer_typed.new.dialogue) c.answer_typed.new.said before after (IsAll before after) found wide goes_on (c.answer_typed.ensures.answers goes_on)
+    answered_as prompt.naming prompt.dialogue.debugger.start count room (at_prompt prompt.dialogue) (at_prompt c.answer_typed-answered.new.dialogue) (answer_of (by_code c.answer_typed-answered.result) c.answer_typed-answered.new.said) before after (IsAll before after) found wide goes_on (c.answer_typed-answered.ensures.answers goes_on)
     c.in_ok-put_answer.ensures.ok
 
 pub returns-then-is_quit-clause-turn : goal.returns-then-is_quit-clause-turn
@@ -52,6 +54,6 @@ returns-in_err-put_answer-clause-turn g c =
     let wide : 65536 < length room = omega (arith, c.requires.room, c.next_line.auto.room) in
     let goes_on : is_quit (take count room) ≡ false = sym c.is_quit.ensures ∙ c.if-is_quit.false in
     let is : c.from_residual-in_err-put_answer.result ≡ Err WriteFailed = search rules in
-    subst (λ (r : Result Turn SessionFault). IsTurn prompt.naming prompt.dialogue.debugger.start (at_prompt prompt.dialogue) (at_prompt c.answer_typed.new.dialogue) r before after) (sym is)
-    (answered_as prompt.naming prompt.dialogue.debugger.start count room (at_prompt prompt.dialogue) (at_prompt c.answer_typed.new.dialogue) c.answer_typed.new.said before after (IsCutOff before after) found wide goes_on (c.answer_typed.ensures.answers goes_on)
+    subst (λ (r : Result Turn SessionFault). IsTurn prompt.naming prompt.dialogue.debugger.start (at_prompt prompt.dialogue) (at_prompt c.answer_typed-answered.new.dialogue) r before after) (sym is)
+    (answered_as prompt.naming prompt.dialogue.debugger.start count room (at_prompt prompt.dialogue) (at_prompt c.answer_typed-answered.new.dialogue) (answer_of (by_code c.answer_typed-answered.result) c.answer_typed-answered.new.said) before after (IsCutOff before after) found wide goes_on (c.answer_typed-answered.ensures.answers goes_on)
     c.in_err-put_answer.ensures.err)
