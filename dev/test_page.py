@@ -27,9 +27,11 @@ from clone import TOP
 from page_use import choose, element, look, run, text_of, wanted
 from tcpsim import VERSIONS
 from tcpsim.command_line import Refused
+from tcpsim.figures import Figures, figures
 from tcpsim.replay.page import about
 from tcpsim.scenario.text import Scenario
 from tcpsim.stalls import stalls_of, walk_of
+from tcpsim.summary import by_name
 
 pytest_plugins = 'page_fixtures'
 DRAWN = 2000            # cases
@@ -323,12 +325,31 @@ def test_figures_begin_with_what_people_ask(browser):
     text = page_cases.read('examples', 'parking_lot_of_three_routers.txt').decode()
     said, tables = figures_of(browser, text)
     assert said[0] == 'Bottleneck: qu, 90.6 % utilized in 8.000 s.' and said[1].startswith("Jain's index of goodput: 0.8491, of 3 flows")
-    assert tables[0][1:] == [['fa', '64 kbit/s', '26.7 %', 'qu', '13.6 %', '2', '7', '184 ms', '361 ms', '-'], ['fb', '113 kbit/s', '63.3 %', 'pq', '8.4 %', '3', '18', '71 ms', '111 ms', '-'],
-                             ['fc', '189 kbit/s', '73.3 %', 'qu', '5.8 %', '1', '25', '71 ms', '168 ms', '-']]
+    assert tables[0][1:] == [['fa', '64 kbit/s', '26.7 %', 'qu', '13.6 %', '2', '31', '184 ms', '361 ms', '-'], ['fb', '113 kbit/s', '63.3 %', 'pq', '8.4 %', '3', '76', '71 ms', '166 ms', '-'],
+                             ['fc', '189 kbit/s', '73.3 %', 'qu', '5.8 %', '1', '128', '71 ms', '194 ms', '-']]
     assert [row[0] for row in tables[1]] == ['link', 'pq', 'qu'] and len(tables[2]) == 15
     closed = browser.json('[...document.querySelectorAll("#figures-table details")].map(it => [it.open, it.firstChild.textContent])')
     assert closed == [[False, '14 links carried less than a tenth of the busiest, and dropped nothing'], [False, 'all figures, as the program counts them']]
     assert browser.value('document.querySelector("#figures-table td").title') == '64,000 bit/s'
+
+
+@pytest.mark.parametrize('name', ('sawtooth_of_congestion_avoidance', 'four_flows_share_a_long_queue', 'four_flows_share_codel'))
+def test_figures_of_a_trace_are_those_of_tcpsim_flows(browser, name):
+    """Round trips and waits to the nanosecond, loss to a tenth of a percent."""
+    text, trace = (page_cases.read('examples', f'{name}.{ending}').decode() for ending in ('txt', 'trace'))
+    rows = figures(Figures(Scenario(text), trace.split('\n')[:-1]))
+    figures_of(browser, text)
+    told = browser.json('''[...document.querySelectorAll("#figures-table > .table, #figures-table > details:first-of-type > .table")].map(place => {
+      const [head, ...rows] = place.firstChild.rows;
+      return rows.map(({cells}) => Object.fromEntries([...cells].map((cell, k) => [head.cells[k].textContent, [cell.textContent, cell.title.split(" ns")[0]]])));
+    }).flat()''')
+    shown = {what: {row[what][0]: row for row in told if what in row} for what in ('flow', 'link')}
+    for what, columns in (('flow', {'least RTT': 'least round trip', 'median RTT': 'median round trip'}),
+                          ('link', {'median wait': 'median delay in the queue', '99 % wait': '99th percentile of delay in the queue'})):
+        for which, values in by_name(rows, what).items():
+            row = shown[what][which]
+            assert row['loss'][0] == f'{100 * (values["loss"] or 0):.1f} %', (which, row)
+            assert {head: row[head][1] for head in columns} == {head: f'{values[figure]:,}' for head, figure in columns.items()}, which
 
 
 FLOWS_OF_SORTS = """sim 20000000000

@@ -566,14 +566,20 @@ def heads_of_flows(browser):
 
 
 def test_round_trips_that_were_timed_say_so(sized):
-    """A sender times one segment a round trip and none that it sent again: the table of flows says how many these are."""
+    """With no trace they are those that the sender timed, one segment at a time: the table of flows says how many, and that the program
+    counts in classes. With a trace neither is so."""
     browser = sized
     choose(browser, 'lesson 10')
     show(browser, 'figures')
+    names = [name for name, _ in heads_of_flows(browser)]
+    assert 'median RTT' in names and 'RTTs timed' not in names
+    assert 'classes' not in browser.value('document.getElementById("figures-table").innerHTML')
+    browser.value('simulator.start({trace: false})')
     heads = heads_of_flows(browser)
     names = [name for name, _ in heads]
     at = names.index('RTTs timed')
     assert names[at:at + 3] == ['RTTs timed', 'least timed RTT', 'median of timed RTTs'] and 'RFC 6298 section 3' in heads[at][1]
+    assert 'the program counts in classes, and this is the bound of one: at most 1/32 above' in heads[at + 2][1]
     cells = browser.json('[...document.querySelectorAll("#figures-table > .table:first-of-type tbody tr")].map(row => [...row.cells].map(e => [e.textContent, e.title]))')
     assert [[text for text, _ in row[at:at + 3]] for row in cells] == [['8', '48.8 ms', '134 ms'], ['1', '58.2 ms', '58.2 ms']]
     assert cells[0][at + 2][1] == '134,217,727 ns, of 8 that were timed'

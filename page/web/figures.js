@@ -52,11 +52,14 @@ function tableOf(heads, rows) {
   return around;
 }
 
+// The least of these numbers that so many in a hundred do not exceed, as in samples.py; null of none. They are in order.
+const percentile = (ranked, percent) => ranked.length ? ranked[Math.max(0, Math.ceil(percent * ranked.length / 100) - 1)] : null;
+
 // What people ask of a run, of the program's table and of the trace, where that was kept: `record` or null.
 class Overview {
   constructor(csv, facts, record) {
     const values = new Map(readFigures(csv).map(({what, number, figure, value}) => [`${what} ${number} ${figure}`, value === '-' ? null : +value]));
-    Object.assign(this, {facts, record, of: (what, number, figure) => values.get(`${what} ${number} ${figure}`), sums: []});
+    Object.assign(this, {facts, record: record && record.facts.whole ? record : null, of: (what, number, figure) => values.get(`${what} ${number} ${figure}`), sums: []});
     const flows = d3.range(facts.flows.length);
     this.completed = flows.map(f => this.of('flow', f, 'completed'));
     this.begin = d3.min(facts.flows, ({start}) => start);
@@ -90,6 +93,18 @@ class Overview {
   }
   // The segments of a flow that were dropped; null where no trace was kept.
   lost(f) { return this.record && this.record.drops.filter(({flow, sort}) => flow === f && sort === DATA).length; }
+  // How many round trips a flow had, the least and the median: of the trace, else of those that its sender timed.
+  trips(f) {
+    if (!this.record) return ['round trips', 'least round trip', 'median round trip'].map(figure => this.of('flow', f, figure));
+    const ranked = this.record.timers[f].trips.all.slice().sort();
+    return [ranked.length, ...[0, 50].map(percent => percentile(ranked, percent))];
+  }
+  // The median and the 99th percentile of the waits in a link's queue: of the trace, else of the table.
+  waits(l) {
+    if (!this.record) return ['median', '99th percentile of'].map(which => this.of('link', l, `${which} delay in the queue`));
+    const track = this.record.tracks[l], ranked = Float64Array.from({length: track.gone}, (_, k) => track.begun(k) - track.entered(track.entryOf(k))).sort();
+    return [50, 99].map(percent => percentile(ranked, percent));
+  }
   words() {
     const {facts, used, begin, end} = this, index = jain(this.compared[0].map(f => this.goodputs[f])), most = used.indexOf(Math.max(...used));
     return [`Bottleneck: ${facts.links[most].name}, ${percent(used[most])} utilized in ${seconds(end - begin, 3)}.`,
@@ -99,31 +114,34 @@ class Overview {
   flowRows() {
     return this.facts.flows.map(({name}, f) => {
       const goodput = this.goodputs[f], share = this.share(f), lost = this.lost(f), sent = this.of('flow', f, 'sent'), done = this.completed[f];
-      const timed = this.of('flow', f, 'round trips'), trips = ['least', 'median'].map(which => this.of('flow', f, `${which} round trip`));
+      const [timed, ...trips] = this.trips(f);
       return [name, goodput === null ? '-' : [rateText(+goodput.toPrecision(4)), `${number(Math.round(goodput))} bit/s`, goodput],
         share === null ? '-' : [percent(share), `of the bytes that ${this.facts.links[this.bottleneck(f)].name} sent`, share], this.facts.links[this.bottleneck(f)].name,
         lost === null ? '-' : [percent(lost / (sent || 1)), `${number(lost)} of ${number(sent)} segments`, lost / (sent || 1)], [number(this.of('flow', f, 'timeouts')), '', this.of('flow', f, 'timeouts')],
-        number(timed), ...trips.map(trip => trip === null ? '-' : [waitText(trip), `${number(trip)} ns, of ${number(timed)} that were timed`, trip]), done === null ? '-' : [seconds(done, 3), `${number(done)} ns`, done]];
+        number(timed), ...trips.map(trip => trip === null ? '-' : [waitText(trip), `${number(trip)} ns, of ${number(timed)}${this.record ? '' : ' that were timed'}`, trip]), done === null ? '-' : [seconds(done, 3), `${number(done)} ns`, done]];
     });
   }
   linkRows(links) {
     return links.map(l => {
-      const wait = part => { const value = this.of('link', l, `${part} delay in the queue`); return value === null ? '-' : [value ? waitText(value) : '0', `${number(value)} ns`, value]; };
-      const dropped = this.dropped(l), offered = this.of('link', l, 'offered');
-      return [this.facts.links[l].name, [percent(this.used[l]), `${number(this.of('link', l, 'busy'))} ns busy`, Math.min(1, this.used[l])], wait('median'),
-        wait('99th percentile of'), ...[this.of('link', l, 'greatest queue'), dropped].map(packets => [number(packets), '', packets]),
-        [percent(dropped / (offered || 1)), `of ${number(offered)} packets`, dropped / (offered || 1)]];
+      const waits = this.waits(l).map(value => value === null ? '-' : [value ? waitText(value) : '0', `${number(value)} ns`, value]);
+      const dropped = this.dropped(l), gone = dropped + this.of('link', l, 'sent packets');
+      return [this.facts.links[l].name, [percent(this.used[l]), `${number(this.of('link', l, 'busy'))} ns busy`, Math.min(1, this.used[l])], ...waits,
+        ...[this.of('link', l, 'greatest queue'), dropped].map(packets => [number(packets), '', packets]),
+        [percent(dropped / (gone || 1)), `of ${number(gone)} packets that it sent or dropped`, dropped / (gone || 1)]];
     });
   }
 }
 const percent = part => `${(100 * part).toFixed(1)} %`;
-const FLOW_HEADS = ['flow', ['goodput from its start', 'bytes in order at the receiver, a second, from the flow\u2019s own start to its completion or the end'],
+const IN_CLASSES = 'the program counts in classes, and this is the bound of one: at most 1/32 above';
+const flowHeads = kept => ['flow', ['goodput from its start', 'bytes in order at the receiver, a second, from the flow\u2019s own start to its completion or the end'],
   ['share of the whole run', 'of the bytes that its bottleneck sent from the run\u2019s begin to its end, with headers and what was sent again'],
   ['bottle\u00adneck', 'the busiest link on its way'], ['loss', 'the part of its segments that was dropped'], ['time\u00adouts', 'how often its retransmission timer ended'],
-  ['RTTs timed', 'how many round trips its sender timed: one segment at a time, and none that was sent again (RFC 6298 section 3). So the longer they are, the fewer are timed'],
-  ['least timed RTT', 'the least of these'], ['median of timed RTTs', 'of these, not of all segments'], ['complete at', 'when all its bytes were acknowledged']];
-const LINK_HEADS = ['link', ['utilization', 'the part of the time in which it sends'], ['median wait', 'in its queue'], ['99 % wait', 'the 99th percentile of the wait in its queue'],
-  ['most waiting', 'packets in its queue at most'], ['dropped', 'packets'], ['loss', 'the part of the packets offered to it that was dropped']];
+  ...(kept ? [['RTTs', 'how many round trips: of each segment that was sent once and is acknowledged by its own number'], ['least RTT', 'the least of these'], ['median RTT', 'of these']] :
+    [['RTTs timed', 'how many round trips its sender timed: one segment at a time, and none that was sent again (RFC 6298 section 3). So the longer they are, the fewer are timed'],
+      ['least timed RTT', 'the least of these'], ['median of timed RTTs', `of these, not of all segments; ${IN_CLASSES}`]]), ['complete at', 'when all its bytes were acknowledged']];
+const linkHeads = kept => ['link', ['utilization', 'the part of the time in which it sends'], ...[['median wait', 'in its queue'], ['99 % wait', 'the 99th percentile of the wait in its queue']]
+  .map(([text, title]) => [text, kept ? title : `${title}; ${IN_CLASSES}`]), ['most waiting', 'packets in its queue at most'], ['dropped', 'packets'],
+  ['loss', 'the part of the packets that it sent or dropped; those that still wait at the end are not among them']];
 
 function headOf(text) {
   const head = document.createElement('h2');
@@ -137,12 +155,12 @@ function folded(words, ...parts) {
   return made;
 }
 function drawFigures(place, csv, facts, record) {
-  const seen = new Overview(csv, facts, record), idle = seen.carriedLittle(), busy = d3.range(facts.links.length).filter(l => !idle.includes(l));
+  const seen = new Overview(csv, facts, record), heads = linkHeads(seen.record), idle = seen.carriedLittle(), busy = d3.range(facts.links.length).filter(l => !idle.includes(l));
   const said = document.createElement('ul');
   said.className = 'says';
   said.append(...seen.words().map(words => Object.assign(document.createElement('li'), {textContent: words})));
-  place.replaceChildren(said, headOf('Flows'), tableOf(FLOW_HEADS, seen.flowRows()), headOf('Links'), tableOf(LINK_HEADS, seen.linkRows(busy)),
-    ...(idle.length ? [folded(`${many(idle.length, 'link')} carried less than a tenth of the busiest, and dropped nothing`, tableOf(LINK_HEADS, seen.linkRows(idle)))] : []),
+  place.replaceChildren(said, headOf('Flows'), tableOf(flowHeads(seen.record), seen.flowRows()), headOf('Links'), tableOf(heads, seen.linkRows(busy)),
+    ...(idle.length ? [folded(`${many(idle.length, 'link')} carried less than a tenth of the busiest, and dropped nothing`, tableOf(heads, seen.linkRows(idle)))] : []),
     folded('all figures, as the program counts them', ...wholeTables(csv, facts)));
 }
 // The program's table, whole: of flows, of links and of the run.

@@ -82,15 +82,21 @@ class Curve {
   get last() { return this.values.all[this.values.length - 1]; }
 }
 
-// A sender's timer: by which event it was set (RFC 6298 section 5), and how often it was doubled since a round trip was measured.
+// A sender's timer: by which event it was set (RFC 6298 section 5), and how often it was doubled since a round trip was measured. Its
+// `trips` are those of each segment that was sent once and is acknowledged by its own number, as of traces/reader.py.
 class SenderTimer {
-  constructor(mss) { Object.assign(this, {mss, runs: false, set: 0, partial: false, timed: null, unmeasured: false, doubled: 0}); }
+  constructor(mss) {
+    Object.assign(this, {mss, runs: false, set: 0, partial: false, timed: null, unmeasured: false, doubled: 0});
+    Object.assign(this, {once: new Map(), trips: new Column(Float64Array)});      // `once`: when a segment was sent, by the number that acknowledges it
+  }
   // Takes a sender's line: `una` and `recovery` after it, the state before it, and so many segments that it sends. Where the timer ended it
   // answers by which event it was set, 0 where that is before the record, and how often it had been doubled.
-  take(event, kind, una, recovery, row, base, numbers, many) {
+  take(event, time, kind, una, recovery, row, base, numbers, many) {
     const partial = recovery && row[base + RECOVERY];
     let ended = null;
     if (una > row[base + UNA]) {
+      if (this.once.has(una)) this.trips.push(time - this.once.get(una));
+      for (const end of this.once.keys()) { if (end > una) break; this.once.delete(end); }
       if (this.timed !== null && una >= this.timed) { this.timed = null; this.unmeasured = false; }
       // Of a recovery's partial acknowledgements the first sets it (RFC 6582 section 3.2 step 3).
       if (!(partial && this.partial)) this.runs = una < row[base + NXT] && this.begin(event);
@@ -104,8 +110,8 @@ class SenderTimer {
     let high = row[base + HIGH];
     for (let k = 0; k < many; k++) {
       const number = numbers[k];
-      if (number < high) this.timed = null;
-      else { high = number + this.mss; if (this.timed === null) this.timed = high; }
+      if (number < high) { this.timed = null; this.once.clear(); }
+      else { high = number + this.mss; this.once.set(high, time); if (this.timed === null) this.timed = high; }
       if (!this.runs) this.begin(event);
     }
     return ended;
@@ -304,7 +310,7 @@ class Record {
     }
     for (let k = 0; k < many; k++) this.offer(link, f, DATA, sends[k], sends[k] < high);
     if (this.keep) {
-      const ended = this.timers[f].take(this.now, kind, una, recovery, row, base, sends, many);
+      const ended = this.timers[f].take(this.now, time, kind, una, recovery, row, base, sends, many);
       if (ended) { this.timeouts.push(this.first + this.now); this.timerEnds.push({...ended, since: this.movedAt[f]}); }
       const [windows, thresholds, recoveries] = this.curves[f];
       if (una > before || kind === START) this.moves(f, time);
@@ -411,7 +417,7 @@ class Record {
   }
   columns() {
     return [this.moments, this.snapshots, this.lines.pieceOf, this.lines.startOf, ...Object.values(this.dropped), ...Object.values(this.delayed),
-      ...[...this.curves.flat(), ...this.queues].flatMap(({at, values}) => [at, values])];
+      ...this.timers.map(({trips}) => trips), ...[...this.curves.flat(), ...this.queues].flatMap(({at, values}) => [at, values])];
   }
   // All of it, as a worker hands it over with its numbers, and as a page takes it.
   handed() {
