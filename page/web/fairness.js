@@ -80,7 +80,7 @@ function tooShort(facts, begin, end, flows, portions) {
   const half = STUDENT * Math.sqrt(d3.sum(thirds, variance) / THIRD);
   const changed = goodputs.length > 0 && Math.abs(after - before) > Math.max(half, LEAST_CHANGE * d3.mean(goodputs));
   if (changed)
-    found.push(`Not settled: goodput is ${(before / 1e6).toFixed(3)} Mbit/s in the first third and ${(after / 1e6).toFixed(3)} in the last, ±${(half / 1e6).toFixed(3)}.`);
+    found.push(`Not settled: goodput is ${(before / 1e6).toFixed(3)} Mbit/s in the first third and ${(after / 1e6).toFixed(3)} in the last, ±${(half / 1e6).toFixed(3)} (bytes count once they are in order).`);
   if (found.length) found[found.length - 1] += ' ' + adviceOf(facts, begin, end, flows, length, changed);
   return found;
 }

@@ -91,7 +91,7 @@ class Thirds(NamedTuple):
 
     def __str__(self) -> str:
         return (f'Not settled: goodput is {self.before / 1e6:.3f} Mbit/s in the first third and {self.after / 1e6:.3f} in the last, '
-                f'±{self.half / 1e6:.3f}.')
+                f'±{self.half / 1e6:.3f} (bytes count once they are in order).')
 
 
 def thirds(run: Figures | EngineRun, flows: Sequence[int]) -> Thirds | None:

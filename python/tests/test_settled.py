@@ -101,7 +101,7 @@ def test_the_last_third_beside_the_first():
     for more, changed in ((61_250, False), (62_500, True), (-62_500, True)):
         said = thirds(Told(*first, *first, *(count + more for count in first)), [0])
         assert said.changed == changed
-    assert str(said) == 'Not settled: goodput is 1.500 Mbit/s in the first third and 1.000 in the last, ±0.495.'
+    assert str(said) == 'Not settled: goodput is 1.500 Mbit/s in the first third and 1.000 in the last, ±0.495 (bytes count once they are in order).'
     for last, changed in ((101_000, False), (104_000, True)):
         assert thirds(Told(*[100_000] * 20, *[last] * 10), [0]).changed == changed
     assert thirds(Told(*first), [0]) is None
