@@ -573,13 +573,17 @@ def test_round_trips_that_were_timed_say_so(sized):
     show(browser, 'figures')
     names = [name for name, _ in heads_of_flows(browser)]
     assert 'median RTT' in names and 'RTTs timed' not in names
-    assert 'classes' not in browser.value('document.getElementById("figures-table").innerHTML')
+    of_classes = '[...document.querySelectorAll("#figures-table thead th")].filter(e => e.title.includes("counts in classes")).length'
+    assert browser.value(of_classes) == 0
+    whole = browser.json('[...document.querySelectorAll("#figures-table > details:last-of-type tbody th")].map(e => [e.textContent, e.title])')
+    assert [name for name, title in whole if 'counts in classes' in title] == [name for name, _ in whole if re.match('median|..th percentile', name)] != []
     browser.value('simulator.start({trace: false})')
     heads = heads_of_flows(browser)
     names = [name for name, _ in heads]
     at = names.index('RTTs timed')
     assert names[at:at + 3] == ['RTTs timed', 'least timed RTT', 'median of timed RTTs'] and 'RFC 6298 section 3' in heads[at][1]
     assert 'the program counts in classes, and this is the bound of one: at most 1/32 above' in heads[at + 2][1]
+    assert browser.value(of_classes) == 5          # of flows, and two of either table of links
     cells = browser.json('[...document.querySelectorAll("#figures-table > .table:first-of-type tbody tr")].map(row => [...row.cells].map(e => [e.textContent, e.title]))')
     assert [[text for text, _ in row[at:at + 3]] for row in cells] == [['8', '48.8 ms', '134 ms'], ['1', '58.2 ms', '58.2 ms']]
     assert cells[0][at + 2][1] == '134,217,727 ns, of 8 that were timed'

@@ -281,7 +281,7 @@ class Compare {
     for (const {of, figure, unit, values} of ones) {
       const row = body.insertRow();
       addCell(row, 'th', of).scope = 'row';
-      addCell(row, 'td', UNITS_IN_CELLS.includes(unit) || unit === figure ? figure : `${figure} (${unit})`).className = 'word';
+      Object.assign(addCell(row, 'td', UNITS_IN_CELLS.includes(unit) || unit === figure ? figure : `${figure} (${unit})`), {className: 'word', title: titleOf(figure)});
       for (const value of values) addCell(row, 'td', value ? inUnits(value, unit) : 'has none').title = value && value !== '-' ? `${number(value)} ${unit}` : 'there is none';
       addCell(row, 'td', changeOf(values, unit));
     }

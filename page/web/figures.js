@@ -133,6 +133,8 @@ class Overview {
 }
 const percent = part => `${(100 * part).toFixed(1)} %`;
 const IN_CLASSES = 'the program counts in classes, and this is the bound of one: at most 1/32 above';
+// What a figure of the program's table is, where a trace has it otherwise.
+const titleOf = figure => [/round trip/.test(figure) && 'of those that the sender timed, one segment at a time', /^median|percentile/.test(figure) && IN_CLASSES].filter(Boolean).join('; ');
 const flowHeads = kept => ['flow', ['goodput from its start', 'bytes in order at the receiver, a second, from the flow\u2019s own start to its completion or the end'],
   ['share of the whole run', 'of the bytes that its bottleneck sent from the run\u2019s begin to its end, with headers and what was sent again'],
   ['bottle\u00adneck', 'the busiest link on its way'], ['loss', 'the part of its segments that was dropped'], ['time\u00adouts', 'how often its retransmission timer ended'],
@@ -176,7 +178,7 @@ function wholeTables(csv, facts) {
     }
     return [headOf(title), tableOf(['figure', ...names], [...values].map(([kind, cells]) => {
       const [figure, unit] = kind.split('|');
-      return [UNITS_IN_CELLS.includes(unit) || unit === figure ? figure : `${figure} (${unit})`, ...cells];
+      return [[UNITS_IN_CELLS.includes(unit) || unit === figure ? figure : `${figure} (${unit})`, titleOf(figure)], ...cells];
     }))];
   });
 }
