@@ -859,6 +859,26 @@ def test_a_dropped_packet_is_its_flows_and_crossed_out(sized):
         look(browser, f'dropped_{example}')
 
 
+# What is seen of the drops while it plays, at a moment: how many there are, what of the link they lie over, and how faded they are.
+FALLING = """(time => { page.fall = 9e8; page.record.go(page.record.eventsBefore(time)); page.time = time; page.draw(); delete page.fall;
+  const drops = [...document.querySelectorAll('.drop')], boxes = drops.map(drop => drop.querySelector('rect, .disc').getBoundingClientRect());
+  const others = [...document.querySelectorAll('.link :is(.count, .rate, .box), .packet')].map(e => [e.textContent, e.getBoundingClientRect()]);
+  return [drops.length, others.filter(([, one]) => boxes.some(two => one.left < two.right && two.left < one.right && one.top < two.bottom && two.top < one.bottom)).map(([text]) => text),
+    drops.map(drop => +getComputedStyle(drop).opacity)]; })"""
+
+
+def test_what_falls_covers_nothing(browser):
+    """Of the many that a full queue drops in a second few are seen at once, none over words, the queue or a packet, and they fade."""
+    browser.size(1280, 800)
+    choose(browser, 'lesson 16')
+    first = browser.value('page.record.drops[0].time')
+    seen = [browser.json(f'{FALLING}({first} + {step} * 5e7)') for step in range(1, 60)]
+    assert max(count for count, *_ in seen) in (3, 4) and not [others for _, others, _ in seen if others], seen
+    assert {opacity for *_, all_of in seen for opacity in all_of if 0 < opacity < 1}
+    browser.value(f'{FALLING}({first} + 4e8)')
+    look(browser, 'falling')
+
+
 def test_boxes_of_flows_and_links_say_what_they_are_of(sized):
     """Above the curves of a run and of two, with a word before them."""
     browser = sized

@@ -8,7 +8,7 @@ const CROSS = 'm-4-3l1-1 3 3 3-3 1 1-3 3 3 3-1 1-3-3-3 3-1-1 3-3z';       // a d
 // Of a queue: squares at least, and what it takes of its link besides these and its count, and besides its count alone.
 const LEAST_BOXES = 4, QUEUE_ROOM = 16, APART_ROOM = 8;
 const EDGE_OF_ROOM = 80;                // pixels that are shown beside a node to which the room scrolls
-const MOST_BOXES = 30, MOST_ON_A_LINK = 240, MOST_FALLING = 12;
+const MOST_BOXES = 30, MOST_ON_A_LINK = 240, MOST_FALLING = 4, FALLS_FOR = 0.2;      // of the time for which a drop is seen
 // Packets carry their flow's mark besides its colour.
 const colourOf = flow => `var(--flow-${flow % LOOKS.flows})`, inkOf = flow => `var(--on-flow-${flow % LOOKS.flows})`;
 const linkColourOf = link => `var(--link-${link % LOOKS.links})`;
@@ -138,8 +138,7 @@ class Net {
   // What a queue takes of its link besides its count.
   besideCount({counts, box}) { return counts === 'beside' ? QUEUE_ROOM + LEAST_BOXES * box.step : APART_ROOM; }
 
-  // A link's line: the way of its packets, where its queue begins and where its boxes go, where its drops
-  // begin to fall and where they lie.
+  // A link's line: the way of its packets, where its queue begins and where its boxes go, and where its drops lie.
   lineOf(track, l) {
     const {sizes} = this, right = track.right === l, aside = right ? sizes.beside : -sizes.beside, [x, y] = track.inside ? [aside, 0] : [0, -aside];
     const points = track.points.map(([px, py]) => [px + x, py + y]);
@@ -162,15 +161,14 @@ class Net {
     if (track.inside) {
       const down = end[1] > begin[1];
       const beside = track.points[0][0] + 20;
-      return Object.assign(line, {queue: [beside, begin[1] + (down ? 4 : -16)], falls: begin[1],
+      return Object.assign(line, {queue: [beside, begin[1] + (down ? 4 : -16)],
         lies: [beside + 4, begin[1] + (down ? 24 : -24)]});
     }
     const middle = begin[1] - y;
     if (track.stub)
-      return Object.assign(line, {queue: [begin[0] + 4 * line.sign, middle + (right ? sizes.stub.upper : sizes.stub.lower)], falls: middle,
+      return Object.assign(line, {queue: [begin[0] + 4 * line.sign, middle + (right ? sizes.stub.upper : sizes.stub.lower)],
         lies: [begin[0] + 12 * line.sign, middle + 12]});
-    const queue = middle + (right ? sizes.upper : sizes.lower);
-    return Object.assign(line, {queue: [begin[0] + 4 * line.sign, queue], falls: queue + sizes.box.tall / 2,
+    return Object.assign(line, {queue: [begin[0] + 4 * line.sign, middle + (right ? sizes.upper : sizes.lower)],
       lies: [begin[0] + 12 * line.sign, middle + sizes.dropped], up: right});
   }
 
@@ -315,16 +313,17 @@ class Net {
     if (!seen.size) return;
     const alike = d3.nest().key(drop => `${drop.event} ${drop.link}`).map([...seen.values()], d3.map), newest = new Map();
     for (const key of [...seen.keys()].reverse()) {
-      const drop = seen.get(key), {falls, lies, sign} = this.lines[drop.link];
+      const drop = seen.get(key), {lies, sign} = this.lines[drop.link];
       const group = alike.get(`${drop.event} ${drop.link}`);
       const rank = group.length - 1 - group.indexOf(drop);
       if (!this.fallen.has(key)) this.fallen.set(key, this.falling.appendChild(this.dropShape(drop, rank, group.length, sign)));
-      const part = fall > 0 ? Math.min(1, 2 * (time - drop.time) / fall) : 1;
+      const age = fall > 0 ? Math.min(1, (time - drop.time) / fall) : 1, part = Math.min(1, age / FALLS_FOR);
       const rest = lies[0] + sign * DECK * Math.min(rank, MOST_IN_A_DECK), mouth = this.queues[drop.link].mouth(drop.reason);
-      const x = mouth + (rest - mouth) * part, y = falls + (lies[1] - falls) * part;
-      this.fallen.get(key).setAttribute('transform', `translate(${x.toFixed(1)},${y.toFixed(1)})`);
+      const element = this.fallen.get(key), x = mouth + (rest - mouth) * part;      // below the link, whose words and packets it does not cover
+      element.setAttribute('transform', `translate(${x.toFixed(1)},${lies[1].toFixed(1)})`);
       newest.set(drop.link, drop.event);
-      this.fallen.get(key).lies = part === 1;
+      element.style.opacity = drop.event === at ? 1 : Math.min(1, 2 - 2 * age);
+      element.lies = part === 1;
     }
     // Only the newest of a link have their words, and where they lie, so that words do not cross others.
     for (const [key, element] of this.fallen)
