@@ -879,6 +879,31 @@ def test_what_falls_covers_nothing(browser):
     look(browser, 'falling')
 
 
+@pytest.mark.parametrize('width', [1024, 1400])
+def test_a_panel_that_is_pressed_is_seen(browser, width):
+    """Whatever room there is, a lit button is a panel that is drawn, and the one that was pressed last is among them."""
+    browser.value('simulator.lecture.leave()')
+    browser.size(width, SIZES[width])
+    lit = '[...document.querySelectorAll("#panels button[aria-pressed=true]")].map(e => e.dataset.panel)'
+    drawn = '[...document.querySelectorAll("#charts > div")].filter(e => e.checkVisibility() && e.querySelector("svg .title")).map(e => e.dataset.panel)'
+    try:
+        for lesson in 10, 16:
+            choose(browser, f'lesson {lesson}')
+            settle(browser)
+            for name in browser.json('Object.keys(PANELS)'):
+                if name in browser.json(lit):
+                    continue
+                browser.click(element(f'#panels [data-panel={name}]'))
+                assert browser.json(lit) == browser.json(drawn) and name in browser.json(lit), (lesson, name)
+            look(browser, f'panels_{width}_{lesson}')
+            before = browser.json(lit)
+            assert len(before) < 5
+            browser.click(element(f'#panels [data-panel={before[0]}]'))
+            assert browser.json(lit) == browser.json(drawn) == before[1:]
+    finally:
+        browser.size(1280, 800)
+
+
 def test_boxes_of_flows_and_links_say_what_they_are_of(sized):
     """Above the curves of a run and of two, with a word before them."""
     browser = sized

@@ -211,23 +211,24 @@ class Panels {
       return name;
     });
   }
-  // One more panel, or one less.
+  // One more panel, before the others, the last of which go where there is no room; or one less.
   toggle(name) {
-    const others = this.shown.filter(one => one !== name);
-    if (others.length === this.shown.length) this.choose([...this.shown, name]); else if (others.length) this.choose(others);
+    const others = this.seen.filter(one => one !== name);
+    if (others.length === this.seen.length) this.choose([name, ...others]); else if (others.length) this.choose(others);
   }
-  // The buttons and boxes of what is shown, whose rows take room from the net.
+  // Which panels have room, and the buttons and boxes of these, whose rows take room from the net.
   layBar() {
-    for (const button of document.querySelectorAll('#panels button')) button.setAttribute('aria-pressed', this.shown.includes(button.dataset.panel));
-    this.bar.dataset.of = [...new Set(this.shown.flatMap(name => [PANELS[name].of, PANELS[name].hides]).filter(Boolean))].join(' ');
+    for (const box of Object.values(this.boxes)) box.hidden = false;        // on a phone each makes its room
+    const {clientWidth, clientHeight} = this.place, columns = Math.max(1, Math.floor((clientWidth + 8) / LEAST_WIDE));
+    this.seen = this.shown.slice(0, clientHeight ? columns * Math.max(1, Math.floor(clientHeight / LEAST_TALL)) : this.shown.length);
+    for (const button of document.querySelectorAll('#panels button')) button.setAttribute('aria-pressed', this.seen.includes(button.dataset.panel));
+    this.bar.dataset.of = [...new Set(this.seen.flatMap(name => [PANELS[name].of, PANELS[name].hides]).filter(Boolean))].join(' ');
   }
   // Makes the charts that are shown, in the room that there is, one after another.
   make() { for (const _ of this.parts()); }
   *parts() {
     this.layBar();
-    // As many as have room.
-    const {clientWidth, clientHeight} = this.place, columns = Math.max(1, Math.floor((clientWidth + 8) / LEAST_WIDE));
-    const seen = this.shown.slice(0, clientHeight ? columns * Math.max(1, Math.floor(clientHeight / LEAST_TALL)) : this.shown.length);
+    const {seen} = this;
     for (const [name, box] of Object.entries(this.boxes)) {
       box.hidden = !seen.includes(name);
       const before = box.querySelector('.present');
