@@ -52,12 +52,14 @@ class Lesson:
         self.pictures.append(found.group(2))
         return f'<img alt="{found.group(1)}" data-picture="{found.group(2)}">'
 
-    @staticmethod
-    def _lines(found):
+    def _lines(self, found):
         if found.group(1):
             return found.group(1)
+        # The example that was named before, but for commands, which name several.
+        before = re.sub(r'<pre>.*?</pre>', '', found.string[:found.start()], flags=re.S)
+        of = [self.examples[0], *(name for name in re.findall(r'(?:examples/|data-picture=")(\w+)', before) if name in self.examples)][-1]
         word = found.group(2)       # beside an editor whose lines have numbers too
-        return f'{"Trace" if word[0] == "L" else "trace"} {word.lower()} ' + re.sub(r'\d+', r'<span data-line="\g<0>">\g<0></span>', found.group(3))
+        return f'{"Trace" if word[0] == "L" else "trace"} {word.lower()} ' + re.sub(r'\d+', rf'<span data-line="\g<0>" data-of="{of}">\g<0></span>', found.group(3))
 
     def facts(self):
         """What the page's script has to know of it."""

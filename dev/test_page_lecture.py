@@ -664,6 +664,37 @@ def test_five_lessons_are_given(calm):
     assert browser.value('document.getElementById("top").checkVisibility()')
 
 
+def test_a_line_is_of_the_scenario_that_its_text_speaks_of(calm):
+    """A link to a line, and the key n, open the scenario that was named before it where another is shown."""
+    browser = calm
+    browser.size(1280, 800)
+
+    def press_link(line):
+        browser.click(f'[...document.querySelectorAll("#lesson button.event")].find(e => e.textContent === "{line}")')
+
+    choose(browser, 'lesson 16')
+    assert named_lines(browser) == [1023, 2669, 3059, 3138, 3461, 228]
+    press_link(228)
+    browser.wait('simulator.title === "four_flows_share_codel" && page && page.record.at === 228')
+    assert 'drop=codel' in browser.value('page.record.line(228)')
+    browser.wait('!document.getElementById("run").disabled')
+    drop_tail, codel = 'four_flows_share_a_long_queue', 'four_flows_share_codel'
+    for key, title, line in ('N', codel, 228), ('N', drop_tail, 3461), ('n', codel, 228), (None, drop_tail, 2669), ('N', codel, 228):
+        browser.wait('!document.getElementById("run").disabled')
+        browser.value('document.activeElement.blur()')
+        if key:
+            browser.press(key)
+        else:
+            press_link(line)
+        browser.wait(f'simulator.title === "{title}" && page && page.record.at === {line}')
+    browser.wait('!document.getElementById("run").disabled')
+    browser.value('page.goEvent(1)')
+    browser.press('n')      # the first of the scenario that is shown
+    browser.wait('page.record.at === 228')
+    choose(browser, 'lesson 7')
+    assert browser.json('[...document.querySelectorAll("#lesson button.event")].map(e => e.dataset.of.endsWith("newreno"))') == [False] * 7 + [True] * 3
+
+
 def test_the_tutorial_says_of_each_lesson_that_it_is_in_the_page():
     """Below each title, with the address that opens it."""
     with open(page_lessons.TUTORIAL, encoding='utf-8') as file:

@@ -100,13 +100,14 @@ class Lecture {
   }
   // The events that the lesson's text names, in its order, one after another.
   named(by) {
-    const events = [...document.querySelectorAll('#lesson button.event')].map(button => +button.dataset.event), {simulator} = this;
-    if (!events.length || !simulator.page) return;
-    const at = simulator.page.record.at === events[this.step] ? this.step + by : by > 0 ? 0 : events.length - 1;
+    const lines = [...document.querySelectorAll('#lesson button.event')].map(({dataset: {event, of}}) => ({event: +event, of})), {simulator} = this;
+    if (!lines.length || !simulator.page) return;
+    const now = lines[this.step], here = now && now.event === simulator.page.record.at && now.of === simulator.title;
+    const at = here ? this.step + by : by > 0 ? Math.max(0, lines.findIndex(({of}) => of === simulator.title)) : lines.length - 1;
     if (this.on && this.both) this.show();
-    if (events[at] === undefined) { simulator.page.say(`the lesson names no trace line ${by > 0 ? 'after' : 'before'} this one`); return; }
+    if (!lines[at]) { simulator.page.say(`the lesson names no trace line ${by > 0 ? 'after' : 'before'} this one`); return; }
     this.step = at;
-    simulator.goTo(events[at]);
+    simulator.goToLine(lines[at].event, lines[at].of);
   }
   key(event) {
     const {target} = event, writes = ['INPUT', 'TEXTAREA', 'SELECT'].includes(target.tagName) && target.type !== 'checkbox' && target.type !== 'range';

@@ -2,12 +2,12 @@
 // The lessons of docs/TUTORIAL.md: their text, their pictures, and the scenarios that they open.
 
 class Lessons {
-  // `open` is given the name of an example, `go` the number of an event.
+  // `open` is given the name of an example, `go` the number of an event and the example in which it is.
   constructor(place, lessons, open, go) {
     Object.assign(this, {place, lessons, open, go, now: null});
     place.addEventListener('click', event => {
-      const {example, event: number} = event.target.dataset;
-      if (example) this.open(example); else if (number) this.go(+number, this.now);
+      const {example, event: number, of} = event.target.dataset;
+      if (example) this.open(example); else if (number) this.go(+number, of);
     });
   }
   show(lesson) {
@@ -32,8 +32,11 @@ class Lessons {
       table.replaceWith(around);
       around.append(table);
     });
-    text.querySelectorAll('[data-line]').forEach(span =>
-      span.replaceWith(this.button(span.textContent, 'event', span.dataset.line)));
+    text.querySelectorAll('[data-line]').forEach(span => {
+      const button = this.button(span.textContent, 'event', span.dataset.line);
+      button.dataset.of = span.dataset.of;
+      span.replaceWith(button);
+    });
     this.place.append(text);
     this.place.scrollTop = 0;
   }

@@ -27,7 +27,7 @@ class Simulator {
     this.mostKept = 5000000;            // events of a trace that are kept without a question
     this.mostPages = MOST_PAGES;        // of 64 KiB each, of memory that a run may have
     this.examples = dataOf('examples');
-    this.lessons = new Lessons(byId('lesson'), dataOf('lessons'), name => this.openExample(name), event => this.goFromLesson(event));
+    this.lessons = new Lessons(byId('lesson'), dataOf('lessons'), name => this.openExample(name), (event, of) => this.goFromLesson(event, of));
     this.editor = new Editor(byId('editor'), dataOf('grammar'), null);
     this.editor.changed = (origin, at) => {
       if (!this.exploring) this.markOld();
@@ -82,7 +82,7 @@ class Simulator {
     this.say('');
     this.editor.text = this.examples[name];
     this.openShelf(now && now.examples.includes(name) ? now.shelf : '');
-    if (this.engine) this.start({plays: !this.lecture.on}); else this.showCarried();
+    return this.engine ? this.start({plays: !this.lecture.on}) : this.showCarried();
   }
   // Of a file that is too long no more is read than the program needs to say so.
   async openFile(file) {
@@ -516,10 +516,15 @@ ${dataOf('licenses').join('\n\n')}`;
     this.goTo(event);
     this.page.say(`${this.page.facts.flows[flow].name}: ${to === undefined ? 'the retransmission timer ends' : `no new acknowledgement for ${seconds(to - from)}`}`);
   }
-  goFromLesson(event) {
-    if (!this.page) { this.say('run the scenario first: then a trace line that the lesson names leads to its event'); return; }
+  // A trace line that a lesson names, in the example of which it speaks.
+  async goToLine(event, of) {
+    if (this.title !== of) await this.openExample(of);
+    if (this.title === of) this.goTo(event);
+  }
+  async goFromLesson(event, of) {
+    if (!this.page && this.title === of) { this.say('run the scenario first: then a trace line that the lesson names leads to its event'); return; }
     this.showTab('net');
-    this.goTo(event);
+    await this.goToLine(event, of);
     byId('net-room').scrollIntoView({block: 'nearest'});
   }
   showTab(name) {
