@@ -28,6 +28,8 @@ SMALL = 'one_flow', 'access_line', 'dumbbell_codel', 'tree', 'chain', 'long_chai
 # Those of them, and those of wide windows, that are measured beside busy loops too.
 LOADED, LOADED_WIDE = ('one_flow', 'access_line', 'tree', 'long_chain'), ('busy_islands', 'ring')
 LOOPS = 4
+# In one group a second thread makes their text.
+ONE_GROUP = 'one_flow', 'dumbbell_droptail', 'dumbbell_codel', 'tree', 'chain', 'under_way_100000'
 # Too short to be timed: what its events cost is counted.
 UNTIMED = 'four_islands',
 # A run of fewer events is over before its time says anything.
@@ -37,7 +39,8 @@ SHORT, OFTEN = 3_000_000, 4
 CREWS = 1, 2, 4, 64
 # Shorter than in the table of events, since valgrind is slow.
 COUNTED = {'tree': lambda: tree(100, 200), 'chain': lambda: chain(16, 4_000)}
-ONE, EACH = 1.1, 1.6                    # at most so many times the instructions of a run without options
+EACH = 1.6                              # at most so many times the instructions of a run without options
+TEXT_MOST, TEXT_LOADED = 0.78, 1.1      # two workers of one group to a run without options, and so beside busy loops
 LEAST, MOST = 3, 40                     # a run without options to four workers, wide windows; megabytes of memory
 ALONE_MOST = 1.15                       # one worker to a run without options, wide windows
 SMALL_MOST, USED_MOST = 1.5, 2          # small windows to a run without options: seconds, and those of all processors
@@ -51,7 +54,7 @@ BY_HAND = {'rate_jump': lambda _: '0,1,0,1,0,1', **{name: four_groups for name i
 CORES = os.cpu_count()
 FOUR = min(CORES, 4)
 EACH_CORE = 'each'                      # in the place of the cores of a run: one run on each of these
-Counted = namedtuple('Counted', 'name a_text plain one each')
+Counted = namedtuple('Counted', 'name a_text plain each')
 
 
 def ran(program, path, words=(), before=(), trace=subprocess.DEVNULL):
@@ -71,9 +74,8 @@ def counted(program):
     for name, scenario in COUNTED.items():
         many = texts(program, path_of(name + ' short', scenario()), ('--groups', 'each'))
         events = events_of(program, path_of(name + ' short', scenario()))
-        plain, *grouped = (cost(program, name, words) for words in
-                           ((), ('--workers', '2', '--groups', 'one'), ('--workers', '2', '--groups', 'each')))
-        yield Counted(name, events / many, plain, *grouped)
+        plain, grouped = (cost(program, name, words) for words in ((), ('--workers', '2', '--groups', 'each')))
+        yield Counted(name, events / many, plain, grouped)
 
 
 def events_of(program, path):
@@ -131,6 +133,19 @@ def kept(program, rounds, before):
         with tempfile.NamedTemporaryFile(dir=IN_MEMORY) as trace:
             took = seconds(kinds, rounds, before, trace.name)
             yield name, os.path.getsize(trace.name), took
+
+
+def beside_text(program, rounds, before):
+    """Seconds of runs of one group, without options and by two workers: the trace thrown away, in a file of the system's
+    memory, and thrown away beside busy loops, of no priority."""
+    for name in ONE_GROUP:
+        path = path_of(name, SCENARIOS[name]())
+        events = events_of(program, path)
+        kinds = [(program, path, words, f'0-{FOUR - 1}') for words in ((), ('--workers', '2'))]
+        with tempfile.NamedTemporaryFile(dir=IN_MEMORY) as trace:
+            took = seconds(kinds, times(events, rounds), before), seconds(kinds, times(events, rounds), before, trace.name)
+        with busy_loops():
+            yield name, events, *took, seconds(kinds, rounds, ())
 
 
 def processor_seconds(program, path, words, rounds):
@@ -197,11 +212,24 @@ def found(program, rounds, before):
                     took[2] if len(took) > 2 else None)
 
 
+def text_table(rows, rounds):
+    yield (f'Seconds of one group by two workers: a second thread makes the text. {rounds_said(rounds)} The trace is thrown away, '
+           f'or goes into a file of the system\'s memory ({IN_MEMORY}), or is thrown away beside {LOOPS} busy loops on the same '
+           f'cores. The bound is {TEXT_MOST} times the seconds of `run`, beside the loops {TEXT_LOADED} times.\n')
+    yield from table(('Scenario', 'Events', *(it for where in ('', ', in memory', ', beside loops') for it in
+                                              (f'`run`{where}', f'2 workers{where}', f'to `run`{where}'))),
+                     [(f'`{name}`', f'{events:,}', *(it for took in kinds for it in
+                                                     (f'{took[0]:.3f}', f'{took[1]:.3f}', f'{took[1] / took[0]:.2f}')))
+                      for name, events, *kinds in rows])
+    yield said([max(it[1] / it[0] for it in kinds[:2]) <= TEXT_MOST and kinds[2][1] <= TEXT_LOADED * kinds[2][0]
+                for _, _, *kinds in rows], 'hold all')
+
+
 def found_table(rows):
     yield (f'Seconds with the groups that `--groups auto` finds for four workers (bench/found.py), of `run` without options, and '
            f'of four workers with groups by hand. The bound of `run` is at least {FOUND_LEAST} times the seconds of found groups. '
-           f'That of found groups is at most {FOUND_MOST} times those of groups by hand or of `run`, whichever is less. With one '
-           'group the program runs one event at a time, on no thread of its own.\n')
+           f'That of found groups is at most {FOUND_MOST} times those of groups by hand or of `run`, whichever is less. In one '
+           'group a second thread makes the text.\n')
     yield from table(('Scenario', 'Events', 'Groups found', 'Threads', '`run`', 'found', 'by hand', '`run` to found',
                       'found to the best', 'Within'),
                      [(f'`{r.name}`', f'{r.events:,}', f'{r.groups}', f'{r.threads:,}',
@@ -297,12 +325,11 @@ def section(program, rounds, before):
     yield HEAD
     yield ('Instructions of a run by two workers with small windows, and of `run` without options, each without those of its '
            'start. The calling thread runs a few windows, and nearly all events one after another. The bound is '
-           f'{ONE} times those of `run` for `--groups one`, and {EACH} times for `--groups each`. With one worker, or one '
-           'group, the program runs one event at a time.\n')
-    yield from table(('Scenario', '`run`', '`--workers 2 --groups one`', 'times', '`--workers 2 --groups each`', 'times', 'events per text'),
-                     [(f'`{c.name}`', f'{c.plain:,}', f'{c.one:,}', f'{c.one / c.plain:.2f}', f'{c.each:,}', f'{c.each / c.plain:.2f}',
-                       f'{c.a_text:,.0f}')
+           f'{EACH} times those of `run`. With one worker the program runs one event at a time.\n')
+    yield from table(('Scenario', '`run`', '`--workers 2 --groups each`', 'times', 'events per text'),
+                     [(f'`{c.name}`', f'{c.plain:,}', f'{c.each:,}', f'{c.each / c.plain:.2f}', f'{c.a_text:,.0f}')
                       for c in counted(program)])
+    yield from text_table(list(beside_text(program, rounds, before)), rounds)
     yield (f'Seconds of whole runs on {processor()}, {os.cpu_count()} cores, pinned to as many cores as workers'
            + (', with real-time priority' if before else '') + f'. {rounds_said(rounds)} The four '
            'groups are the four parts of each scenario (bench/scenarios.py), joined by links of 10 ms and more.\n'

@@ -120,10 +120,29 @@ class TestThreads(Folder):
             assert said.count(b'% of 2 s simulated') == 100
         assert noted[0][1] == noted[1][1]
 
-    def test_one_worker_or_one_group_starts_none(self):
+    def test_one_worker_starts_none(self):
+        assert self.run_of(self.text_of(WIDE), '--groups', self.parts(), '--workers', '1') == 0
+
+    def test_one_group_has_one_more_for_text(self):
+        """However many workers there are, on two processors or more; it stays from slice to slice, also where one is told
+        of each hundredth of the run."""
         text = self.text_of(WIDE)
-        assert self.run_of(text, '--groups', self.parts(), '--workers', '1') == 0
-        assert self.run_of(text, '--groups', 'one', '--workers', '64') == 0
+        for workers in ('2', '64'):
+            assert self.run_of(text, '--groups', 'one', '--workers', workers) == most_hands(1) - 1
+            assert self.run_of(text, '--workers', workers) == most_hands(1) - 1
+        trace, told, _ = self.ran(text, 'run', '--progress')
+        found, said, threads = self.ran(text, 'run', '--progress', '--workers', '2')
+        assert found == trace
+        assert said.count(b'% of 2 s simulated') == 100
+        assert told.splitlines()[-1] == said.splitlines()[-1]
+        assert (threads > 0) == (PROCESSORS > 1)
+
+    def test_a_short_run_of_one_group_starts_none(self):
+        """The first 16,384 events are run one after another, and a slice of a thousand later ones is worth a thread."""
+        for segments, most, starts in (800, 16_384, 0), (2000, 40_000, most_hands(1) - 1):
+            text = self.text_of((*SMALL[:8], str(segments), *SMALL[9:]))
+            assert most / 2 < self.counted(text, 'run')[0].count(b'\n') < most
+            assert self.run_of(text, '--workers', '2') == starts
 
     def test_small_windows_start_none(self):
         text = self.text_of(SMALL)
@@ -177,6 +196,7 @@ class TestThreads(Folder):
         os.sched_setaffinity(0, {min(allowed)})
         try:
             assert self.run_of(text, '--groups', two, '--workers', '4') == 1
+            assert self.run_of(text, '--groups', 'one', '--workers', '4') == 0
         finally:
             os.sched_setaffinity(0, allowed)
 
@@ -206,10 +226,11 @@ class TestThreads(Folder):
         text = self.text_of(WIDE)
         plain, _, _ = self.ran(text, 'run')
         least = self.writes
-        late, _, threads = self.ran(text, 'run', '--workers', '4', '--groups', self.parts(), late='3000000')
-        assert threads > 0
-        assert late == plain
-        assert self.writes < 1.4 * least
+        for groups in (self.parts(), *['one'] * (PROCESSORS > 1)):
+            late, _, threads = self.ran(text, 'run', '--workers', '4', '--groups', groups, late='3000000')
+            assert threads > 0
+            assert late == plain
+            assert self.writes < 1.4 * least
 
     def test_the_debugger_goes_by_the_same_rule(self):
         text = self.text_of(SMALL) + '---\nuntil 19000000000\n'

@@ -62,8 +62,8 @@ pub(crate) fn groups_to_debug<N: Notes>(
     Ok(partition)
 }
 
-/// Runs a scenario to its end, and writes its trace: one event at a time where there is one worker, or
-/// all nodes are in one group, and else by windows.
+/// Runs a scenario to its end, and writes its trace: one event at a time where there is one worker, or one group with
+/// no second processor for its text, and else by windows.
 pub(crate) fn put_trace<W: Sink, H: Hands, N: Notes>(
     tools: &SessionTools<H>,
     sharing: &Sharing,
@@ -78,7 +78,7 @@ pub(crate) fn put_trace<W: Sink, H: Hands, N: Notes>(
     let means = tools.means;
     let partition = reported_groups(means, sharing, scenario, notes)?;
     let workers = sharing.workers();
-    let is_alone = workers == 1 || partition.groups() < 2;
+    let is_alone = workers == 1 || (partition.groups() < 2 && tools.hands.processors() < 2);
     if is_alone {
         return run_scenario(means.alloc, means.wishes, scenario, writer, notes);
     }

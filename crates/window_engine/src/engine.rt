@@ -99,7 +99,7 @@ impl Engine {
         ensures ahead { IfOk result (λ e. (p : ScenarioParts) (before : List TraceLine) → IsScenario p → ComesTo p net.position before net.state → e.ahead ≡ lookahead (group_in partition) p.links) }
         ensures failed { IfOk result (λ e. e.failed ≡ false) }
     {
-        let _many = partition.groups();
+        let many = partition.groups();
         let position = net.position();
         let end = net.end();
         let window = split(alloc, net, &partition)?;
@@ -107,7 +107,7 @@ impl Engine {
             run_state: RunState {
                 groups: partition,
                 ahead: window.lookahead(),
-                granularity: Granularity::new(),
+                granularity: Granularity::new(many),
                 window,
                 end,
                 position,

@@ -37,13 +37,36 @@ impl Turnout {
         Turnout { most: 0, all: 0 }
     }
 
-    /// That of a window whose groups threads ran before they made these texts, of the window before.
-    pub(crate) fn of(formatters: &[TextFormatter]) -> Turnout {
+    /// That of a window of so many groups, which threads ran before they made these texts, of the window before.
+    pub(crate) fn of(groups: usize, formatters: &[TextFormatter]) -> Turnout {
+        if groups == 1 {
+            Turnout::of_text(formatters)
+        } else {
+            Turnout::of_groups(formatters)
+        }
+    }
+
+    /// That of the groups.
+    fn of_groups(formatters: &[TextFormatter]) -> Turnout {
         let mut turnout = Turnout::none();
         for formatter in formatters {
             turnout.most = turnout.most.max(formatter.ran);
             turnout.all = turnout.all.saturating_add(formatter.ran);
         }
+        turnout
+    }
+
+    /// That of the text beside the run of one group, by parts in the place of groups: late is a thread that made none, so
+    /// that the calling thread, whose formatter is the first, made all.
+    fn of_text(formatters: &[TextFormatter]) -> Turnout {
+        let mut turnout = Turnout::none();
+        for formatter in formatters {
+            turnout.all = turnout.all.saturating_add(formatter.parts());
+        }
+        turnout.most = match formatters.first() {
+            Some(own) => own.parts(),
+            None => 0,
+        };
         turnout
     }
 }
@@ -116,13 +139,14 @@ pub(crate) struct Granularity {
 }
 
 impl Granularity {
-    /// Events are run by windows, and none was.
-    pub(crate) fn new() -> Granularity {
+    /// None was run. In several groups events are run by windows; in one they are first run one after another, since a
+    /// short run is over before a thread that makes text is worth it.
+    pub(crate) fn new(groups: usize) -> Granularity {
         Granularity {
-            single: false,
+            single: groups == 1,
             windows: 0,
             events: 0,
-            stretch: 0,
+            stretch: if groups == 1 { SHORTEST } else { 0 },
             late: 0,
         }
     }

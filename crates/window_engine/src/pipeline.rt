@@ -126,7 +126,8 @@ impl RunState {
         ensures some { OnOk result ((time : ℕ) → IsNext plan.now.bound (edge_of writing.old.window.value) time → writing.old.window.value.position < self.new.window.position) }
         ensures ended { IfErr result (λ fault. HasEnded call.now.workers.workers call.now.until call.now.began.value self.new (Err fault) (S.contents call.now.known.value) (S.contents sink.new) (S.failures call.now.known.value) (S.failures sink.new)) }
     {
-        let turnout = Turnout::of(writing.texts.text.formatters.as_slice());
+        let formatters = writing.texts.text.formatters.as_slice();
+        let turnout = Turnout::of(self.groups.groups(), formatters);
         let Ok(()) = writing.texts.text.complete(&self.sheaf) else {
             return Err(EngineFault::NoMemory);
         };
@@ -257,7 +258,7 @@ impl RunState {
         ensures on { OnOk result (self.old.window.position ≤ self.new.window.position) }
         ensures ended { IfErr result (λ fault. HasEnded call.now.workers.workers call.now.until call.now.began.value self.new (Err fault) (S.contents call.now.known.value) (S.contents sink.new) (S.failures call.now.known.value) (S.failures sink.new)) }
     {
-        if !self.granularity.is_single() {
+        if !self.granularity.is_single() || call.workers.gate.worth() == 0 {
             return Ok(());
         }
         let (before, now) = (Snapshot::of(sink), Snapshot::of(&self.window));

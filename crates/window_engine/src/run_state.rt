@@ -7,7 +7,7 @@ ghost use Rattle.window_engine.specs.RunStates.{CanTell, Opens, reported_as};
 
 use crate::fault::{EngineFault, Stop, engine_fault};
 use crate::granularity::{Granularity, Turnout};
-use crate::slice::next_slice;
+use crate::slice::{next_slice, slice_beside_text};
 use net_machine::Net;
 use sim_time::Time;
 use std::alloc::{AllocError, Global};
@@ -139,12 +139,17 @@ impl RunState {
         let bound = until.min(next.saturating_add(slice));
         let end = self.window.end();
         let (shared, lines) = (self.sheaf.beside_most(), self.sheaf.len());
+        let hands = if self.groups.groups() == 1 {
+            workers.hands_of_one(lines)
+        } else {
+            workers.hands(&self.window, shared, lines, bound)
+        };
         Ok(WindowPlan {
             next,
             bound,
             span: end.min(bound).saturating_sub(next),
             whole: end <= bound,
-            workers: workers.hands(&self.window, shared, lines, bound),
+            workers: hands,
         })
     }
 
@@ -165,6 +170,9 @@ impl RunState {
     {
         let busy = self.busy(plan.next, plan.span);
         let (events, shared) = (self.sheaf.len(), self.sheaf.beside_most());
+        if workers > 1 && self.groups.groups() == 1 {
+            return slice_beside_text(plan.span, busy, events);
+        }
         next_slice(plan.span, busy, events, shared, workers)
     }
     /// After a window, which ended by the lookahead or sooner and of whose groups threads ran so many, chooses whether
@@ -176,14 +184,14 @@ impl RunState {
         if worth == 0 {
             return;
         }
-        let turnout = if self.sheaf.beside_most() < worth {
+        let (nodes, groups) = (self.groups.nodes(), self.groups.groups());
+        let turnout = if groups > 1 && self.sheaf.beside_most() < worth {
             // There was less to share than a thread is worth.
             Turnout::none()
         } else {
             turnout
         };
         self.granularity.count(self.sheaf.len(), whole, turnout);
-        let (nodes, groups) = (self.groups.nodes(), self.groups.groups());
         self.granularity.choose(nodes, groups);
     }
 }

@@ -91,6 +91,11 @@ impl TextFormatter {
         }
     }
 
+    /// How many parts it made.
+    pub fn parts(&self) -> usize {
+        self.parts.len()
+    }
+
     /// Forgets what it made. Its memory is used again.
     pub fn clear(&mut self)
         ensures text { self.new.text ≡ [] }

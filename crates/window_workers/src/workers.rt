@@ -57,6 +57,19 @@ impl<'a> WindowWorkers<'a> {
         threads(window, self.workers, worth, shared, processors, until)
     }
 
+    /// How many of them are to take part in a window of one group, after one of so many lines: one runs it, and a second
+    /// one makes the text of these, where that is worth a thread and there is a processor for it.
+    pub fn hands_of_one(&self, lines: usize) -> usize
+        ensures { (0 < result) × (result ≤ self.now.workers) }
+    {
+        let worth = self.gate.worth();
+        if worth == 0 {
+            return self.workers;
+        }
+        let processors = if lines < worth { 0 } else { self.processors };
+        self.workers.min(most_hands(1, processors)).max(1)
+    }
+
     /// A pool for all threads that may share windows of as many groups with the calling one. None is started.
     pub fn pool_for(&self, window: &Window) -> Result<ThreadPool<Job>, AllocError>
         requires { window.now.out ≡ false }
