@@ -21,7 +21,7 @@ use std::marker::Model;
 pub const MOST_BREAKS: usize = 64;
 
 /// What an event is, as the trace names it.
-#[derive(Clone, Copy, Debug, PartialEq, Eq)]
+#[derive(Clone, Copy, PartialEq, Eq)]
 pub enum EventKind {
     /// A flow starts.
     Start,
@@ -38,7 +38,7 @@ pub enum EventKind {
 }
 
 /// Which flow is asked to become stalled.
-#[derive(Clone, Copy, Debug, PartialEq, Eq)]
+#[derive(Clone, Copy, PartialEq, Eq)]
 pub enum StallOf {
     /// Any.
     Any,
@@ -69,7 +69,7 @@ pub enum Condition {
 }
 
 /// What a run stops at: an event that meets each condition that is asked for.
-#[derive(Clone, Copy, Debug, PartialEq, Eq)]
+#[derive(Clone, Copy)]
 pub struct Break {
     /// The node of the event.
     pub node: Option<u16>,

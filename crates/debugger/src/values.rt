@@ -9,7 +9,7 @@ use node_core::{After, Line, SenderShown};
 use reno_sender::SenderFields;
 
 /// A value of a flow, of a link, or the moment.
-#[derive(Clone, Copy, Debug, PartialEq, Eq)]
+#[derive(Clone, Copy, PartialEq, Eq)]
 pub enum Value {
     /// The sender's congestion window, in bytes.
     Cwnd,
@@ -54,7 +54,7 @@ pub enum Owner {
 }
 
 /// A value of a flow or of a link of a number.
-#[derive(Clone, Copy, Debug, PartialEq, Eq)]
+#[derive(Clone, Copy, PartialEq, Eq)]
 pub struct ValueOf {
     /// Which value.
     pub value: Value,
@@ -63,7 +63,7 @@ pub struct ValueOf {
 }
 
 /// A sender's phase of congestion control (RFC 5681 section 3.1).
-#[derive(Clone, Copy, Debug, PartialEq, Eq)]
+#[derive(Clone, Copy, PartialEq, Eq)]
 pub enum Phase {
     /// `cwnd` is below `ssthresh`.
     SlowStart,
@@ -85,7 +85,7 @@ pub enum Reading {
 }
 
 /// On which side of a number a value is.
-#[derive(Clone, Copy, Debug, PartialEq, Eq)]
+#[derive(Clone, Copy, PartialEq, Eq)]
 pub enum Sign {
     /// The value is less.
     Less,
@@ -100,7 +100,7 @@ pub enum Sign {
 }
 
 /// What a number is compared with.
-#[derive(Clone, Copy, Debug, PartialEq, Eq)]
+#[derive(Clone, Copy, PartialEq, Eq)]
 pub struct Bound {
     /// On which side of the number the value is.
     pub sign: Sign,
@@ -109,7 +109,7 @@ pub struct Bound {
 }
 
 /// What is asked of what is read.
-#[derive(Clone, Copy, Debug, PartialEq, Eq)]
+#[derive(Clone, Copy, PartialEq, Eq)]
 pub enum Test {
     /// That it is a number within a bound.
     Within(Bound),
@@ -118,7 +118,7 @@ pub enum Test {
 }
 
 /// What is asked of a value.
-#[derive(Clone, Copy, Debug, PartialEq, Eq)]
+#[derive(Clone, Copy, PartialEq, Eq)]
 pub struct Asked {
     /// The number of the link, which the event changes; 0 where the value is of no link.
     pub of: u16,
@@ -136,7 +136,7 @@ pub enum ValueCondition {
 }
 
 /// What values are asked to be after an event; nothing is asked of the others.
-#[derive(Clone, Copy, Debug, PartialEq, Eq)]
+#[derive(Clone, Copy, PartialEq, Eq)]
 pub struct Values {
     /// What is asked of each value, by its index.
     pub asked: [Option<Asked>; VALUES],
