@@ -102,7 +102,7 @@ pub struct Hit {
 }
 
 /// Why a breakpoint was not set.
-#[derive(Clone, Copy, PartialEq, Eq)]
+#[derive(Clone, Copy)]
 pub enum BreakFault {
     /// As many are set as there may be.
     TooMany,
@@ -514,29 +514,6 @@ fn first_of(
     Ok(None)
 }
 
-/// Whether one of these breakpoints matches a line, after which a net stands, with what they saw of the state before it.
-fn one_matches(
-    breaks: &[Break],
-    seen: &[Seen],
-    alloc: Global,
-    net: &Net,
-    line: &Line,
-) -> Result<bool, AllocError>
-    requires { length seen.now ≡ length breaks.now }
-    ensures { (before : Reached) → IsRun before → Stepped before (Some (shown line.now)) net.now → AreSeen breaks.now before.state seen.now → IfOk result (λ found. IsTrue found ↔ IsHit breaks.now before.state (shown line.now) net.now.state) }
-{
-    for index in 0..breaks.len() {
-        let b = break_at(breaks, index);
-        let was = seen_at(seen, index);
-        match b.matches(was, alloc, net, line) {
-            Ok(true) => return Ok(true),
-            Ok(false) => {}
-            Err(fault) => return Err(fault),
-        }
-    }
-    Ok(false)
-}
-
 /// The breakpoints that are set, in the order in which they were.
 #[derive(Drop)]
 pub struct Breaks {
@@ -640,13 +617,10 @@ impl Breaks {
         requires { length seen.now ≡ length self.now }
         ensures { (before : Reached) → IsRun before → Stepped before (Some (shown line.now)) net.now → AreSeen self.now before.state seen.now → IfOk result (λ found. IsTrue found ↔ IsHit self.now before.state (shown line.now) net.now.state) }
     {
-        one_matches(
-            self.items.as_slice(),
-            seen,
-            *self.items.allocator(),
-            net,
-            line,
-        )
+        match self.first_hit(seen, net, line) {
+            Ok(hit) => Ok(hit.is_some()),
+            Err(fault) => Err(fault),
+        }
     }
 
     /// Whether one of them may match a line, by which no flow becomes stalled where that is quiet.
