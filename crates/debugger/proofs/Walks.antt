@@ -21,6 +21,9 @@ use Rattle.debugger.specs.Moves.{Passes, HasPosition, EndsAt, GivesAt, StopsBy, 
 pub passes_start : (start : State) → Passes start (record { state = start; position = 0 })
 passes_start start = record { lines = []; comes = refl }
 
+pub passes_first : (first : Reached) → first.position ≡ 0 → Passes first.state first
+passes_first first at = subst (λ n. Passes first.state (record { state = first.state; position = n })) (sym at) (passes_start first.state)
+
 -- the run passes the state after one more step
 pub passes_next : (start : State) (old new : Reached) (line : TraceLine) → Passes start old → Stepped old (Some line) new → Passes start new
 passes_next start old new line at next = record {

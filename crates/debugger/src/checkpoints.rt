@@ -162,6 +162,14 @@ impl Checkpoints {
         put_copy(&mut self.later, self.most, net);
     }
 
+    /// A copy of the initial state.
+    pub fn first(&self) -> Result<Net, AllocError>
+        ensures on_run { IfOk result (λ net. Passes self.now net) }
+        ensures first { IfOk result (λ net. net.position ≡ 0) }
+    {
+        self.initial.copy()
+    }
+
     /// A copy of the checkpoint, or of the one that is present, that has the greatest position up
     /// to a target.
     pub fn nearest(&self, target: u64, present: &Net) -> Result<Net, AllocError>

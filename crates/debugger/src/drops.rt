@@ -5,7 +5,6 @@ ghost use Rattle.debugger.specs.Drops.{missing_between, missing_in, is_asked_for
 
 use crate::checkpoints::Checkpoints;
 use crate::fault::MoveFault;
-use crate::reached::net_at;
 use crate::seen::{fields_in, next_in};
 use crate::walk::reach_watched;
 use aqm::DropReason;
@@ -184,21 +183,19 @@ fn run_for_drops(
 
 /// Appends the drops that are looked for among the lines up to a position, or nothing.
 pub(crate) fn append_drops(
-    present: &Net,
     position: u64,
     of: DropsOf,
     checkpoints: &mut Checkpoints,
     line: &mut Line,
     out: &mut Vec<PastDrop>,
 ) -> Result<(), MoveFault>
-    requires on_run { Passes checkpoints.old present.now }
-    requires upto { HasPosition checkpoints.old position }
+    requires { HasPosition checkpoints.old position }
     ensures ok { OnOk result (out.new.items ≡ out.old.items ++ past_drops checkpoints.old of position) }
     ensures err { OnErr result (out.new.items ≡ out.old.items) }
     ensures same { checkpoints.new ≡ checkpoints.old }
 {
     let many = out.len();
-    match net_at(present, 0, checkpoints, line) {
+    match checkpoints.first() {
         Ok(net) => {
             let mut net = net;
             match run_for_drops(&mut net, position, of, checkpoints, line, out) {
@@ -209,6 +206,6 @@ pub(crate) fn append_drops(
                 }
             }
         }
-        Err(fault) => Err(fault),
+        Err(_) => Err(MoveFault::NoMemory),
     }
 }

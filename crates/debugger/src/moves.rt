@@ -345,15 +345,7 @@ impl Debugger {
         ensures same { self.new ≡ self.old }
     {
         let position = self.net.position();
-        let near = nearer(&self.net, &self.left, 0);
-        append_drops(
-            near,
-            position,
-            of,
-            &mut self.checkpoints,
-            &mut self.line,
-            out,
-        )
+        append_drops(position, of, &mut self.checkpoints, &mut self.line, out)
     }
 
     /// What is read of the state that is shown, at a moment in nanoseconds.
@@ -377,8 +369,7 @@ impl Debugger {
         ensures err { OnErr result (out.new.items ≡ out.old.items) }
         ensures same { self.new ≡ self.old }
     {
-        let near = nearer(&self.net, &self.left, 0);
-        append_stalls(near, &mut self.checkpoints, &mut self.line, out)
+        append_stalls(&mut self.checkpoints, &mut self.line, out)
     }
 
     /// What the last event was, which is run again.

@@ -9,7 +9,6 @@ ghost use Rattle.debugger.specs.UnderWay.{AreUnderWay};
 use crate::breaks::sends_own;
 use crate::checkpoints::Checkpoints;
 use crate::fault::MoveFault;
-use crate::reached::net_at;
 use crate::under_way::{count_on, counts_of, leaves_moving};
 use flow_waits::becomes_stalled;
 use net_machine::{Due, Net};
@@ -177,18 +176,16 @@ fn run_for_stalls(
 
 /// Appends the stalls of the whole run, or nothing.
 pub(crate) fn append_stalls(
-    present: &Net,
     checkpoints: &mut Checkpoints,
     line: &mut Line,
     out: &mut Vec<StallAt>,
 ) -> Result<(), MoveFault>
-    requires { Passes checkpoints.old present.now }
     ensures ok { OnOk result (IsAllStalls checkpoints.old out.old.items out.new.items) }
     ensures err { OnErr result (out.new.items ≡ out.old.items) }
     ensures same { checkpoints.new ≡ checkpoints.old }
 {
     let many = out.len();
-    match net_at(present, 0, checkpoints, line) {
+    match checkpoints.first() {
         Ok(net) => {
             let mut net = net;
             match run_for_stalls(&mut net, checkpoints, line, out) {
@@ -199,6 +196,6 @@ pub(crate) fn append_stalls(
                 }
             }
         }
-        Err(fault) => Err(fault),
+        Err(_) => Err(MoveFault::NoMemory),
     }
 }

@@ -4,7 +4,7 @@ use Rattle.std.proofs.lemmas.Result.{IfOk-weaker}
 use Rattle.table_run.specs.State.{State}
 use Rattle.net_machine.specs.Run.{Reached}
 use Rattle.debugger.specs.Moves.{Passes}
-use Rattle.debugger.proofs.Walks.{passes_start}
+use Rattle.debugger.proofs.Walks.{passes_first}
 use Rattle.debugger.proofs.Thinned.{Reaches}
 use Rattle.debugger.proofs.checkpoints.Checkpoints.nearest.Goals as goal
 use Rattle.debugger.proofs.checkpoints.Checkpoints.nearest.Goals.{then-position-target+then-position, else-position-target, then-position-target-2+then-position-2, else-position-target-2}
@@ -12,8 +12,7 @@ use Rattle.debugger.proofs.checkpoints.Checkpoints.nearest.Goals.{then-position-
 pub loop-net-init : goal.loop-net-init
 loop-net-init c =
     let initial = c.self.inside.initial in
-    let here : Passes initial.state initial = subst (λ n. Passes initial.state (record { state = initial.state; position = n })) (sym c.self.invariant.at_start) (passes_start initial.state) in
-    record { on_run = subst (λ (s : State). Passes s initial) c.self.view_is here; below = omega (arith, c.self.invariant.at_start) }
+    record { on_run = subst (λ (s : State). Passes s initial) c.self.view_is (passes_first initial c.self.invariant.at_start); below = omega (arith, c.self.invariant.at_start) }
 
 pub loop-net-preserved : goal.loop-net-preserved
 loop-net-preserved c =

@@ -5,15 +5,14 @@ use Rattle.table_run.specs.State.{State}
 use Rattle.net_machine.specs.Run.{Reached}
 use Rattle.debugger.specs.Moves.{Passes, SomeUpto}
 use Rattle.debugger.proofs.Moments.{Begins, begins_upto}
-use Rattle.debugger.proofs.Walks.{passes_start}
+use Rattle.debugger.proofs.Walks.{passes_first}
 use Rattle.debugger.proofs.checkpoints.Checkpoints.nearest_before.Goals as goal
 use Rattle.debugger.proofs.checkpoints.Checkpoints.nearest_before.Goals.{then-is_better, else-is_better, then-is_better-2, else-is_better-2}
 
 pub loop-net-init : goal.loop-net-init
 loop-net-init c =
     let initial = c.self.inside.initial in
-    let here : Passes initial.state initial = subst (λ n. Passes initial.state (record { state = initial.state; position = n })) (sym c.self.invariant.at_start) (passes_start initial.state) in
-    (subst (λ (s : State). Passes s initial) c.self.view_is here, inl c.self.invariant.at_start)
+    (subst (λ (s : State). Passes s initial) c.self.view_is (passes_first initial c.self.invariant.at_start), inl c.self.invariant.at_start)
 
 pub loop-net-preserved : goal.loop-net-preserved
 loop-net-preserved c =

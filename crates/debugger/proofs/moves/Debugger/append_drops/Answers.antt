@@ -3,18 +3,15 @@ use Rattle.std.specs.Result.{OnOk}
 use Rattle.debugger.specs.Moves.{HasPosition}
 use Rattle.debugger.specs.Drops.{past_drops}
 use Rattle.debugger.specs.Debugging.{Debugging}
-use Rattle.debugger.proofs.Kept.{value_kept, moves_kept, nodes_kept, near_passes}
+use Rattle.debugger.proofs.Kept.{value_kept, moves_kept, nodes_kept}
 use Rattle.debugger.proofs.moves.Debugger.append_drops.Goals as goal
-
-pub append_drops-requires-clause-on_run : goal.append_drops-requires-clause-on_run
-append_drops-requires-clause-on_run c = near_passes c.self.inside c.nearer-near.result.now c.self.invariant c.nearer-near.ensures
 
 pub invariant_of-self : goal.invariant_of-self
 invariant_of-self c =
     record { moves = moves_kept c.self.inside _ c.append_drops.ensures.same c.self.invariant; nodes = nodes_kept c.self.inside _ c.append_drops.ensures.same c.self.invariant }
 
-pub append_drops-requires-clause-upto : goal.append_drops-requires-clause-upto
-append_drops-requires-clause-upto c =
+pub append_drops-requires : goal.append_drops-requires
+append_drops-requires c =
     subst (HasPosition c.self.inside.checkpoints) (sym c.position-position.ensures.count) (c.self.inside.net.state, c.self.invariant.moves.shown)
 
 pub returns-clause-ok : goal.returns-clause-ok

@@ -2,11 +2,8 @@ use Rattle.std.proofs.Common.{subst}
 use Rattle.std.specs.Result.{OnOk}
 use Rattle.debugger.specs.Stalls.{IsAllStalls}
 use Rattle.debugger.specs.Debugging.{Debugging}
-use Rattle.debugger.proofs.Kept.{value_kept, moves_kept, nodes_kept, near_passes}
+use Rattle.debugger.proofs.Kept.{value_kept, moves_kept, nodes_kept}
 use Rattle.debugger.proofs.moves.Debugger.append_stalls.Goals as goal
-
-pub append_stalls-requires : goal.append_stalls-requires
-append_stalls-requires c = near_passes c.self.inside c.nearer-near.result.now c.self.invariant c.nearer-near.ensures
 
 pub invariant_of-self : goal.invariant_of-self
 invariant_of-self c =
