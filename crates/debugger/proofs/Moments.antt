@@ -6,7 +6,7 @@ use Rattle.sim_time.specs.declared.key.Key.{Key}
 use Rattle.node_core.specs.declared.event.Event.{Event}
 use Rattle.node_core.specs.TraceLine.{TraceLine}
 use Rattle.tournament.proofs.Maps.{same_some}
-use Rattle.table_run.specs.State.{State, initial, due, run}
+use Rattle.table_run.specs.State.{State, initial, run}
 use Rattle.table_run.specs.Sound.{EachEvent}
 use Rattle.table_run.proofs.Due.{is_due}
 use Rattle.table_run.proofs.Lists.{all_right}

@@ -2,7 +2,7 @@
 use Rattle.std.proofs.Common.{◌≡◌, ◌+◌, ◌∙◌, ℕ, zero, suc, List, [], ◌∷◌, ◌++◌, Bool, true, false, true≢false, refl, sym, ap, arith, append_assoc, append-nil, Some, Ok, ◌⊎◌, ⊎_elim}
 use Rattle.std.specs.Prelude.{if◌then◌else◌}
 use Rattle.node_core.specs.TraceLine.{TraceLine}
-use Rattle.table_run.specs.State.{State, run}
+use Rattle.table_run.specs.State.{State}
 use Rattle.net_machine.specs.Run.{Reached, Stepped}
 use Rattle.net_watch.specs.declared.run_end.RunEnd.{RunEnd}
 use Rattle.net_watch.specs.declared.run_end.RunEnd.TheVariants.{Stopped, Held, Done}

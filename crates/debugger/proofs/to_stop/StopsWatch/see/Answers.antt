@@ -1,4 +1,4 @@
-use Rattle.std.proofs.Common.{List, length, ◌∙◌, sym, ap, subst, arith}
+use Rattle.std.proofs.Common.{List, ◌∙◌, sym, subst, arith}
 use Rattle.node_core.specs.TraceLine.{shown}
 use Rattle.debugger.specs.declared.breaks.Break.{Break}
 use Rattle.debugger.specs.Breaks.{IsHit}
