@@ -294,7 +294,7 @@ fn stops_at_segments(rt: &impl Abort, debugger: &mut Debugger) {
     let segments = Break::of(Condition::Kind(EventKind::Data));
     if debugger.add_break(segments).is_err() {
         let again = debugger.add_break(segments);
-        assert!(rt; again == Ok(1));
+        assert!(rt; matches!(again, Ok(1)));
     }
 }
 
