@@ -1,5 +1,5 @@
 -- The number of a breakpoint, or of a display.
-use Rattle.std.proofs.Common.{◌≡◌, ◌<◌, ◌≤◌, ◌+◌, ◌∙◌, ◌⊎◌, ⊎_elim, ℕ, List, ◌∷◌, ◌++◌, length, take, drop, get_or, sym, ap, subst, arith, length-append}
+use Rattle.std.proofs.Common.{◌≡◌, ◌<◌, ◌≤◌, ◌+◌, ◌∙◌, ⊎_elim, ℕ, List, ◌∷◌, ◌++◌, length, take, drop, get_or, sym, ap, subst, arith, length-append}
 use Rattle.std.proofs.lemmas.Bool.{cases_lt}
 use Rattle.std.proofs.lemmas.List.{length-take-le, take-append-drop, drop_more, get_or-take, take_all}
 use Rattle.std.specs.List.{Contains}
@@ -35,5 +35,5 @@ is_there xs x i n = (
   ap (λ l. get_or l (length n.before) x) n.parted ∙ get_or-append_seam n.before x n.after x,
 )
 
-pub has_none : {A : Type 0} (xs : List A) (i : ℕ) → (i < 1) ⊎ (length xs < i) → ¬ HasNumber xs i
-has_none xs i outside has = ⊎_elim (λ (low : i < 1). omega (arith, low, has.above)) (λ (high : length xs < i). omega (arith, high, has.upto)) outside
+pub has_one : {A : Type 0} (xs : List A) (i index : ℕ) → i ≡ index + 1 → index < length xs → HasNumber xs i
+has_one xs i index is within = record { above = omega (arith, is); upto = omega (arith, is, within) }

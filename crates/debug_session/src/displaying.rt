@@ -1,15 +1,14 @@
 //! Displays that are set, taken away and shown.
-ghost use Rattle.std.specs.Prelude.{◌≡◌, ◌<◌, ◌≤◌, Contains, MatchBool, length};
+ghost use Rattle.std.specs.Prelude.{◌≡◌};
 ghost use Rattle.debug_session.specs.Answers.{answer_of};
 ghost use Rattle.debug_session.specs.Displays.{Reads, ObeysDisplays};
-ghost use Rattle.debug_session.specs.Numbered.{HasNumber};
 ghost use Rattle.debug_session.specs.Prompt.{at_prompt, ObeysDisplay};
 ghost use Rattle.debug_session.specs.Readouts.{present};
 
 use crate::dialogue::Dialogue;
-use crate::display::{DisplayCommand, DisplayItem, MOST_DISPLAYS, item_at, number_of_display};
+use crate::display::{DisplayCommand, DisplayItem, MOST_DISPLAYS, number_of_display};
 use crate::naming::Naming;
-use crate::numbered::has_number;
+use crate::numbered::of_number;
 use crate::refusal::Refusal;
 use crate::said::Said;
 use crate::typed_move::present_time;
@@ -17,38 +16,7 @@ use debugger::Debugger;
 use flow_waits::ScenarioNames;
 use sim_time::Time;
 
-/// Displays something that is not displayed yet, where there is room for it.
-#[tactic(none)]
-fn add_display(
-    debugger: &Debugger,
-    names: &ScenarioNames,
-    time: Time,
-    item: DisplayItem,
-    displays: &mut Vec<DisplayItem>,
-    said: &mut Said,
-) -> Result<(), Refusal>
-    requires fresh { ¬ Contains displays.old.items item }
-    requires room { length displays.old.items < 64 }
-    ensures { ObeysDisplays names.now (present debugger.now time) (DisplayCommand.Add item) displays.old.items displays.new.items (answer_of result said.new) }
-{
-    let number = displays.as_slice().len() as u64 + 1;
-    match said.say_display(debugger, names, time, number, item) {
-        Ok(()) => match displays.push(item) {
-            Ok(()) => Ok(()),
-            Err(_) => Err(Refusal::M),
-        },
-        Err(_) => Err(Refusal::M),
-    }
-}
-
-/// Whether something more can be displayed.
-fn has_room(displays: &[DisplayItem]) -> bool
-    ensures { MatchBool result (length displays.now < 64) (64 ≤ length displays.now) }
-{
-    displays.len() < MOST_DISPLAYS
-}
-
-/// Displays something, and tells its number.
+/// Displays something, and tells its number: what is displayed already keeps it.
 #[tactic(none)]
 fn set_display(
     debugger: &Debugger,
@@ -62,40 +30,23 @@ fn set_display(
 {
     let set = displays.as_slice();
     match number_of_display(set, item) {
-        Some(number) => said.say_display(debugger, names, time, number, item),
-        None => {
-            if has_room(set) {
-                add_display(debugger, names, time, item, displays, said)
-            } else {
-                Err(Refusal::B4)
-            }
-        }
+        Some(number) => return said.say_display(debugger, names, time, number, item),
+        None => {}
     }
-}
-
-/// Takes the display of a number away.
-#[tactic(none)]
-fn take_display(
-    names: &ScenarioNames,
-    number: u64,
-    displays: &mut Vec<DisplayItem>,
-    said: &mut Said,
-) -> Result<(), Refusal>
-    requires { HasNumber displays.old.items number }
-    ensures { (now : Reads) → ObeysDisplays names.now now (DisplayCommand.TakeAway number) displays.old.items displays.new.items (answer_of result said.new) }
-{
-    let index = number as usize - 1;
-    let item = item_at(displays.as_slice(), index);
-    match said.say_undisplayed(names, number, item) {
-        Ok(()) => {
-            let _taken = displays.remove(index);
-            Ok(())
-        }
+    if set.len() >= MOST_DISPLAYS {
+        return Err(Refusal::B4);
+    }
+    let number = set.len() as u64 + 1;
+    match said.say_display(debugger, names, time, number, item) {
+        Ok(()) => match displays.push(item) {
+            Ok(()) => Ok(()),
+            Err(_) => Err(Refusal::M),
+        },
         Err(_) => Err(Refusal::M),
     }
 }
 
-/// Takes a display away, where one has the number.
+/// Takes the display of a number away, where one has it.
 #[tactic(none)]
 fn undisplay(
     names: &ScenarioNames,
@@ -105,10 +56,15 @@ fn undisplay(
 ) -> Result<(), Refusal>
     ensures { (now : Reads) → ObeysDisplays names.now now (DisplayCommand.TakeAway number) displays.old.items displays.new.items (answer_of result said.new) }
 {
-    if has_number(displays.as_slice(), number) {
-        take_display(names, number, displays, said)
-    } else {
-        Err(Refusal::B5)
+    match of_number(displays.as_slice(), number) {
+        None => Err(Refusal::B5),
+        Some((index, item)) => match said.say_undisplayed(names, number, item) {
+            Ok(()) => {
+                let _taken = displays.remove(index);
+                Ok(())
+            }
+            Err(_) => Err(Refusal::M),
+        },
     }
 }
 

@@ -1,5 +1,5 @@
 //! Breakpoints by their numbers.
-ghost use Rattle.std.specs.Prelude.{◌≡◌, ◌<◌, ◌⊎◌, ◌++◌, length, Contains, MatchBool, MatchOption, OnOk};
+ghost use Rattle.std.specs.Prelude.{◌≡◌, ◌<◌, ◌+◌, ◌++◌, length, slice_index_or, Contains, MatchOption, OnOk};
 ghost use Rattle.debug_session.specs.Numbered.{byte_text, part_text, kind_text, drops_text, event_text, packet_text, stall_text, break_text, numbered_line, lines_from, IsNumber, HasNumber};
 
 use crate::names_reported::{append_behind, append_number};
@@ -154,9 +154,11 @@ pub(crate) fn number_of(breaks: &[Break], b: Break) -> Option<u64>
     None
 }
 
-/// Whether one of these has this number.
-pub(crate) fn has_number<T>(things: &[T], number: u64) -> bool
-    ensures { MatchBool result (HasNumber things.now number) ((number < 1) ⊎ (length things.now < number)) }
+/// The one of these that has this number, and its index.
+pub(crate) fn of_number<T: Copy>(things: &[T], number: u64) -> Option<(usize, T)>
+    ensures { MatchOption result (¬ HasNumber things.now number) (λ found. (number ≡ found.0 + 1) × (found.0 < length things.now) × (slice_index_or things.now found.0 found.1 ≡ found.1)) }
 {
-    0 < number && number <= things.len() as u64
+    let index = (number as usize).checked_sub(1)?;
+    let thing = things.get(index)?;
+    Some((index, *thing))
 }

@@ -1,7 +1,6 @@
 //! A session's answer to a command that is typed.
-ghost use Rattle.std.specs.Prelude.{◌≡◌, [], ◌<◌, Contains, MatchBool, OnOk, length, slice_index_or};
+ghost use Rattle.std.specs.Prelude.{◌≡◌, [], MatchBool, OnOk};
 ghost use Rattle.debug_session.specs.Answers.{answer_of, session_state};
-ghost use Rattle.debug_session.specs.Numbered.{HasNumber};
 ghost use Rattle.debug_session.specs.Prompt.{MovesShowing, ObeysShowing};
 ghost use Rattle.debug_session.specs.Reported.{CanBeUndone};
 ghost use Rattle.debug_session.specs.TypedAnswers.{ObeysTyped};
@@ -10,7 +9,7 @@ use crate::command::{Move, Typed};
 use crate::display::DisplayItem;
 use crate::moves::{make, report_of};
 use crate::naming::Naming;
-use crate::numbered::{has_number, number_of};
+use crate::numbered::{number_of, of_number};
 use crate::refusal::Refusal;
 use crate::reply::or_undone;
 use crate::said::Said;
@@ -19,30 +18,7 @@ use debugger::breaks::MOST_BREAKS;
 use debugger::{Break, Debugger};
 use window_engine::{Gate, Hands};
 
-/// Sets a breakpoint that is not set yet, where there is room for one.
-#[tactic(none)]
-fn set_fresh(
-    debugger: &mut Debugger,
-    naming: &Naming,
-    b: Break,
-    said: &mut Said,
-) -> Result<(), Refusal>
-    requires fresh { ¬ Contains debugger.old.breaks b }
-    requires room { length debugger.old.breaks < 64 }
-    ensures obeyed { ObeysTyped naming.now debugger.old.start (Typed.SetBreak b) (session_state debugger.old) (session_state debugger.new) (answer_of result said.new) }
-    ensures start { debugger.new.start ≡ debugger.old.start }
-{
-    let number = debugger.breaks().len() as u64 + 1;
-    match said.say_break(naming, number, b) {
-        Ok(()) => match debugger.add_break(b) {
-            Ok(_) => Ok(()),
-            Err(_) => Err(Refusal::M),
-        },
-        Err(_) => Err(Refusal::M),
-    }
-}
-
-/// Sets a breakpoint, and tells its number.
+/// Sets a breakpoint, and tells its number: one that is set already keeps it.
 #[tactic(none)]
 fn set_numbered(
     debugger: &mut Debugger,
@@ -55,49 +31,23 @@ fn set_numbered(
 {
     let set = debugger.breaks();
     match number_of(set, b) {
-        Some(number) => said.say_break(naming, number, b),
-        None => {
-            if set.len() < MOST_BREAKS {
-                set_fresh(debugger, naming, b, said)
-            } else {
-                Err(Refusal::B4)
-            }
-        }
+        Some(number) => return said.say_break(naming, number, b),
+        None => {}
     }
-}
-
-/// The breakpoint at an index.
-fn break_at(breaks: &[Break], index: usize) -> Break
-    requires { index < length breaks.now }
-    ensures { (other : Break) → slice_index_or breaks.now index other ≡ result }
-{
-    breaks[index]
-}
-
-/// Takes the breakpoint of a number away.
-#[tactic(none)]
-fn take_away(
-    debugger: &mut Debugger,
-    naming: &Naming,
-    number: u64,
-    said: &mut Said,
-) -> Result<(), Refusal>
-    requires { HasNumber debugger.old.breaks number }
-    ensures obeyed { ObeysTyped naming.now debugger.old.start (Typed.Delete number) (session_state debugger.old) (session_state debugger.new) (answer_of result said.new) }
-    ensures start { debugger.new.start ≡ debugger.old.start }
-{
-    let index = number as usize - 1;
-    let b = break_at(debugger.breaks(), index);
-    match said.say_deleted(naming, number, b) {
-        Ok(()) => {
-            let _taken = debugger.delete_break(index);
-            Ok(())
-        }
+    if set.len() >= MOST_BREAKS {
+        return Err(Refusal::B4);
+    }
+    let number = set.len() as u64 + 1;
+    match said.say_break(naming, number, b) {
+        Ok(()) => match debugger.add_break(b) {
+            Ok(_) => Ok(()),
+            Err(_) => Err(Refusal::M),
+        },
         Err(_) => Err(Refusal::M),
     }
 }
 
-/// Takes a breakpoint away, where one has the number.
+/// Takes the breakpoint of a number away, where one has it.
 #[tactic(none)]
 fn delete(
     debugger: &mut Debugger,
@@ -108,10 +58,15 @@ fn delete(
     ensures obeyed { ObeysTyped naming.now debugger.old.start (Typed.Delete number) (session_state debugger.old) (session_state debugger.new) (answer_of result said.new) }
     ensures start { debugger.new.start ≡ debugger.old.start }
 {
-    if has_number(debugger.breaks(), number) {
-        take_away(debugger, naming, number, said)
-    } else {
-        Err(Refusal::B5)
+    match of_number(debugger.breaks(), number) {
+        None => Err(Refusal::B5),
+        Some((index, b)) => match said.say_deleted(naming, number, b) {
+            Ok(()) => {
+                let _taken = debugger.delete_break(index);
+                Ok(())
+            }
+            Err(_) => Err(Refusal::M),
+        },
     }
 }
 
