@@ -10,12 +10,12 @@ use Rattle.debug_session.specs.declared.refusal.Refusal.{Refusal}
 use Rattle.debug_session.specs.declared.refusal.Refusal.TheVariants.{M}
 use Rattle.debug_session.specs.Answers.{answer_of, session_state}
 use Rattle.debug_session.specs.Numbered.{deleted_line}
-use Rattle.debug_session.specs.TypedAnswers.{TypedCanBeRefused, TypedIsRefused, TakesAway, DoesTyped, ObeysTyped}
+use Rattle.debug_session.specs.TypedAnswers.{TypedIsRefused, TakesAway, DoesTyped, ObeysTyped}
 use Rattle.debug_session.proofs.Setting.{stands}
 
 -- nothing changes, and a text is told, or memory was refused
 pub told : (naming : Naming) (asked : Typed) (old new : Debugging) (result : Result (Unit {0}) Refusal) (out : List ℕ) → new ≡ old
-    → MatchResult result (λ _. DoesTyped naming old.start asked (session_state old) (session_state old) out) (λ why. (why ≡ M) × TypedCanBeRefused asked (session_state old))
+    → MatchResult result (λ _. DoesTyped naming old.start asked (session_state old) (session_state old) out) (λ why. (why ≡ M) × TypedIsRefused M asked (session_state old))
     → ObeysTyped naming old.start asked (session_state old) (session_state new) (answer_of result out)
 told naming asked old new (Ok done) out same does = subst (λ (d : Debugging). DoesTyped naming old.start asked (session_state old) (session_state d) out) (sym same) does
 told naming asked old new (Err why) out same does = (ap session_state same, subst (λ (w : Refusal). TypedIsRefused w asked (session_state old)) (sym does.0) does.1)

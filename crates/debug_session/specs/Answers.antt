@@ -104,22 +104,12 @@ Does start State old new out = Shows start (λ p. p ≡ old.shown.position) old 
 Does start (SetBreak b) old new out = Sets b old new out
 Does start Clear old new out = Clears old new out
 
--- the command takes memory, runs events or has workers: so it can be refused for want of memory or of workers, or as too many events were run
-abbrev pub CanBeRefused : Command → SessionState → Type 0
-CanBeRefused (SetBreak b) old = ¬ Contains old.breaks b × (length old.breaks < 64)
-CanBeRefused Clear old = ⊥
-CanBeRefused (Go move) old = Unit {0}
-CanBeRefused State old = Unit {0}
-
--- there are as many breakpoints as there may be
-abbrev pub IsFull : Command → SessionState → Type 0
-IsFull (SetBreak b) old = ¬ Contains old.breaks b × (length old.breaks ≡ 64)
-IsFull command old = ⊥
-
--- why a command that was read is refused
+-- why a command that was read is refused. What takes memory, runs events or has workers can be refused for want of either, or as too many events were run; and there are as many breakpoints as there may be
 abbrev pub IsRefused : Refusal → Command → SessionState → Type 0
-IsRefused M command old = CanBeRefused command old
-IsRefused B4 command old = IsFull command old
+IsRefused M (SetBreak b) old = ¬ Contains old.breaks b × (length old.breaks < 64)
+IsRefused M Clear old = ⊥
+IsRefused M command old = Unit {0}
+IsRefused B4 (SetBreak b) old = ¬ Contains old.breaks b × (length old.breaks ≡ 64)
 IsRefused refusal command old = ⊥
 
 -- a command is done, or refused, and then nothing changes

@@ -121,21 +121,11 @@ DoesDisplay names now All old new out = (new ≡ old) × (out ≡ display_listin
 DoesDisplay names now (Add item) old new out = SetsDisplay names now item old new out
 DoesDisplay names now (TakeAway i) old new out = Undisplays names i old new out
 
--- there are as many displays as there may be
-abbrev pub DisplaysFull : DisplayCommand → List DisplayItem → Type 0
-DisplaysFull (Add item) old = ¬ Contains old item × (64 ≤ length old)
-DisplaysFull asked old = ⊥
-
--- no display has the number
-abbrev pub NoDisplay : DisplayCommand → List DisplayItem → Type 0
-NoDisplay (TakeAway i) old = ¬ HasNumber old i
-NoDisplay asked old = ⊥
-
--- why a command on displays is refused: there may be no memory for any
+-- why a command on displays is refused: there may be no memory for any, there are as many displays as there may be, or none has the number
 abbrev pub DisplayIsRefused : Refusal → DisplayCommand → List DisplayItem → Type 0
 DisplayIsRefused M asked old = Unit {0}
-DisplayIsRefused B4 asked old = DisplaysFull asked old
-DisplayIsRefused B5 asked old = NoDisplay asked old
+DisplayIsRefused B4 (Add item) old = ¬ Contains old item × (64 ≤ length old)
+DisplayIsRefused B5 (TakeAway i) old = ¬ HasNumber old i
 DisplayIsRefused refusal asked old = ⊥
 
 -- it is done, or refused, and then nothing changes

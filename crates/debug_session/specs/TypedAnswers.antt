@@ -61,31 +61,15 @@ DoesTyped naming start Clear old new out = Does start command.Clear old new out
 DoesTyped naming start Breaks old new out = Stays old new out (listing naming old.breaks)
 DoesTyped naming start (Show what) old new out = (new ≡ old) × Tells naming start old what out
 
--- the command can be refused for want of memory or of workers, or as too many events were run
-abbrev pub TypedCanBeRefused : Typed → SessionState → Type 0
-TypedCanBeRefused (Go move) old = Unit {0}
-TypedCanBeRefused State old = Unit {0}
-TypedCanBeRefused (SetBreak b) old = Contains old.breaks b ⊎ (length old.breaks < 64)
-TypedCanBeRefused (Delete i) old = HasNumber old.breaks i
-TypedCanBeRefused Clear old = ⊥
-TypedCanBeRefused Breaks old = 0 < length old.breaks
-TypedCanBeRefused (Show what) old = Unit {0}
-
--- there are as many breakpoints as there may be
-abbrev pub TypedIsFull : Typed → SessionState → Type 0
-TypedIsFull (SetBreak b) old = ¬ Contains old.breaks b × (length old.breaks ≡ 64)
-TypedIsFull asked old = ⊥
-
--- no breakpoint has the number
-abbrev pub TypedHasNone : Typed → SessionState → Type 0
-TypedHasNone (Delete i) old = ¬ HasNumber old.breaks i
-TypedHasNone asked old = ⊥
-
--- why a command that was read is refused
+-- why a command that was read is refused: for want of memory or of workers, or as too many events were run; as there are as many breakpoints as there may be; or as none has the number
 abbrev pub TypedIsRefused : Refusal → Typed → SessionState → Type 0
-TypedIsRefused M asked old = TypedCanBeRefused asked old
-TypedIsRefused B4 asked old = TypedIsFull asked old
-TypedIsRefused B5 asked old = TypedHasNone asked old
+TypedIsRefused M (SetBreak b) old = Contains old.breaks b ⊎ (length old.breaks < 64)
+TypedIsRefused M (Delete i) old = HasNumber old.breaks i
+TypedIsRefused M Clear old = ⊥
+TypedIsRefused M Breaks old = 0 < length old.breaks
+TypedIsRefused M asked old = Unit {0}
+TypedIsRefused B4 (SetBreak b) old = ¬ Contains old.breaks b × (length old.breaks ≡ 64)
+TypedIsRefused B5 (Delete i) old = ¬ HasNumber old.breaks i
 TypedIsRefused refusal asked old = ⊥
 
 -- a command is done, or refused, and then nothing changes
