@@ -1,5 +1,5 @@
 -- The number of a breakpoint, or of a display.
-use Rattle.std.proofs.Common.{◌≡◌, ◌<◌, ◌≤◌, ◌+◌, ◌∙◌, ⊎_elim, ℕ, List, ◌∷◌, ◌++◌, length, take, drop, get_or, sym, ap, subst, arith, length-append}
+use Rattle.std.proofs.Common.{◌≡◌, ◌<◌, ◌≤◌, ◌+◌, ◌∙◌, ⊎_elim, ℕ, List, ◌∷◌, ◌++◌, length, take, drop, get_or, refl, sym, ap, subst, arith, length-append}
 use Rattle.std.proofs.lemmas.Bool.{cases_lt}
 use Rattle.std.proofs.lemmas.List.{length-take-le, take-append-drop, drop_more, get_or-take, take_all}
 use Rattle.std.specs.List.{Contains}
@@ -23,6 +23,16 @@ is_number xs x i n within before has count =
   where
     earlier : has.0 < i → Contains (take i xs) x
     earlier under = (has.0, omega (arith, under, length-take-le i xs (omega (arith, within))), get_or-take i xs has.0 x under ∙ sym (get_or-take (i + 1) xs has.0 x (omega (arith, under))) ∙ has.2)
+
+-- the same where each before it is another
+pub first_number : {A : Type 0} (xs : List A) (x : A) (i : ℕ) → i < length xs → ((k : ℕ) (d : A) → k < i → get_or xs k d ≡ x → ⊥) → get_or xs i x ≡ x → IsNumber xs x (i + 1)
+first_number xs x i within before here =
+    let size : length (take i xs) ≡ i = length-take-le i xs (omega (arith, within)) in
+    let size_with : length (take (i + 1) xs) ≡ i + 1 = length-take-le (i + 1) xs (omega (arith, within)) in
+    is_number xs x i (i + 1) within
+    (λ has. let under : has.0 < i = omega (arith, has.1, size) in before has.0 x under (sym (get_or-take i xs has.0 x under) ∙ has.2))
+    (i, omega (arith, size_with), get_or-take (i + 1) xs i x (omega arith) ∙ here)
+    refl
 
 pub nowhere : {A : Type 0} (xs : List A) (x : A) (i : ℕ) → length xs ≤ i → ¬ Contains (take i xs) x → ¬ Contains xs x
 nowhere xs x i past before = λ has. before (subst (λ bs. Contains bs x) (sym (take_all i xs past)) has)

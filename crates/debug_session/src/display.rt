@@ -1,5 +1,5 @@
 //! What is displayed after each move.
-ghost use Rattle.std.specs.Prelude.{◌≡◌, ◌<◌, ◌↔◌, IsTrue, MatchBool, MatchOption, Contains, length, slice_index_or};
+ghost use Rattle.std.specs.Prelude.{◌≡◌, ◌<◌, ◌↔◌, IsTrue, MatchOption, Contains, length, slice_index_or};
 ghost use Rattle.debugger.specs.Values.{owner_of};
 ghost use Rattle.debug_session.specs.Input.{words_in};
 ghost use Rattle.debug_session.specs.DisplayGrammar.{sort_of_owner, value_asked, item_asked, display_asked};
@@ -108,24 +108,11 @@ fn is_same_item(a: DisplayItem, b: DisplayItem) -> bool
 }
 
 /// The display at an index.
-pub(crate) fn item_at(displays: &[DisplayItem], index: usize) -> DisplayItem
+fn item_at(displays: &[DisplayItem], index: usize) -> DisplayItem
     requires { index < length displays.now }
     ensures { (other : DisplayItem) → slice_index_or displays.now index other ≡ result }
 {
     displays[index]
-}
-
-/// Whether something is displayed.
-fn is_displayed(displays: &[DisplayItem], item: DisplayItem) -> bool
-    ensures { MatchBool result (Contains displays.now item) (¬ Contains displays.now item) }
-{
-    for index in 0..displays.len() {
-        let other = item_at(displays, index);
-        if is_same_item(other, item) {
-            return true;
-        }
-    }
-    false
 }
 
 /// The number of a display among those that there are.
@@ -133,7 +120,8 @@ pub(crate) fn number_of_display(displays: &[DisplayItem], item: DisplayItem) -> 
     ensures { MatchOption result (¬ Contains displays.now item) (λ i. IsNumber displays.now item i) }
 {
     for index in 0..displays.len() {
-        if is_displayed(&displays[..index + 1], item) {
+        let other = item_at(displays, index);
+        if is_same_item(other, item) {
             return Some(index as u64 + 1);
         }
     }
