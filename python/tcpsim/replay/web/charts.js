@@ -7,15 +7,14 @@ const UNDER_AXIS = 1.7;                 // the room below a chart, as a part of 
 const BESIDE_AXIS = 10;                 // what an axis' ticks take beside their labels
 const TICKS = [8, 6, 5, 4, 3, 2, 1];
 const DASHES = ['', '7 3', '2 3', '9 3 2 3'];
-const LEAST_LANE = 32, LETTERS_OF_LANE = 1.6, LANE_GAP = 5;    // pixels: of a lane's height, which has so many letters' too, and between two
+const LEAST_LANE = 24, LETTERS_OF_LANE = 1.6, LANE_GAP = 5;    // pixels: of a lane's height, which has so many letters' too, and between two
 const AFTER_LAST = 0.03;                    // what the axis of time has behind the last event, as a part of the span, to see what that one does
 const NEAR = 1.25, EDGE = 3;            // what is thin counts for the scale up to so much above the rest; nothing thin is drawn so near to the frame, in pixels
 const MOST_OF_NAME = 0.2;               // of a chart's width, that a lane's name may have
-const OWN_SCALE = 5;                    // a lane with values smaller than the others' by this has an axis of its own
-const TOGETHER = 4;                     // marks of a kind that are no further apart are one
+const OWN_SCALE = 3;                    // a lane with values smaller than the others' by this has an axis of its own
 const MARK = 4, KEY_SIGN = 26;          // half of a mark's width; what the key's signs take beside their words
-const SIGNS = {full: 'm-4-4l8 8m0-8l-8 8', codel: 'm-4-4h8l-4 8z', lost: 'm-5 0h10m-5-5v10', timeout: ''};
-const GREY = 'var(--line)';
+const DIGIT = 0.6, APART = 3;           // a letter's width, as a part of its height; pixels between two marks
+const SIGNS = {full: 'm-4-4l8 8m0-8l-8 8', codel: 'm-4-4h8l-4 8z', lost: 'm-5 0h10m-5-5v10', timeout: '', before: 'm-6 0h5m3 0h5', above: 'm0 5v-10m-4 4l4-4 4 4'};
 const BAND_ROW = 1.3, THIN_ROW = 4;        // the height of a strip of bands, as a part of that of letters; and in pixels where curves need the room
 const ROW_OF_KEY = 1.25, LEAST_OF_CURVES = 3.2; // in heights of letters: a row of the key, and what it leaves for curves
 const valueText = value => value < 1 ? String(value) : d3.format('s')(value);
@@ -61,6 +60,11 @@ function greatestOf(values) {
 function topOf(series) {
   const most = Math.max(0, ...series.filter(s => !s.thin || s.before).map(s => s.most === undefined ? greatestOf(s.curve.values) : s.most)) || 1;
   return Math.max(most, ...series.filter(s => s.thin && !s.before).map(({curve}) => greatestOf(curve.values.filter(value => value <= NEAR * most))));
+}
+// The greatest values of lanes' axes: one has its own where its values are much smaller.
+function scalesOf(lanes) {
+  const tops = lanes.map(({series}) => topOf(series)), greatest = Math.max(...tops);
+  return tops.map(top => 1.1 * (top * OWN_SCALE < greatest ? top : greatest));
 }
 
 class Chart {
@@ -159,20 +163,20 @@ class Chart {
 
   // Each lane is {name, colour, series, bands, marks}. Of `series` each is {curve, colour, dash, thin, name}, or {dots, ..} with points,
   // or {area, ..} with [time, from, to] of each column; one with `behind` counts for the scale, and is drawn once it is of a run before; of `bands` a span that is shaded, {kind, from, to, name, whose}, in a strip above the
-  // curves where it says `whose` it is, {name, mark, colour}; of `marks` a moment, {kind, time, value, name}. `key` has [kind, words, colour] of bands, marks and flows. Lanes that have no room are one, in which the
-  // first is before the others in grey.
+  // curves where it says `whose` it is, {name, mark, colour}; of `marks` a moment, {kind, time, value, name, whose, colour, link}. `key` has [kind, words, colour] of bands, marks and flows. Lanes that have no room are one, in which the
+  // first is before the others.
   show(lanes, key = []) {
     this.drawKey(key);
     const height = this.tall - this.bottom - this.top, room = lanes.length < 2 || height / lanes.length >= Math.max(LEAST_LANE, LETTERS_OF_LANE * this.letters) + LANE_GAP;
     const kept = room ? lanes : [this.together(lanes)];
-    const tops = kept.map(({series}) => topOf(series));
-    const greatest = Math.max(...tops), lane = height / Math.max(1, kept.length);
+    const scales = scalesOf(kept), lane = height / Math.max(1, kept.length);
     for (const group of [this.axes, this.bands, this.curves, this.marks, this.names]) group.selectAll('*').remove();
     this.lanes = kept.map((one, k) => {
-      const strips = [...new Map((one.bands || []).filter(({whose}) => whose).map(({whose}) => [whose.name, whose])).values()];
-      const gap = k ? LANE_GAP : 0, spare = (lane - gap - LEAST_OF_CURVES * this.letters) / strips.length, row = Math.max(THIN_ROW, Math.min(BAND_ROW * this.letters, spare));
-      const from = this.top + lane * k + gap + strips.length * row, to = this.top + lane * (k + 1), most = tops[k] * OWN_SCALE < greatest ? tops[k] : greatest;
-      return {...one, strips, row, from, to, y: d3.scale.linear().range([to, from]).domain([0, most * 1.1])};
+      const {bands = [], marks = []} = one, has = ({whose}) => whose, all = [...new Map([...bands, ...marks].filter(has).map(({whose}) => [whose.name, whose])).values()];
+      const gap = k ? LANE_GAP : 0, spare = (lane - gap - LEAST_OF_CURVES * this.letters) / all.length, row = Math.max(THIN_ROW, Math.min(BAND_ROW * this.letters, spare));
+      // Marks alone have strips where these have room for letters.
+      const strips = row < this.letters && !bands.some(has) ? [] : all, top = this.top + lane * k + gap, from = top + strips.length * row, to = this.top + lane * (k + 1);
+      return {...one, bands, marks, strips: strips.map((strip, s) => ({...strip, top: top + s * row, tall: row - 2})), from, to, y: d3.scale.linear().range([to, from]).domain([0, scales[k]])};
     });
     this.lanes.forEach(({y, from, to}, k) => {
       const rows = Math.max(to - from > 2 * this.letters ? 2 : 1, Math.min(4, Math.floor((to - from) / (1.6 * this.letters))));
@@ -186,10 +190,9 @@ class Chart {
     this.axes.attr('transform', `translate(${this.x.range()[0]},0)`);
     for (const one of this.lanes) this.drawLane(one);
   }
-  // All lanes in one: the first, and of the others what is drawn most, in grey behind it.
+  // All lanes in one, with the scale of the first: of the others what is drawn most, thin behind it.
   together([first, ...others]) {
-    const grey = others.flatMap(({series}) => series.filter(s => !s.thin).map(s => ({...s, colour: GREY})));
-    return {...first, series: [...grey, ...first.series]};
+    return {...first, series: [...others.flatMap(({series}) => series.filter(s => !s.thin).map(s => ({...s, thin: true, other: true}))), ...first.series]};
   }
   // A lane's name before its axis, as far as there is room for it; answers what that takes.
   drawName({name, colour, from}) {
@@ -200,21 +203,22 @@ class Chart {
     this.names.append('rect').attr('x', 2).attr('y', from + this.letters + 2).attr('width', wide).attr('height', 3).attr('fill', colour);
     return wide + 2;
   }
-  drawLane({series, bands = [], marks = [], strips, row, y, from, to}) {
+  drawLane(lane) {
+    const {series, bands, strips, y, from, to} = lane, marks = this.drawMarks(lane);
     const line = () => d3.svg.line().x(p => this.x(p[0])).y(p => Math.max(from, y(p[1]))).interpolate('step-after');
     for (const {kind, from: begin, to: end, name: words} of bands.filter(({whose}) => !whose)) this.drawBand(kind, words, begin, end, from, to - from);
-    strips.forEach((strip, k) => this.drawStrip(strip, bands.filter(({whose}) => whose && whose.name === strip.name), from - (strips.length - k) * row, row - 2));
+    const of = (ones, {name}) => ones.filter(({whose}) => whose && whose.name === name);
+    for (const strip of strips) this.drawStrip(strip, of(bands, strip), of(marks, strip).map(({x, until}) => [x - MARK, until]));
     for (const one of series) this.curveOf(one, y, line(), from);
-    this.drawMarks(marks, y, from, to);
   }
   drawBand(kind, words, begin, end, top, tall) {
     const x = this.within(begin), wide = Math.max(1, this.within(end) - x);
     this.bands.append('rect').attr('class', kind).attr('x', x).attr('width', wide).attr('y', top).attr('height', tall).append('title').text(words);
     return [x, x + wide];
   }
-  // A flow's spans in a strip of its own, behind its name, each with its word, where these have room: nothing there is a value.
-  drawStrip({name, mark, colour}, bands, top, tall) {
-    const [left, right] = this.x.range(), base = top + 0.8 * tall, taken = [], hasWords = tall >= this.letters;
+  // A flow's spans in a strip of its own, behind its name, each with its word, where these have room beside the marks there: nothing there is a value.
+  drawStrip({name, mark, colour, top, tall}, bands, taken) {
+    const [left, right] = this.x.range(), base = top + 0.8 * tall, hasWords = tall + 2 >= this.letters;
     const head = hasWords && this.bands.append('text').attr('text-anchor', 'end').attr('x', left - 5).attr('y', base).text(name);
     if (head && this.widthOf(head) > left - 8) head.text(mark);
     const wide = head ? this.widthOf(head) : KEY_SIGN / 2;
@@ -248,23 +252,36 @@ class Chart {
   dotted(dots, y, from) {
     return thinned(dots, this.x).map(([time, value]) => `M${this.x(time).toFixed(1)} ${Math.max(from, y(value)).toFixed(1)}h.01`).join('');
   }
-  // Marks in their order; those of a kind that lie upon each other are one, which says how many.
-  drawMarks(marks, y, from, to) {
+  // Marks in their order, of a kind or a row. Drops that would lie upon each other are one, with how many it is beside it, and at which link
+  // where that differs. Answers each, with how far it reaches.
+  drawMarks({marks, strips, y, from, to}) {
     const last = new Map(), made = [];
-    for (const {kind, time, value, name} of marks) {
-      const x = this.within(time), before = last.get(kind);
-      if (before && x - before.x < TOGETHER && (value === undefined || Math.abs(y(value) - before.y) < TOGETHER)) {
-        before.count += 1;
-        continue;
+    for (const {kind, time, value, name, whose, colour, link = ''} of marks) {
+      const x = this.within(time), strip = whose && strips.find(one => one.name === whose.name && one.tall + 2 >= this.letters), key = `${kind} ${whose && whose.name}`;
+      const at = value !== undefined ? Math.max(from, y(value)) : strip ? strip.top + strip.tall / 2 : kind === 'timeout' ? from + 0.5 * this.letters : to - MARK - 1;
+      let one = last.get(key);
+      if (!one || x >= one.until || Math.abs(at - one.at) > (kind === 'again' ? 1 : this.letters)) {
+        one = {kind, x, at, whose, strip, colour, name, count: 0, links: new Map()};
+        last.set(key, one);
+        made.push(one);
       }
-      const at = value === undefined ? to - MARK - 1 : Math.max(from, y(value)), path = this.marks.append(kind === 'again' ? 'circle' : 'path').attr('class', kind);
-      if (kind === 'timeout') path.attr('d', `M${x} ${from}V${to}`);
-      else if (kind === 'again') path.attr('cx', x).attr('cy', at).attr('r', MARK + 1).attr('fill', 'none');
-      else for (const each of [this.marks.insert('path', 'path:last-child').attr('class', 'halo'), path]) each.attr('d', `M${x} ${at}${SIGNS[kind] || SIGNS.full}`);
-      last.set(kind, {x, y: at, name, count: 0, title: path.append('title')});
-      made.push(last.get(kind));
+      one.count += 1;
+      one.links.set(link, (one.links.get(link) || 0) + 1);
+      one.word = kind === 'again' ? '' : [...one.links].map(([where, count]) => [where, one.count > 1 ? `×${number(count)}` : ''].filter(Boolean).join(' ')).join(', ');
+      one.until = one.x + (kind === 'again' ? 1 : kind === 'timeout' && !one.word ? MARK : MARK + APART + (one.word ? 1 + one.word.length * DIGIT * this.letters : MARK));
     }
-    for (const {title, name, count} of made) title.text(count ? `${name}, and ${count} more` : name);
+    for (const one of made) this.drawMark(one, from, to);
+    return made;
+  }
+  drawMark({kind, x, at, strip, colour, name, count, word}, from, to) {
+    const path = this.marks.append(kind === 'again' ? 'circle' : 'path').attr('class', kind).style('stroke', colour || null);
+    if (kind === 'timeout') path.attr('d', `${strip ? `M${x} ${strip.top}v${strip.tall}` : ''}M${x} ${from}V${to}`);
+    else if (kind === 'again') path.attr('cx', x).attr('cy', at).attr('r', MARK + 1).attr('fill', 'none');
+    else for (const each of [this.marks.insert('path', 'path:last-child').attr('class', 'halo'), path]) each.attr('d', `M${x} ${at}${SIGNS[kind] || SIGNS.full}`);
+    path.append('title').text(count > 1 ? `${name}, and ${number(count - 1)} more` : name);
+    if (!word) return;
+    const beside = this.marks.append('text').attr('class', 'many').attr('x', x + MARK + 1).attr('y', at + 0.35 * this.letters).text(word);
+    if (x + MARK + 1 + this.widthOf(beside) > this.wide) beside.attr('x', x - MARK - 1).attr('text-anchor', 'end');
   }
   // What bands and marks mean: beside the title, and below it in as many rows as leave room for curves. Of the titles the longest with
   // which the most has room, in the fewest rows.

@@ -65,6 +65,7 @@ class Page {
     this.net = new Net(d3.select('#net'), this.record, what => this.pick(what), fold);
     const button = document.getElementById('fold');
     button.hidden = !this.net.canFold;
+    document.getElementById('at-stubs').hidden = !this.net.folded;
     button.setAttribute('aria-pressed', this.net.folded);
   }
   // Lays all out anew, in the room that there is now.

@@ -40,9 +40,15 @@ function sent(record, f) {
   });
   return {all, again};
 }
+const whoseOf = (record, f) => ({name: flowName(record, f), mark: markOf(record.facts, f), colour: colourOf(f)});
 function dropMarks(record, of, at = () => undefined) {
-  return record.drops.filter(of).map(drop => ({kind: SIGNS[drop.reason] ? drop.reason : 'full', time: drop.time, value: at(drop),
+  return record.drops.filter(of).map(drop => ({kind: SIGNS[drop.reason] ? drop.reason : 'full', time: drop.time, value: at(drop), flow: drop.flow, colour: colourOf(drop.flow), link: record.facts.links[drop.link].name,
     name: `${sortName(drop.sort)} ${number(drop.number)} of ${flowName(record, drop.flow)}, at link ${record.facts.links[drop.link].name}: ${LOOKS.drops[drop.reason] || drop.reason}`}));
+}
+// What a link drops, in a row for each flow.
+function dropsAt(record, l, of = () => true) {
+  const rows = record.facts.flows.map((_, f) => whoseOf(record, f));
+  return dropMarks(record, drop => drop.link === l && of(drop)).sort((one, two) => one.flow - two.flow).map(mark => ({...mark, link: '', whose: rows[mark.flow]}));
 }
 function timeoutMarks(record, f) {
   return record.timeouts.filter(event => +record.line(event).split(' ')[6] === f).map(event => ({kind: 'timeout', time: record.timeOf(event),
@@ -92,33 +98,44 @@ function stacked(record, l, x) {
 
 // ---- the panels
 
-// The key's words of what lanes have.
-const KEYS = [...Object.entries(LOOKS.marks), ...Object.entries(LOOKS.drops)];
+// The key's words of what lanes have, of drops with how many there are; and which ssthresh has no room on the axis.
+const KEYS = [...Object.entries(LOOKS.marks), ...Object.entries(LOOKS.drops), ['before', 'before the last change']];
 function keyOf(lanes, {facts}) {
-  const there = new Set(lanes.flatMap(({bands = [], marks = []}) => [...bands, ...marks].map(({kind}) => kind)));
+  const there = new Map(), scales = scalesOf(lanes), above = new Set();
+  lanes.forEach(({series, bands = [], marks = []}, k) => {
+    for (const {kind} of [...bands, ...marks]) there.set(kind, (there.get(kind) || 0) + 1);
+    for (const {thin, before, other, curve} of series)
+      if (before) there.set('before'); else if (thin && !other && greatestOf(curve.values) > scales[k]) above.add(valueText(greatestOf(curve.values)));
+  });
   const flows = new Set(lanes.flatMap(({series}) => series.filter(({flow}) => flow !== undefined).map(({flow}) => flow)));
-  return [...KEYS.filter(([kind]) => there.has(kind)), ...[...flows].sort((a, b) => b - a).map(f => ['flow', facts.flows[f].name, colourOf(f)])];
+  return [...KEYS.filter(([kind]) => there.has(kind)).map(([kind, words]) => [kind, LOOKS.drops[kind] ? `${number(there.get(kind))} ${words}` : words]), ...(above.size ? [['above', `first ssthresh above: ${[...above].join(', ')}`]] : []), ...[...flows].sort((a, b) => b - a).map(f => ['flow', facts.flows[f].name, colourOf(f)])];
 }
 const windowOf = (record, f) => [[CWND, 'cwnd'], [SSTHRESH, 'ssthresh']].map(([what, name]) => ({curve: record.curve(record.ofFlow(f, what)),
   colour: colourOf(f), thin: what === SSTHRESH, dash: dashOf(f), name: `${name} of ${flowName(record, f)}`}));
-const lossesOf = (record, f) => [...timeoutMarks(record, f), ...dropMarks(record, ({flow, sort}) => flow === f && sort === DATA)];
+// A flow's timeouts and losses; these say their link where there are several.
+function lossesOf(record, f, place = {}, at = undefined) {
+  const drops = dropMarks(record, ({flow, sort}) => flow === f && sort === DATA, at), isOne = new Set(drops.map(({link}) => link)).size < 2;
+  return [...timeoutMarks(record, f), ...drops.map(mark => ({...mark, link: isOne ? '' : mark.link}))].map(mark => ({...mark, ...place}));
+}
+// What flows have, of several each in a row of its own.
+const inRows = (record, flows, of) => flows.flatMap(f => of(record, f, flows.length > 1 ? {whose: whoseOf(record, f)} : {}));
 const PANELS = {
   windows: {says: 'windows', of: 'flows', titles: [`${LOOKS.panels.window}: cwnd (thick), ssthresh (thin), bytes`, 'cwnd (thick), ssthresh (thin), bytes', 'cwnd thick, ssthresh thin'],
     lanes: (record, flows) => flows.length > 2 ? flows.map(f => ({name: flowName(record, f), colour: colourOf(f), series: windowOf(record, f), bands: spansOf(record, f), marks: lossesOf(record, f)})) :
-      [{series: flows.flatMap(f => windowOf(record, f)), bands: flows.flatMap(f => spansOf(record, f, flows.length > 1 ? {whose: {name: flowName(record, f), mark: markOf(record.facts, f), colour: colourOf(f)}} : {})), marks: flows.flatMap(f => lossesOf(record, f))}]},
+      [{series: flows.flatMap(f => windowOf(record, f)), bands: inRows(record, flows, spansOf), marks: inRows(record, flows, lossesOf)}]},
   lengths: {says: 'queues', of: 'links', titles: [LOOKS.panels.queue, 'packets that wait'],
-    lane: (record, l, x) => ({name: record.facts.links[l].name, colour: linkColourOf(l), marks: dropMarks(record, ({link}) => link === l), series: [
+    lane: (record, l, x) => ({name: record.facts.links[l].name, colour: linkColourOf(l), marks: dropsAt(record, l), series: [
       ...stacked(record, l, x).map((area, f) => ({area, most: 0, flow: f, colour: colourOf(f), name: `packets of ${flowName(record, f)} in the queue of ${record.facts.links[l].name}`})).filter(({area}) => area.length),
       {curve: record.queueCurve(l), colour: linkColourOf(l), behind: true, name: `queue of ${record.facts.links[l].name}`}]})},
   delays: {says: 'delay', of: 'links', hides: 'flows', whole: false, text: ns => ns ? waitText(ns) : '0', titles: [LOOKS.panels.delay, 'delay of each packet', 'delay'], lane: (record, l, x, flows) => {
     const track = record.tracks[l], of = record.facts.flows.map(() => ({times: [], values: []})), shown = new Set(flows);
     for (let k = 0; k < track.gone; k++) { const entry = track.entryOf(k), one = of[track.flow[entry]]; one.times.push(track.entered(entry)); one.values.push(track.begun(k) - track.entered(entry)); }
-    return {name: record.facts.links[l].name, colour: linkColourOf(l), marks: dropMarks(record, ({link, flow}) => link === l && shown.has(flow)), series: of.map((dots, f) => ({dots, curve: dots, flow: f, colour: colourOf(f),
+    return {name: record.facts.links[l].name, colour: linkColourOf(l), marks: dropsAt(record, l, ({flow}) => shown.has(flow)), series: of.map((dots, f) => ({dots, curve: dots, flow: f, colour: colourOf(f),
       name: `delay of packets of ${flowName(record, f)} at ${record.facts.links[l].name}`})).filter(({dots, flow}) => dots.times.length && shown.has(flow))};
   }},
   sequence: {says: 'sequence numbers', of: 'flows', titles: [`${LOOKS.panels.sequence}: sent (dots), acknowledged (line), bytes`, `${LOOKS.panels.sequence}, bytes`], lane: (record, f) => {
     const {all, again} = sent(record, f), name = flowName(record, f);
-    return {name, colour: colourOf(f), bands: spansOf(record, f), marks: [...again, ...dropMarks(record, ({flow, sort}) => flow === f && sort === DATA, drop => drop.number), ...timeoutMarks(record, f)],
+    return {name, colour: colourOf(f), bands: spansOf(record, f), marks: [...again, ...lossesOf(record, f, {}, drop => drop.number)],
       series: [{dots: all, curve: all, most: Math.max(0, greatestOf(all.values)) + record.facts.flows[f].mss, colour: colourOf(f), name: `segments of ${name}`}, {curve: acknowledged(record, f), colour: 'var(--quiet)', thin: true, name: `acknowledged of ${name}`}]};
   }},
   progress: {says: 'progress', of: 'flows', titles: [LOOKS.panels.progress, 'bytes acknowledged'], lanes: (record, flows) => [{series: flows.map(f => ({
