@@ -11,6 +11,12 @@ function codelFor(facts, l) {
   return `codel:${target}ms:${Math.max(100, 10 * target)}ms`;
 }
 
+// The other queue at a link, with as many places: CoDel for drop-tail, or the other way round.
+function otherQueue(facts, l) {
+  const {queue, limit} = facts.links[l];
+  return queue === 'codel' ? `droptail:${limit}` : `${codelFor(facts, l)}:${limit}`;
+}
+
 // The text with another queue at a link; `word` is one of tcpsim-net's, as codel:5ms:100ms. Throws Wrong.
 function withQueue(text, facts, link, word, ranges) {
   const net = Object.assign(new NetText(ranges), {links: facts.links, flows: facts.flows}), queue = queueOf(ranges, word);
@@ -52,14 +58,14 @@ class Compare {
     for (const id of ['first', 'second', 'link']) byId(`compare-${id}`).addEventListener('change', () => this.offer());
   }
   say(text) { byId('compare-said').textContent = text; }
-  // The texts that there are, and the links of the first.
+  // The texts that there are, for the second first what belongs beside the scenario, and the links of the first.
   offer() {
-    const texts = this.texts();
+    const texts = this.texts(), {title, partner} = this.lecture.simulator, beside = partner ? `example ${partner}` : OTHER_QUEUE;
+    if (this.title !== title) { this.title = title; byId('compare-second').value = ''; }
+    const others = [...texts, [OTHER_QUEUE, 'the first, with another queue']].sort(([one], [two]) => (two === beside) - (one === beside) || (two === OTHER_QUEUE) - (one === OTHER_QUEUE));
     for (const id of ['first', 'second']) {
-      const select = byId(`compare-${id}`), kept = select.value || (id === 'first' ? 'editor' : OTHER_QUEUE);
-      select.textContent = '';
-      if (id === 'second') select.append(new Option('the first, with another queue', OTHER_QUEUE));
-      for (const [value, name] of texts) select.append(new Option(name, value));
+      const select = byId(`compare-${id}`), kept = select.value || (id === 'first' ? 'editor' : beside);
+      select.replaceChildren(...(id === 'first' ? texts : others).map(([value, name]) => new Option(name, value)));
       if ([...select.options].some(option => option.value === kept)) select.value = kept;
       select.title = `the scenario that runs in the ${{first: 'upper net, with solid curves', second: 'lower net, with dashed curves'}[id]}: ${select.selectedOptions[0].textContent}`;
     }
@@ -72,18 +78,16 @@ class Compare {
     } catch { return; }         // a text that the program refuses
     facts.links.forEach(({name}, l) => link.append(new Option(name, l)));
     if (kept && link.options[kept]) link.value = kept;
-    if (facts.links.length && facts.flows.length) byId('compare-word').placeholder = codelFor(facts, +link.value);
+    if (facts.links.length && facts.flows.length) byId('compare-word').placeholder = otherQueue(facts, +link.value);
   }
-  // Chooses the scenario as it is and what a lecture has beside it: the example that is named, else the same with CoDel at the link
-  // that is given, or without it where that has it.
-  suggest(example, l) {
-    this.choose(example ? `example ${example}` : OTHER_QUEUE);
-    const link = byId('compare-link');
-    if (example || !link.options[l]) return;
+  // Chooses the scenario as it is and what belongs beside it, else the same with another queue at the link that is given.
+  suggest(l) {
+    const {partner} = this.lecture.simulator, link = byId('compare-link');
+    this.choose(partner ? `example ${partner}` : OTHER_QUEUE);
+    if (partner || !link.options[l]) return;
     link.value = l;
+    byId('compare-word').value = '';
     this.offer();
-    const {queue, limit} = factsOf(this.textOf('first'), '').links[l];
-    byId('compare-word').value = queue === 'codel' ? `droptail:${limit}` : '';
   }
   // The scenario as it is, and another.
   choose(second) {
@@ -281,7 +285,7 @@ class Compare {
     for (const {of, figure, unit, values} of ones) {
       const row = body.insertRow();
       addCell(row, 'th', of).scope = 'row';
-      Object.assign(addCell(row, 'td', UNITS_IN_CELLS.includes(unit) || unit === figure ? figure : `${figure} (${unit})`), {className: 'word', title: titleOf(figure)});
+      Object.assign(addCell(row, 'td', UNITS_IN_CELLS.includes(unit) || unit === figure ? inWords(figure) : `${inWords(figure)} (${unit})`), {className: 'word', title: [figure, titleOf(figure)].filter(Boolean).join('; ')});
       for (const value of values) addCell(row, 'td', value ? inUnits(value, unit) : 'has none').title = value && value !== '-' ? `${number(value)} ${unit}` : 'there is none';
       addCell(row, 'td', changeOf(values, unit));
     }

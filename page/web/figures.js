@@ -37,7 +37,7 @@ function tableOf(heads, rows) {
   const around = document.createElement('div'), table = document.createElement('table'), head = table.createTHead().insertRow(), body = table.createTBody();
   around.className = 'table';
   around.append(table);
-  const columns = heads.map((_, k) => rows.map(cells => [cells[k]].flat()).filter(([, , size]) => size !== undefined)), isPart = columns.map(ones => ones.some(([text]) => text.endsWith(' %')));
+  const columns = heads.map((_, k) => rows.map(cells => [cells[k]].flat()).filter(([, , size]) => size !== undefined)), isPart = columns.map(ones => ones.some(([text]) => / %( of|$)/.test(text)));
   const most = columns.map((ones, k) => (isPart[k] ? 1 : ones.length > 1 && Math.max(...ones.map(([, , size]) => size))));
   heads.map(one => [one].flat()).forEach(([text, title], k) => Object.assign(addCell(head, 'th', text), {scope: 'col', title: [title, isPart[k] ? OF_ALL_BARS : most[k] ? OF_BARS : ''].filter(Boolean).join('; ')}));
   for (const cells of rows) {
@@ -116,7 +116,7 @@ class Overview {
       const goodput = this.goodputs[f], share = this.share(f), lost = this.lost(f), sent = this.of('flow', f, 'sent'), done = this.completed[f];
       const [timed, ...trips] = this.trips(f);
       return [name, goodput === null ? '-' : [rateText(+goodput.toPrecision(4)), `${number(Math.round(goodput))} bit/s`, goodput],
-        share === null ? '-' : [percent(share), `of the bytes that ${this.facts.links[this.bottleneck(f)].name} sent`, share], this.facts.links[this.bottleneck(f)].name,
+        [`${share === null ? '-' : percent(share)} of ${this.facts.links[this.bottleneck(f)].name}`, 'of the bytes that this link sent, the busiest on its way', share === null ? undefined : share],
         lost === null ? '-' : [percent(lost / (sent || 1)), `${number(lost)} of ${number(sent)} segments`, lost / (sent || 1)], [number(this.of('flow', f, 'timeouts')), '', this.of('flow', f, 'timeouts')],
         number(timed), ...trips.map(trip => trip === null ? '-' : [waitText(trip), `${number(trip)} ns, of ${number(timed)}${this.record ? '' : ' that were timed'}`, trip]), done === null ? '-' : [seconds(done, 3), `${number(done)} ns`, done]];
     });
@@ -133,11 +133,13 @@ class Overview {
 }
 const percent = part => `${(100 * part).toFixed(1)} %`;
 const IN_CLASSES = 'the program counts in classes, and this is the bound of one: at most 1/32 above';
+// A figure of the program's table in a reader's words.
+const inWords = figure => figure.replace(/^(?:(least|median|greatest)|(\d+)th percentile of) (round trip|delay in the queue)s?$/, (_, which, part, what) => `${what === 'round trip' ? what : 'wait'}, ${which || `${part} %`}`)
+  .replace(/^greatest queue$/, 'most waiting').replace(/^dropped as (lost|full)$/, (_, reason) => LOOKS.drops[reason]).replace(/^completed$/, 'complete at').replace(/^waited$/, 'packets waiting, times how long');
 // What a figure of the program's table is, where a trace has it otherwise.
 const titleOf = figure => [/round trip/.test(figure) && 'of those that the sender timed, one segment at a time', /^median|percentile/.test(figure) && IN_CLASSES].filter(Boolean).join('; ');
 const flowHeads = kept => ['flow', ['goodput from its start', 'bytes in order at the receiver, a second, from the flow\u2019s own start to its completion or the end'],
-  ['share of the whole run', 'of the bytes that its bottleneck sent from the run\u2019s begin to its end, with headers and what was sent again'],
-  ['bottle\u00adneck', 'the busiest link on its way'], ['loss', 'the part of its segments that was dropped'], ['time\u00adouts', 'how often its retransmission timer ended'],
+  ['share of the whole run', 'of the bytes that its bottleneck, the busiest link on its way, sent from the run\u2019s begin to its end, with headers and what was sent again'], ['loss', 'the part of its segments that was dropped'], ['time\u00adouts', 'how often its retransmission timer ended'],
   ...(kept ? [['RTTs', 'how many round trips: of each segment that was sent once and is acknowledged by its own number'], ['least RTT', 'the least of these'], ['median RTT', 'of these']] :
     [['RTTs timed', 'how many round trips its sender timed: one segment at a time, and none that was sent again (RFC 6298 section 3). So the longer they are, the fewer are timed'],
       ['least timed RTT', 'the least of these'], ['median of timed RTTs', `of these, not of all segments; ${IN_CLASSES}`]]), ['complete at', 'when all its bytes were acknowledged']];

@@ -14,7 +14,8 @@ class Lecture {
     Object.assign(this, {simulator, root: document.documentElement, panel: OF_ONE[0], step: -1});
     window.addEventListener('keydown', event => this.key(event), true);
     document.addEventListener('fullscreenchange', () => { if (!document.fullscreenElement && this.whole) this.leave(); });
-    byId('lecture-open').addEventListener('click', event => { event.currentTarget.blur(); this.begin(); });
+    for (const [id, does] of [['open', () => this.begin()], ['leave', () => this.leave()], ['play', () => this.play()]])
+      byId(`lecture-${id}`).addEventListener('click', event => { event.currentTarget.blur(); does(); });
   }
   get on() { return this.root.classList.contains('lecture'); }
   // Whether two runs are what is seen.
@@ -33,6 +34,10 @@ class Lecture {
     if (this.asked !== mine) return;
     try { await this.root.requestFullscreen(); } catch { return; }
     if (this.asked === mine) this.whole = true; else if (!this.on) document.exitFullscreen();
+  }
+  play() {
+    const {page, compare} = this.simulator, moved = this.both ? compare.clock : page;
+    if (moved) moved.play(!moved.playing);
   }
   leave() {
     if (!this.on) return;
@@ -63,13 +68,13 @@ class Lecture {
   // Two runs, or one again. Which two: those that were compared, where one is of the scenario as it is; else the lesson's two
   // examples, or the scenario and the same with another queue: an example, or one where most packets waited.
   compareOrNot() {
-    const {simulator} = this, {compare, page, run, editor, title} = simulator, {now} = simulator.lessons;
+    const {simulator} = this, {compare, page, run, editor} = simulator;
     if (this.both) { this.show(); return; }
     if (!compare) return;
     simulator.showTab('compare');
     if (compare.shows(editor.text)) { this.showBoth(); return; }
-    const ones = now && now.examples.includes(title) ? now.examples : [], {longest} = page && run.text === editor.text ? page.record : {longest: [0]};
-    compare.suggest(ones.find(name => name !== title) || simulator.twinOf(editor.text), longest.indexOf(Math.max(...longest)));
+    const {longest} = page && run.text === editor.text ? page.record : {longest: [0]};
+    compare.suggest(longest.indexOf(Math.max(...longest)));
     this.setPanel(this.panel);
     compare.start();
   }

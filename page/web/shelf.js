@@ -164,8 +164,7 @@ class Shelf {
   other(facts, pin) {
     const {page} = this.simulator, pinned = OF_QUEUE.includes(pin.name) ? facts.links.findIndex(({name}) => name === pin.of) : -1;
     const longest = page && page.facts.links.length === facts.links.length ? page.record.longest.indexOf(Math.max(...page.record.longest)) : 0, l = pinned < 0 ? longest : pinned;
-    const {queue, limit} = facts.links[l];
-    return [l, queue === 'codel' ? `droptail:${limit}` : `${codelFor(facts, l)}:${limit}`];
+    return [l, otherQueue(facts, l)];
   }
   // The texts of a value of a pin: those of its runs, and the same with the other queue.
   textsOf(pin, value) {

@@ -131,10 +131,11 @@ class Simulator {
     how.style.left = `${Math.max(8, Math.min(left, innerWidth - how.offsetWidth - 8))}px`;
     how.style.top = `${bottom}px`;
   }
-  // An example that differs from a text by its queues alone.
-  twinOf(text) {
+  // What the scenario is compared with first: the lesson's other example, or one that differs by its queues alone.
+  get partner() {
+    const {lessons: {now}, title, editor: {text}} = this, ones = now && now.examples.includes(title) ? now.examples : [];
     const plain = one => [...statementsOf(one)].map(words => (words[0] === 'link' ? words.slice(0, 6) : words).join(' ')).join('\n'), wanted = plain(text);
-    return Object.keys(this.examples).find(name => this.examples[name] !== text && plain(this.examples[name]) === wanted);
+    return ones.find(name => name !== title) || Object.keys(this.examples).find(name => this.examples[name] !== text && plain(this.examples[name]) === wanted);
   }
   // What a fragment behind the address has, or one that is written into the page: answers whether it had a scenario.
   async openFragment(fragment = location.hash || document.documentElement.dataset.shared || '') {
@@ -527,6 +528,11 @@ ${dataOf('licenses').join('\n\n')}`;
     await this.goToLine(event, of);
     byId('net-room').scrollIntoView({block: 'nearest'});
   }
+  // Where all stands below each other, what it shows is brought into view.
+  pressTab(name) {
+    this.showTab(name);
+    if (isNarrow()) byId(name === 'net' && this.page ? 'panel-bar' : `tab-${name}`).scrollIntoView();
+  }
   showTab(name) {
     for (const tab of document.querySelectorAll('[role=tab]')) {
       const chosen = tab.dataset.tab === name;
@@ -597,13 +603,13 @@ ${dataOf('licenses').join('\n\n')}`;
       return tab;
     });
     tabs.forEach((tab, k) => {
-      tab.addEventListener('click', () => this.showTab(tab.dataset.tab));
+      tab.addEventListener('click', () => this.pressTab(tab.dataset.tab));
       tab.addEventListener('keydown', event => {
         const by = {ArrowRight: 1, ArrowLeft: -1}[event.key];
         if (!by) return;
         const next = tabs[(k + by + tabs.length) % tabs.length];
         next.focus();
-        this.showTab(next.dataset.tab);
+        this.pressTab(next.dataset.tab);
         event.preventDefault();
       });
     });

@@ -14,7 +14,7 @@ const STRIPS = {
   timeouts: {of: 'flow', read: (seen, f) => seen.of('flow', f, 'timeouts'), text: value => inCount(value, 'timeout')}, used: {of: 'link', read: (seen, l) => seen.used[l], text: percent},
   wait95: {of: 'link', read: (seen, l) => seen.of('link', l, '95th percentile of delay in the queue'), text: inTime}, dropped: {of: 'link', read: (seen, l) => seen.dropped(l), text: value => inCount(value, 'packet')},
   Jain: {of: 'run', read: seen => jain(seen.compared[0].map(f => seen.goodputs[f])), text: value => value.toFixed(4)}};
-const STRIP_NAMES = {goodput: 'goodput', complete: 'completion', timeouts: 'timeouts', used: 'utilization', wait95: '95 % wait', dropped: 'dropped', Jain: 'Jain\u2019s index'};
+const STRIP_NAMES = {goodput: 'goodput', complete: 'completion', timeouts: 'timeouts', used: 'utilization', wait95: 'wait, 95 %', dropped: 'dropped', Jain: 'Jain\u2019s index'};
 
 // The figures of flows or links that the program counts, each with its unit.
 const figuresOf = (csv, what) => new Map(csv ? readFigures(csv).filter(row => row.what === what).map(({figure, unit}) => [figure, unit]) : []);
@@ -22,7 +22,7 @@ const figuresOf = (csv, what) => new Map(csv ? readFigures(csv).filter(row => ro
 function offeredOf({flows, links}, csv) {
   const names = {flow: flows, link: links, run: [{name: ''}]};
   const ones = Object.entries(STRIPS).flatMap(([key, {of}]) => names[of].map(({name}) => [`${key} ${name}`.trim(), `${STRIP_NAMES[key]} ${name && `of ${name}`}`.trim()]));
-  return [ones, ['flow', 'link'].flatMap(what => [...figuresOf(csv, what).keys()].flatMap(figure => names[what].map(({name}) => [`${what} ${name} ${figure}`, `${figure} of ${name}`])))];
+  return [ones, ['flow', 'link'].flatMap(what => [...figuresOf(csv, what).keys()].flatMap(figure => names[what].map(({name}) => [`${what} ${name} ${figure}`, `${inWords(figure)} of ${name}`])))];
 }
 // How a figure is read from an overview, and written; `csv` has the units.
 function shownOf(chosen, csv) {
