@@ -101,6 +101,39 @@ def test_one_text_with_another_queue(browser):
     assert not browser.value('document.querySelector("#both iframe")')
 
 
+def test_what_belongs_beside_it_is_offered_first(browser):
+    """The lesson's other example, one that differs by its queues alone, or another queue, with as many places; a choice stays."""
+    first = '(e => [e.value, e.options[0].value])(document.getElementById("compare-second"))'
+    for value, offered in (('lesson 16', 'example four_flows_share_codel'), ('lesson 10', 'example bufferbloat_with_codel'), ('lesson 3', 'queue'), ('lesson 16', 'example four_flows_share_codel')):
+        choose(browser, value)
+        browser.click(element('[data-tab=compare]'))
+        assert browser.json(first) == [offered] * 2, value
+    pick(browser, '#compare-second', 'queue')
+    browser.value('simulator.showTab("net"); simulator.showTab("compare")')
+    assert browser.json(first)[0] == 'queue'
+    link = browser.value('[...document.getElementById("compare-link").options].findIndex(it => it.text === "pq")')
+    pick(browser, '#compare-link', str(link))
+    assert browser.value('document.getElementById("compare-word").placeholder').endswith(':60')
+    assert go(browser) == ''
+    assert browser.json(f'simulator.compare.records.map(it => it.facts.links[{link}].limit)') == [60, 60]
+
+
+@pytest.mark.parametrize('width', [1400, 1024])
+def test_no_column_of_figures_is_cut(browser, width):
+    """Nor is a figure named as in the program's table: its tooltip has that."""
+    browser.size(width, 900)
+    choose(browser, 'lesson 16')
+    browser.click(element('[data-tab=compare]'))
+    assert go(browser) == ''
+    assert browser.json('(e => e.scrollWidth - e.clientWidth)(document.getElementById("both-figures"))') == 0
+    names = browser.json('[...document.querySelectorAll("#both-figures .word")].map(e => [e.textContent, e.title])')
+    assert {'wait, 95 %', 'wait, median', 'round trip, greatest'} <= {name for name, _ in names}
+    assert not [name for name, _ in names if 'percentile' in name or 'delay in' in name]
+    assert any(name == 'wait, 95 %' and title.startswith('95th percentile of delay in the queue; ') for name, title in names)
+    browser.value(f'{element("#both-figures")}.scrollIntoView()')
+    look(browser, f'compare_figures_{width}')
+
+
 def test_a_refused_text_is_told(browser):
     choose(browser, 'example one_segment')
     browser.value('simulator.editor.text = "sim 0\\n"')

@@ -87,6 +87,19 @@ def test_the_net_and_the_panels_go_to_its_position(at_debugger):
     assert browser.value('page.record.at') == 25
 
 
+@pytest.mark.parametrize('lesson', [16, 17])
+def test_no_box_beside_it_is_cut(browser, lesson):
+    """Half of a window of 1,400 pixels has rows for all panels' boxes."""
+    browser.size(1400, 900)
+    choose(browser, f'lesson {lesson}')
+    browser.value('page.panels.choose(Object.keys(PANELS)); simulator.showTab("debug"); page.lay()')
+    assert browser.json("""(bar => { const {bottom, right} = bar.getBoundingClientRect();
+      return [...bar.querySelectorAll('button, label')].filter(e => e.checkVisibility()).map(e => [e.textContent, e.getBoundingClientRect()]).filter(([, box]) => box.bottom > bottom + 1 || box.right > right + 1).map(([text]) => text);
+    })(document.getElementById('panel-bar'))""") == []
+    look(browser, f'debugger_{lesson}')
+    browser.value('simulator.showTab("net")')
+
+
 def test_history_and_completion(at_debugger):
     browser = at_debugger
     value = f'{element("#debugger input")}.value'

@@ -113,6 +113,7 @@ def test_a_slide_through_a_range(browser):
     assert browser.json(STATE)[4] > 0          # the curves before, whole
     below = browser.json('Object.values(page.panels.charts).flatMap(({curves, lanes}) => [...curves.node().querySelectorAll("path[stroke-dasharray=\\"5 4\\"]")].map(e => e.getBBox().y - lanes[0].from))')
     assert len(below) >= 2 and min(below) > .5, below
+    assert 'before the last change' in browser.json('[...document.querySelectorAll("#windows .key")].map(e => e.textContent)')
     look(browser, 'dragged')
     browser.mouse('moved', x - 4 * (first + 50), y)
     browser.wait('simulator.editor.text.includes(" droptail 1\\n") && !simulator.exploring')

@@ -435,6 +435,35 @@ def seen_title(browser):
     return browser.json('[...document.querySelectorAll("#replay h1 span")].filter(e => e.checkVisibility()).map(e => e.textContent)')
 
 
+@pytest.mark.parametrize('size', [(1400, 900), (390, 844)])
+def test_a_lecture_by_touch(calm, size):
+    """Where the browser grants no full screen: a button plays and pauses, of one run and of two, another leaves; they cover no words."""
+    browser = calm
+    browser.value('document.documentElement.requestFullscreen = () => Promise.reject(new TypeError())')
+    try:
+        browser.size(*size, mobile=size[0] < 500)
+        choose(browser, 'lesson 16')
+        run(browser)
+        browser.click(element('#lecture-open'))
+        for shown, moves, words in ((RUN_SHOWN, 'page', ['#where', '#replay h1 .of-lesson']), (BOTH_SHOWN, 'simulator.compare.clock', ['#both-time', '#both-head'])):
+            browser.wait(shown)
+            boxes = browser.json(f"""['#lecture-play', '#lecture-leave', ...{json.dumps(words)}].map(css => {{ const e = document.querySelector(css), range = document.createRange(); range.selectNodeContents(e);
+              const b = (e.matches('button') ? e : range).getBoundingClientRect(); return [b.left, b.top, b.right, b.bottom]; }})""")
+            assert all(right - left >= 44 and bottom - top >= 44 and right <= size[0] for left, top, right, bottom in boxes[:2]), boxes
+            assert not [1 for one in boxes[:2] for two in boxes[2:] if one[0] < two[2] and two[0] < one[2] and one[1] < two[3] and two[1] < one[3]], boxes
+            browser.click(element('#lecture-play'))
+            browser.wait(f'{moves}.playing')
+            browser.click(element('#lecture-play'))
+            assert not browser.value(f'{moves}.playing')
+            look(browser, f'touch_{size[0]}_{moves[-5:]}')
+            if moves == 'page':
+                browser.press('c')
+        browser.click(element('#lecture-leave'))
+        assert browser.json('[simulator.lecture.on, document.getElementById("lecture-leave").checkVisibility()]') == [False, False]
+    finally:
+        browser.value('delete document.documentElement.requestFullscreen')
+
+
 # ---- two runs
 
 def begin_lecture(browser, value):
@@ -693,6 +722,17 @@ def test_a_line_is_of_the_scenario_that_its_text_speaks_of(calm):
     browser.wait('page.record.at === 228')
     choose(browser, 'lesson 7')
     assert browser.json('[...document.querySelectorAll("#lesson button.event")].map(e => e.dataset.of.endsWith("newreno"))') == [False] * 7 + [True] * 3
+
+
+def test_a_lesson_speaks_of_what_the_page_shows():
+    """Outside of what it says of a picture: of panels that it brings, and of none by its place in a picture."""
+    for lesson in page_lessons.lessons():
+        panels = {name for name, *_ in lesson.panels}
+        for part in re.findall(r'<p>(.*?)</p>', lesson.text, re.S):
+            if re.search('picture', re.sub('<[^>]*>', '', part)):
+                continue
+            assert not re.search('panels? to the right|received in order|crosses above shows?', part), (lesson.number, part)
+            assert not re.search('panels? of the queues?', part) or 'lengths' in panels, (lesson.number, part)
 
 
 def test_the_tutorial_says_of_each_lesson_that_it_is_in_the_page():

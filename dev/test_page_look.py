@@ -360,9 +360,24 @@ def test_the_row_of_tabs_does_not_move(sized):
     tops = []
     for tab in (*TABS, 'net'):
         show(browser, tab)
+        browser.value('scrollTo(0, 0)')
         tops.append(browser.value('Math.round(document.getElementById("tabs").getBoundingClientRect().top + scrollY)'))
     assert {*tops} == {tops[0]}, tops
     assert browser.value('document.getElementById("tabs").getBoundingClientRect().bottom <= document.querySelector("#replay header").getBoundingClientRect().top + 1')
+
+
+def test_on_a_phone_a_pressed_tab_is_seen(sized):
+    """What it shows is brought into view, below the row of tabs, which stays above."""
+    browser = sized
+    browser.size(390, 844, mobile=True)
+    choose(browser, 'lesson 17')
+    run(browser)
+    for tab in (*TABS, 'time', 'net'):
+        browser.value('scrollTo(0, 0)')
+        browser.click(element(f'[data-tab={tab}]'))
+        tabs, top = browser.json(f'["tabs", "{"panel-bar" if tab == "net" else f"tab-{tab}"}"].map(id => document.getElementById(id).getBoundingClientRect()).map(({{top, bottom}}, k) => k ? top : [top, bottom])')
+        assert tabs[0] == 0 and tabs[1] - 2 <= top < 200, (tab, tabs, top)
+        look(browser, f'phone_tab_{tab}')
 
 
 # ---- units
@@ -425,7 +440,79 @@ def test_the_key_names_all_that_is_drawn(sized):
         assert len(told) == (3 if width != 1024 else len(told)) and any(name == 'windows' for name, *_ in told)
         for name, seen, there, over, within in told:
             assert seen == there and not over and within, (width, name, seen, there, over, within)
-        assert any({'no new ack for over 200 ms', 'recovery', 'timeout', 'dropped: queue full'} <= {*seen} for name, seen, *_ in told if name == 'windows'), told
+        assert any({'no new ack for over 200 ms', 'recovery', 'timeout', '35 dropped: queue full'} <= {*seen} for name, seen, *_ in told if name == 'windows'), told
+
+
+# Of each drop's sign in a panel: its colour, whose it is, at which link, how many it says it is, and its box with its words.
+DROPS = """(panel => [...document.querySelectorAll(`#${panel} .marks :is(.full, .codel, .lost)`)].map(e => {
+  const [, flow, link] = / of (\\w+), at link (\\w+)/.exec(e.textContent), next = e.nextElementSibling, beside = next && next.matches('.many') ? next : null, words = beside ? beside.textContent : '';
+  const counts = [...words.matchAll(/×([\\d,]+)/g)].map(found => +found[1].replace(/,/g, '')), boxes = [e, beside].filter(Boolean).map(one => one.getBoundingClientRect());
+  return {colour: getComputedStyle(e).stroke, flow, link, words, count: counts.reduce((one, two) => one + two, 0) || 1, left: Math.min(...boxes.map(b => b.left)), right: Math.max(...boxes.map(b => b.right)), top: boxes[0].top};
+}))"""
+
+
+@pytest.mark.parametrize('width', SIZES)
+def test_each_drop_is_drawn_or_counted(sized, width):
+    """Signs and the numbers beside them come to the number in the key, which is that of the trace; none lies upon another's number."""
+    browser = sized
+    browser.size(width, SIZES[width], mobile=width < 500)
+    for lesson, links, many in ((13, ['pq'], 27), (16, ['pq'], 30), (17, ['pq', 'qu'], 35), (11, ['a'], 20)):
+        choose(browser, f'lesson {lesson}')
+        for panel in ('windows', 'sequence', ['lengths', *links], ['delays', *links]):
+            browser.value(f'page.panels.choose([{json.dumps(panel)}])')
+            name = panel if isinstance(panel, str) else panel[0]
+            drops = browser.json(f'{DROPS}("{name}")')
+            marks, lanes = browser.json(f'(({{lanes}}) => [lanes.flatMap(({{marks}}) => marks).filter(({{kind}}) => LOOKS.drops[kind]).length, lanes.length])(page.panels.charts.{name})')
+            assert sum(it['count'] for it in drops) == marks and (marks == many or lanes == 1), (lesson, name)      # lanes without room are one
+            key = browser.json(f'[...document.querySelectorAll("#{name} .key")].map(e => e.textContent)')
+            assert any(re.match(f'{many} dropped', it) for it in key), (lesson, name, key)
+            rows = sorted((it['flow'], it['link'] if name == 'lengths' else '', it['left'], it['right']) for it in drops if name == 'lengths')
+            assert not [1 for one, two in zip(rows, rows[1:]) if one[:2] == two[:2] and two[2] < one[3] - 2], (lesson, rows)
+        look(browser, f'drops_{width}_{lesson}')
+
+
+def test_a_drop_says_whose_it_is_and_at_which_link(sized):
+    """In lesson 17 by its flow's colour, in a row of the flow above its link's queue; in the windows of a flow with two such links by a name."""
+    browser = sized
+    choose(browser, 'lesson 17')
+    colours = dict(browser.json('page.facts.flows.map(({name}, f) => { const e = document.body.appendChild(document.createElement("i")); e.style.color = colourOf(f); const {color} = getComputedStyle(e); e.remove(); return [name, color]; })'))
+    assert len({*colours.values()}) == 3
+    drops = browser.json(f'{DROPS}("lengths")')
+    assert {(it['flow'], it['link']) for it in drops} == {('fa', 'pq'), ('fb', 'pq'), ('fa', 'qu'), ('fc', 'qu')} and all(it['colour'] == colours[it['flow']] for it in drops)
+    strips = browser.json('page.panels.charts.lengths.lanes.map(({name, strips}) => [name, strips.map(({name, top, tall}) => [name, top, tall])])')
+    assert [[name, [flow for flow, *_ in flows]] for name, flows in strips] == [['pq', ['fa', 'fb']], ['qu', ['fa', 'fc']]]
+    top = browser.value('document.getElementById("lengths").getBoundingClientRect().top')
+    place = {(link, flow): (up, tall) for link, flows in strips for flow, up, tall in flows}
+    assert all(up - 1 <= it['top'] - top <= up + tall for it in drops for up, tall in [place[it['link'], it['flow']]])
+    browser.value('page.panels.choose(["windows"])')
+    drops = browser.json(f'{DROPS}("windows")')
+    assert all(bool(re.search('pq|qu', it['words'])) == (it['flow'] == 'fa') and it['colour'] == colours[it['flow']] for it in drops)
+    assert {link for it in drops if it['flow'] == 'fa' for link in re.findall('pq|qu', it['words'])} == {'pq', 'qu'}
+    look(browser, 'drops_of_windows')
+
+
+@pytest.mark.parametrize('width, panels', [(1400, ['windows', 'lengths', 'progress']), (1024, ['windows', 'lengths'])])
+def test_each_of_four_flows_is_read_beside_other_panels(sized, width, panels):
+    """Each has a lane whose axis its own window fills by a third and more; and what has no room on it is in the key."""
+    browser = sized
+    browser.size(width, SIZES[width])
+    choose(browser, 'lesson 16')
+    browser.value(f'page.panels.choose({json.dumps(panels)})')
+    settle(browser)
+    lanes = browser.json('page.panels.charts.windows.lanes.map(({name, from, to, y, series}) => [name, to - from, greatestOf(series.find(({thin}) => !thin).curve.values) / y.domain()[1]])')
+    assert [name for name, *_ in lanes] == ['fa', 'fb', 'fc', 'fd'] and all(tall >= 20 and filled >= .3 for _, tall, filled in lanes), lanes
+    assert 'ssthresh 64k' in browser.json('[...document.querySelectorAll("#windows .key")].map(e => e.textContent)')
+    look(browser, f'four_flows_{width}')
+
+
+def test_a_number_at_a_stub_is_in_the_legend(sized):
+    """Where ends are drawn as stubs, a number stands above a packet."""
+    browser = sized
+    choose(browser, 'lesson 17')
+    for folded in (True, False):
+        browser.value(f'page.makeNet({json.dumps(folded)})')
+        assert browser.value('document.getElementById("key").innerText.includes("3/8 25 ms, or 3: packets that wait")') == folded
+    browser.value('page.makeNet()')
 
 
 def test_spans_of_two_flows_are_no_curves(sized):
@@ -546,7 +633,7 @@ def test_bars_go_by_one_rule(sized):
     compared = of_100 = 0
     for head, cells in (column for table in tables for column in table):
         bars = [(float(text.split()[0]), bar) for text, bar in cells if bar is not None]
-        parts = any(text.endswith(' %') for text, _ in cells)
+        parts = any(' %' in text for text, _ in cells)
         assert head.endswith('bars: parts of 100 %') == parts and head.endswith('bars: parts of the greatest in the column') == (bool(bars) and not parts), head
         most = 100 if parts else max((number for number, _ in bars), default=0)
         assert not bars or len(bars) > 1 and (parts or max(bar for _, bar in bars) == 100)
@@ -556,7 +643,7 @@ def test_bars_go_by_one_rule(sized):
     assert len(tables) == 2 and compared > 20 and of_100 == 4
     choose(browser, 'lesson 3')
     show(browser, 'figures')
-    assert browser.json('[...document.querySelectorAll("#figures-table > .table:first-of-type .bar")].map(e => e.parentNode.textContent.slice(-2))') == [' %', ' %']
+    assert browser.json('[...document.querySelectorAll("#figures-table > .table:first-of-type .bar")].map(e => e.parentNode.textContent.split(" ")[1])') == ['%', '%']
     browser.value('simulator.showTab("net")')
 
 
@@ -595,6 +682,20 @@ def test_goodput_and_share_say_of_which_time(sized):
     choose(browser, 'lesson 13')
     show(browser, 'figures')
     assert [name for name, _ in heads_of_flows(browser)][1:3] == ['goodput from its start', 'share of the whole run']
+
+
+def test_a_share_says_of_which_link(sized):
+    """In lesson 17 each flow's share is of the busiest link on its way; without a trace the link is told too."""
+    browser = sized
+    choose(browser, 'lesson 17')
+    show(browser, 'figures')
+    shares = '[...document.querySelectorAll("#figures-table > .table:first-of-type tbody tr")].map(row => row.cells[2].textContent)'
+    found = browser.json(shares)
+    assert [it.rpartition(' ')[2] for it in found] == ['qu', 'pq', 'qu'] and all(re.fullmatch(r'\d+\.\d % of \w+', it) for it in found), found
+    browser.value('simulator.start({trace: false})')
+    browser.wait('document.getElementById("run").disabled === false')
+    assert browser.json(shares) == ['- of qu', '- of pq', '- of qu']
+    run(browser)
 
 
 def test_an_axis_of_delays_says_seconds(sized):
@@ -670,7 +771,9 @@ def test_small_multiples_from_three_flows_on(sized):
     look(browser, 'small_multiples')
     browser.value('(() => { const chart = page.panels.charts.windows; chart.show(Array.from({length: 12}, (_, f) => PANELS.windows.lanes(page.record, [0, 1, 2])[f % 3])); })()')
     assert browser.value('page.panels.charts.windows.lanes.length') == 1
-    assert browser.value('document.querySelectorAll("#windows path[stroke=\'var(--line)\']").length') == 11
+    behind, top, most = browser.json('(({curves, lanes: [{y, series}]}) => [[...curves.node().querySelectorAll("path.thin")].map(e => e.getAttribute("stroke")), y.domain()[1], topOf(series.filter(one => !one.other))])(page.panels.charts.windows)')
+    # Eleven are thin, in their own colours, and the axis is that of the first.
+    assert len(behind) == 12 and {*behind} == {f'var(--flow-{k})' for k in range(3)} and top <= 1.1 * 1.25 * most
 
 
 DRAW = 'page.panels.charts.windows.show([{series: [{curve: window.curve, colour: "#000", name: "long"}]}]) && 1'

@@ -126,6 +126,8 @@ def test_curves_are_of_the_figure_that_is_chosen(sawtooth):
             assert [k for k, _ in curve] == list(range(40))
             assert [value for _, value in curve] == pytest.approx([read(texts[place][1]) for _, texts in strip]), chosen
     assert browser.value('simulator.engine.count') == runs, 'a figure is read anew, not run anew'
+    words = browser.json('[...document.querySelectorAll("#shelf select option")].map(e => e.textContent)')
+    assert {'wait, 95 % of a', 'wait, median of a', 'round trip, least of f', 'most waiting of a'} <= {*words} and not [it for it in words if 'percentile' in it or 'delay in' in it]
     browser.click(element('#shelf .tick input'))
     browser.wait('!simulator.shelf.drawing')
     assert browser.json('simulator.shelf.pins[0].curves.map(one => one.length)') == [40, 0]
@@ -329,7 +331,7 @@ def test_what_a_screen_reader_has(chromium):
         found = list(nodes(css))
         assert found and all(kind == role and name for kind, name, _ in found), (css, found)
     ((_, name, _),) = nodes('#shelf svg')
-    assert '95 % wait of a over a target, ' in name and ' ms' in name
+    assert 'wait, 95 % of a over a target, ' in name and ' ms' in name
     assert 'status' in {kind for kind, _, _ in nodes('#shelf .shelf-says')}
 
 

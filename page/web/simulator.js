@@ -528,10 +528,12 @@ ${dataOf('licenses').join('\n\n')}`;
     await this.goToLine(event, of);
     byId('net-room').scrollIntoView({block: 'nearest'});
   }
-  // Where all stands below each other, what it shows is brought into view.
+  // Where all stands below each other, what it shows is brought into view, below what stays above it.
   pressTab(name) {
     this.showTab(name);
-    if (isNarrow()) byId(name === 'net' && this.page ? 'panel-bar' : `tab-${name}`).scrollIntoView();
+    if (!isNarrow()) return;
+    const place = name === 'net' && byId('panel-bar') || byId(`tab-${name}`), above = [byId('tabs'), ...(place.id === 'panel-bar' ? document.querySelectorAll('#replay header') : [])];
+    scrollBy(0, place.getBoundingClientRect().top - d3.sum(above, ({offsetHeight}) => offsetHeight));
   }
   showTab(name) {
     for (const tab of document.querySelectorAll('[role=tab]')) {

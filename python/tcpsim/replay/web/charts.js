@@ -7,26 +7,26 @@ const UNDER_AXIS = 1.7;                 // the room below a chart, as a part of 
 const BESIDE_AXIS = 10;                 // what an axis' ticks take beside their labels
 const TICKS = [8, 6, 5, 4, 3, 2, 1];
 const DASHES = ['', '7 3', '2 3', '9 3 2 3'];
-const LEAST_LANE = 24, LETTERS_OF_LANE = 1.6, LANE_GAP = 5;    // pixels: of a lane's height, which has so many letters' too, and between two
+const LEAST_LANE = 20, LETTERS_OF_LANE = 1.6, LANE_GAP = 5;    // pixels: of a lane's height, which has so many letters' too, and between two
 const AFTER_LAST = 0.03;                    // what the axis of time has behind the last event, as a part of the span, to see what that one does
 const NEAR = 1.25, EDGE = 3;            // what is thin counts for the scale up to so much above the rest; nothing thin is drawn so near to the frame, in pixels
 const MOST_OF_NAME = 0.2;               // of a chart's width, that a lane's name may have
 const OWN_SCALE = 3;                    // a lane with values smaller than the others' by this has an axis of its own
-const MARK = 4, KEY_SIGN = 26;          // half of a mark's width; what the key's signs take beside their words
-const DIGIT = 0.6, APART = 3;           // a letter's width, as a part of its height; pixels between two marks
+const MARK = 1 / 3, KEY_SIGN = 18;      // half of a mark's width, in heights of letters; what the key's signs have beside them
+const DIGIT = 0.62, APART = 3;           // a letter's width, as a part of its height; pixels between two marks
 const SIGNS = {full: 'm-4-4l8 8m0-8l-8 8', codel: 'm-4-4h8l-4 8z', lost: 'm-5 0h10m-5-5v10', timeout: '', before: 'm-6 0h5m3 0h5', above: 'm0 5v-10m-4 4l4-4 4 4'};
 const BAND_ROW = 1.3, THIN_ROW = 4;        // the height of a strip of bands, as a part of that of letters; and in pixels where curves need the room
 const ROW_OF_KEY = 1.25, LEAST_OF_CURVES = 3.2; // in heights of letters: a row of the key, and what it leaves for curves
 const valueText = value => value < 1 ? String(value) : d3.format('s')(value);
 
 // The key's signs, by their numbers, in rows: the first has `beside` pixels, the others `room`.
-function rowsOfKey(widths, beside, room) {
+function rowsOfKey(widths, sign, beside, room) {
   const rows = [[]];
   let left = beside;
   widths.forEach((wide, k) => {
-    if (wide + KEY_SIGN > left) { rows.push([]); left = room; }
+    if (wide + sign > left) { rows.push([]); left = room; }
     rows[rows.length - 1].push(k);
-    left -= wide + KEY_SIGN;
+    left -= wide + sign;
   });
   return rows;
 }
@@ -80,6 +80,7 @@ class Chart {
     this.axes = this.svg.append('g');
     this.under = this.svg.append('g').attr('class', 'axis');
     this.letters = parseFloat(getComputedStyle(this.title.node()).fontSize);
+    this.half = MARK * this.letters;
     this.bottom = Math.max(20, UNDER_AXIS * this.letters);
     this.under.attr('transform', `translate(0,${this.tall - this.bottom})`);
     this.bands = this.svg.append('g').attr('class', 'bands');
@@ -173,7 +174,7 @@ class Chart {
     for (const group of [this.axes, this.bands, this.curves, this.marks, this.names]) group.selectAll('*').remove();
     this.lanes = kept.map((one, k) => {
       const {bands = [], marks = []} = one, has = ({whose}) => whose, all = [...new Map([...bands, ...marks].filter(has).map(({whose}) => [whose.name, whose])).values()];
-      const gap = k ? LANE_GAP : 0, spare = (lane - gap - LEAST_OF_CURVES * this.letters) / all.length, row = Math.max(THIN_ROW, Math.min(BAND_ROW * this.letters, spare));
+      const gap = k ? LANE_GAP + (all.length ? this.half : 0) : 0, spare = (lane - gap - LEAST_OF_CURVES * this.letters) / all.length, row = Math.max(THIN_ROW, Math.min(BAND_ROW * this.letters, spare));
       // Marks alone have strips where these have room for letters.
       const strips = row < this.letters && !bands.some(has) ? [] : all, top = this.top + lane * k + gap, from = top + strips.length * row, to = this.top + lane * (k + 1);
       return {...one, bands, marks, strips: strips.map((strip, s) => ({...strip, top: top + s * row, tall: row - 2})), from, to, y: d3.scale.linear().range([to, from]).domain([0, scales[k]])};
@@ -182,8 +183,9 @@ class Chart {
       const rows = Math.max(to - from > 2 * this.letters ? 2 : 1, Math.min(4, Math.floor((to - from) / (1.6 * this.letters))));
       const axis = this.axes.append('g').attr('class', 'axis').call(d3.svg.axis().scale(y).orient('left').tickSize(4)
         .tickValues(y.ticks(rows).filter(value => !this.whole || Number.isInteger(value))).tickFormat(this.text));
-      // Below another lane its highest label would lie over that one's lowest.
-      axis.selectAll('text').filter(value => value && y(value) < from + (k ? 0.9 : 0.6) * this.letters).remove();
+      // Below another lane its highest label would lie over that one's lowest; a low lane has no room for two.
+      const isLow = to - from < 2.5 * this.letters;
+      axis.selectAll('text').filter(value => value ? y(value) < from + (k && !isLow ? 0.9 : 0.6) * this.letters : isLow).remove();
     });
     const names = kept.length > 1 ? d3.max(this.lanes, lane => this.drawName(lane)) : 0, left = Math.max(CHART.left, this.widestOf(this.axes) + BESIDE_AXIS + names);
     if (left !== this.leftOf) { this.layTime(left); this.mark(this.time); }
@@ -208,7 +210,7 @@ class Chart {
     const line = () => d3.svg.line().x(p => this.x(p[0])).y(p => Math.max(from, y(p[1]))).interpolate('step-after');
     for (const {kind, from: begin, to: end, name: words} of bands.filter(({whose}) => !whose)) this.drawBand(kind, words, begin, end, from, to - from);
     const of = (ones, {name}) => ones.filter(({whose}) => whose && whose.name === name);
-    for (const strip of strips) this.drawStrip(strip, of(bands, strip), of(marks, strip).map(({x, until}) => [x - MARK, until]));
+    for (const strip of strips) this.drawStrip(strip, of(bands, strip), of(marks, strip).map(({begin, until}) => [begin, until]));
     for (const one of series) this.curveOf(one, y, line(), from);
   }
   drawBand(kind, words, begin, end, top, tall) {
@@ -252,37 +254,45 @@ class Chart {
   dotted(dots, y, from) {
     return thinned(dots, this.x).map(([time, value]) => `M${this.x(time).toFixed(1)} ${Math.max(from, y(value)).toFixed(1)}h.01`).join('');
   }
-  // Marks in their order, of a kind or a row. Drops that would lie upon each other are one, with how many it is beside it, and at which link
-  // where that differs. Answers each, with how far it reaches.
+  // Marks in their order, of a kind and a row. Those that would lie upon each other are one, with how many it is beside it; and at which link
+  // where that differs, or whose where they have no row. Answers each, with how far it reaches.
   drawMarks({marks, strips, y, from, to}) {
-    const last = new Map(), made = [];
-    for (const {kind, time, value, name, whose, colour, link = ''} of marks) {
-      const x = this.within(time), strip = whose && strips.find(one => one.name === whose.name && one.tall + 2 >= this.letters), key = `${kind} ${whose && whose.name}`;
-      const at = value !== undefined ? Math.max(from, y(value)) : strip ? strip.top + strip.tall / 2 : kind === 'timeout' ? from + 0.5 * this.letters : to - MARK - 1;
-      let one = last.get(key);
-      if (!one || x >= one.until || Math.abs(at - one.at) > (kind === 'again' ? 1 : this.letters)) {
-        one = {kind, x, at, whose, strip, colour, name, count: 0, links: new Map()};
-        last.set(key, one);
-        made.push(one);
+    const rows = new Map(), {half, letters} = this;
+    for (const {kind, time, value, name, whose, colour, link = ''} of [...marks].sort((one, two) => one.time - two.time)) {
+      const strip = whose && strips.find(one => one.name === whose.name && one.tall + 2 >= letters), key = `${kind} ${strip ? strip.name : ''}`;
+      const at = value !== undefined ? Math.max(from, y(value)) : strip ? strip.top + strip.tall / 2 : kind === 'timeout' ? from + 0.5 * letters : to - half - 1;
+      if (!rows.has(key)) rows.set(key, []);
+      const row = rows.get(key), place = [whose && !strip ? whose.mark : '', link].filter(Boolean).join(' ');
+      row.push(this.reach({kind, x: this.within(time), at, whose, strip, colour, name, of: new Map([[place, 1]])}));
+      for (let k = row.length - 1; k && row[k].begin < row[k - 1].until && Math.abs(row[k].at - row[k - 1].at) <= (kind === 'again' ? 1 : letters); k--) {
+        const [one, two] = row.slice(k - 1);
+        for (const [where, count] of two.of) one.of.set(where, (one.of.get(where) || 0) + count);
+        row[k - 1] = this.reach({...one, colour: one.colour === two.colour ? one.colour : null});
+        row.pop();
       }
-      one.count += 1;
-      one.links.set(link, (one.links.get(link) || 0) + 1);
-      one.word = kind === 'again' ? '' : [...one.links].map(([where, count]) => [where, one.count > 1 ? `×${number(count)}` : ''].filter(Boolean).join(' ')).join(', ');
-      one.until = one.x + (kind === 'again' ? 1 : kind === 'timeout' && !one.word ? MARK : MARK + APART + (one.word ? 1 + one.word.length * DIGIT * this.letters : MARK));
     }
+    const made = [...rows.values()].flat();
     for (const one of made) this.drawMark(one, from, to);
     return made;
   }
-  drawMark({kind, x, at, strip, colour, name, count, word}, from, to) {
+  // How many a mark is, its words, and from where to where it reaches with these, which have no room beyond the edge.
+  reach(one) {
+    const {half} = this, {kind, x, of} = one, count = d3.sum([...of.values()]), isSign = !['again', 'timeout'].includes(kind), times = many => (count > 1 ? `×${number(many)}` : '');
+    const word = kind === 'again' ? '' : of.size > 2 ? times(count) : [...of].map(([where, many]) => [where, times(many)].filter(Boolean).join(' ')).join(', ');
+    const wide = word ? 1 + word.length * DIGIT * this.letters : 0, isLeft = x + half + wide > this.wide;
+    return {...one, count, word, isLeft, begin: x - (isSign ? half : 0) - (isLeft ? wide : 0), until: x + (kind === 'again' ? 1 : half + (isSign || word ? APART : 0) + (isLeft ? 0 : wide))};
+  }
+  drawMark({kind, x, at, strip, colour, name, count, word, isLeft}, from, to) {
     const path = this.marks.append(kind === 'again' ? 'circle' : 'path').attr('class', kind).style('stroke', colour || null);
     if (kind === 'timeout') path.attr('d', `${strip ? `M${x} ${strip.top}v${strip.tall}` : ''}M${x} ${from}V${to}`);
-    else if (kind === 'again') path.attr('cx', x).attr('cy', at).attr('r', MARK + 1).attr('fill', 'none');
-    else for (const each of [this.marks.insert('path', 'path:last-child').attr('class', 'halo'), path]) each.attr('d', `M${x} ${at}${SIGNS[kind] || SIGNS.full}`);
+    else if (kind === 'again') path.attr('cx', x).attr('cy', at).attr('r', this.half + 1).attr('fill', 'none');
+    else for (const each of [this.marks.insert('path', 'path:last-child').attr('class', 'halo'), path]) this.sign(each, kind, x, at);
     path.append('title').text(count > 1 ? `${name}, and ${number(count - 1)} more` : name);
     if (!word) return;
-    const beside = this.marks.append('text').attr('class', 'many').attr('x', x + MARK + 1).attr('y', at + 0.35 * this.letters).text(word);
-    if (x + MARK + 1 + this.widthOf(beside) > this.wide) beside.attr('x', x - MARK - 1).attr('text-anchor', 'end');
+    this.marks.append('text').attr('class', 'many').attr('x', x + (isLeft ? -1 : 1) * (this.half + 1)).attr('text-anchor', isLeft ? 'end' : 'start').attr('y', at + 0.35 * this.letters).text(word);
   }
+  // A sign at a place, as large as letters are.
+  sign(path, kind, x, at) { path.attr('d', `M0 0${SIGNS[kind] || SIGNS.full}`).attr('transform', `translate(${x},${at})scale(${this.half / 4})`).attr('vector-effect', 'non-scaling-stroke'); }
   // What bands and marks mean: beside the title, and below it in as many rows as leave room for curves. Of the titles the longest with
   // which the most has room, in the fewest rows.
   drawKey(key) {
@@ -292,7 +302,8 @@ class Chart {
     this.key.selectAll('*').remove();
     const texts = key.map(([, words]) => this.key.append('text').attr('class', 'key').text(words)), row = ROW_OF_KEY * this.letters;
     const widths = texts.map(text => this.widthOf(text)), room = this.wide - CHART.right, most = 1 + Math.max(0, Math.floor((this.tall - this.head - this.bottom - LEAST_OF_CURVES * this.letters) / row));
-    const made = this.titles.filter(([, wide], k) => wide <= this.wide - 6 || k === this.titles.length - 1).map(([title, wide]) => ({title, rows: rowsOfKey(widths, room - wide - CHART.apart, room)}));
+    const sign = KEY_SIGN + 2 * this.half;
+    const made = this.titles.filter(([, wide], k) => wide <= this.wide - 6 || k === this.titles.length - 1).map(([title, wide]) => ({title, rows: rowsOfKey(widths, sign, room - wide - CHART.apart, room)}));
     const cost = ({rows}) => rows.slice(most).flat().length * 100 + rows.length, {title, rows} = made.reduce((best, one) => cost(one) < cost(best) ? one : best);
     this.title.text(title);
     rows.forEach((ones, r) => {
@@ -300,18 +311,19 @@ class Chart {
       for (const k of ones) {
         if (r >= most) { texts[k].remove(); continue; }
         this.drawSign(key[k], texts[k], x - widths[k], this.head - 5 + r * row);
-        x -= widths[k] + KEY_SIGN;
+        x -= widths[k] + sign;
       }
     });
     this.layTop(this.head + (Math.min(most, rows.length) - 1) * row);
   }
   // A sign before its words.
   drawSign([kind, , colour], text, x, y) {
-    const at = x - 9;
+    const {half} = this, at = x - 5 - half;
     text.attr('x', x).attr('y', y);
-    if (['stall', 'recovery', 'flow'].includes(kind)) this.key.append('rect').attr('class', kind).attr('fill', colour || null).attr('x', at - 4).attr('y', y - 9).attr('width', 10).attr('height', 10);
-    else if (kind === 'again') this.key.append('circle').attr('class', kind).attr('cx', at).attr('cy', y - 4).attr('r', MARK).attr('fill', 'none');
-    else this.key.append('path').attr('class', kind).attr('d', kind === 'timeout' ? `M${at} ${y - 10}v11` : `M${at} ${y - 4}${SIGNS[kind] || SIGNS.full}`);
+    if (['stall', 'recovery', 'flow'].includes(kind)) this.key.append('rect').attr('class', kind).attr('fill', colour || null).attr('x', at - half).attr('y', y - 2 * half - 1).attr('width', 2 * half + 2).attr('height', 2 * half + 2);
+    else if (kind === 'again') this.key.append('circle').attr('class', kind).attr('cx', at).attr('cy', y - half).attr('r', half).attr('fill', 'none');
+    else if (kind === 'timeout') this.key.append('path').attr('class', kind).attr('d', `M${at} ${y - 2.5 * half}v${2.75 * half}`);
+    else this.sign(this.key.append('path').attr('class', kind), kind, at, y - half);
   }
   mark(time) {
     this.time = time;

@@ -108,7 +108,7 @@ function keyOf(lanes, {facts}) {
       if (before) there.set('before'); else if (thin && !other && greatestOf(curve.values) > scales[k]) above.add(valueText(greatestOf(curve.values)));
   });
   const flows = new Set(lanes.flatMap(({series}) => series.filter(({flow}) => flow !== undefined).map(({flow}) => flow)));
-  return [...KEYS.filter(([kind]) => there.has(kind)).map(([kind, words]) => [kind, LOOKS.drops[kind] ? `${number(there.get(kind))} ${words}` : words]), ...(above.size ? [['above', `first ssthresh above: ${[...above].join(', ')}`]] : []), ...[...flows].sort((a, b) => b - a).map(f => ['flow', facts.flows[f].name, colourOf(f)])];
+  return [...KEYS.filter(([kind]) => there.has(kind)).map(([kind, words]) => [kind, LOOKS.drops[kind] ? `${number(there.get(kind))} ${words}` : words]), ...(above.size ? [['above', `ssthresh ${[...above].join(', ')}`]] : []), ...[...flows].sort((a, b) => b - a).map(f => ['flow', facts.flows[f].name, colourOf(f)])];
 }
 const windowOf = (record, f) => [[CWND, 'cwnd'], [SSTHRESH, 'ssthresh']].map(([what, name]) => ({curve: record.curve(record.ofFlow(f, what)),
   colour: colourOf(f), thin: what === SSTHRESH, dash: dashOf(f), name: `${name} of ${flowName(record, f)}`}));
