@@ -109,6 +109,7 @@ def test_what_belongs_beside_it_is_offered_first(browser):
         browser.click(element('[data-tab=compare]'))
         assert browser.json(first) == [offered] * 2, value
     pick(browser, '#compare-second', 'queue')
+    browser.value('document.getElementById("compare-word").value = ""')
     browser.value('simulator.showTab("net"); simulator.showTab("compare")')
     assert browser.json(first)[0] == 'queue'
     link = browser.value('[...document.getElementById("compare-link").options].findIndex(it => it.text === "pq")')

@@ -229,8 +229,9 @@ class Chart {
     for (const {kind, name: words, from, to} of bands) {
       const [begin, end] = this.drawBand(kind, words, from, to, top, tall);
       if (!hasWords) continue;
-      const word = this.bands.append('text').attr('x', begin + 3).attr('y', base).text(LOOKS.marks[kind].split(' for ', 1)[0]), until = begin + 3 + this.widthOf(word);
-      if (until > end || taken.some(([one, other]) => begin < other && one < until)) word.remove(); else taken.push([begin, until]);
+      const word = this.bands.append('text').attr('y', base).text(LOOKS.marks[kind].split(' for ', 1)[0]), wide = APART + this.widthOf(word);
+      const at = [begin, ...taken.map(([, other]) => other)].find(x => x >= begin && x + wide <= end && taken.every(([one, other]) => x >= other || one >= x + wide));
+      if (at === undefined) word.remove(); else { word.attr('x', at + APART); taken.push([at, at + wide]); }
     }
   }
   curveOf({curve, dots, area, colour, dash, thin, before, behind, name}, y, line, from) {
