@@ -210,7 +210,7 @@ class Chart {
     const line = () => d3.svg.line().x(p => this.x(p[0])).y(p => Math.max(from, y(p[1]))).interpolate('step-after');
     for (const {kind, from: begin, to: end, name: words} of bands.filter(({whose}) => !whose)) this.drawBand(kind, words, begin, end, from, to - from);
     const of = (ones, {name}) => ones.filter(({whose}) => whose && whose.name === name);
-    for (const strip of strips) this.drawStrip(strip, of(bands, strip), of(marks, strip).map(({begin, until}) => [begin, until]));
+    for (const strip of strips) this.drawStrip(strip, of(bands, strip), of(marks, strip).filter(({kind}) => kind !== 'timeout').map(({begin, until}) => [begin, until]));
     for (const one of series) this.curveOf(one, y, line(), from);
   }
   drawBand(kind, words, begin, end, top, tall) {
@@ -285,9 +285,11 @@ class Chart {
   }
   drawMark({kind, x, at, strip, colour, name, count, word, isLeft}, from, to) {
     const path = this.marks.append(kind === 'again' ? 'circle' : 'path').attr('class', kind).style('stroke', colour || null);
-    if (kind === 'timeout') path.attr('d', `${strip ? `M${x} ${strip.top}v${strip.tall}` : ''}M${x} ${from}V${to}`);
+    if (kind === 'timeout') path.attr('d', `M${x} ${from}V${to}`);
     else if (kind === 'again') path.attr('cx', x).attr('cy', at).attr('r', this.half + 1).attr('fill', 'none');
     else for (const each of [this.marks.insert('path', 'path:last-child').attr('class', 'halo'), path]) this.sign(each, kind, x, at);
+    // In a strip words may lie over it.
+    if (kind === 'timeout' && strip) this.bands.append('path').attr('class', kind).attr('d', `M${x} ${strip.top}v${strip.tall}`);
     path.append('title').text(count > 1 ? `${name}, and ${number(count - 1)} more` : name);
     if (!word) return;
     this.marks.append('text').attr('class', 'many').attr('x', x + (isLeft ? -1 : 1) * (this.half + 1)).attr('text-anchor', isLeft ? 'end' : 'start').attr('y', at + 0.35 * this.letters).text(word);
