@@ -60,9 +60,9 @@ class Compare {
   say(text) { byId('compare-said').textContent = text; }
   // The texts that there are, for the second first what belongs beside the scenario, and the links of the first.
   offer() {
-    const texts = this.texts(), {title, partner} = this.lecture.simulator, beside = partner ? `example ${partner}` : OTHER_QUEUE;
-    if (this.title !== title) for (const id of ['first', 'second']) byId(`compare-${id}`).value = '';
-    this.title = title;
+    const texts = this.texts(), {partner} = this.lecture.simulator, beside = partner ? `example ${partner}` : OTHER_QUEUE;
+    if (this.isAnother) for (const id of ['first', 'second', 'word']) byId(`compare-${id}`).value = '';
+    this.isAnother = false;
     const others = [...texts, [OTHER_QUEUE, 'the first, with another queue']].sort(([one], [two]) => (two === beside) - (one === beside) || (two === OTHER_QUEUE) - (one === OTHER_QUEUE));
     for (const id of ['first', 'second']) {
       const select = byId(`compare-${id}`), kept = select.value || (id === 'first' ? 'editor' : beside);

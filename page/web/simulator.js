@@ -358,6 +358,7 @@ class Simulator {
   // Ends what runs, of which nothing is shown: the scenario is another.
   endRun() {
     this.wanted = null;
+    if (this.compare) this.compare.isAnother = true;
     this.endExploring();
     if (byId('stop').disabled) return;
     this.stop();
