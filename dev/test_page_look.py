@@ -101,7 +101,7 @@ def show(browser, tab):
         at_prompt(browser, 'state')
     if tab == 'compare' and not browser.value('document.querySelectorAll("#both-figures tr").length'):
         browser.click(element('#compare-go'))
-        browser.wait('document.querySelectorAll("#both-figures tr").length > 1')
+        browser.wait('document.querySelectorAll("#both-figures tr").length > 0')        # of heads alone where no figure differs
     settle(browser)
 
 
