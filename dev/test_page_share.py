@@ -292,10 +292,10 @@ def test_files_are_saved(browser, tmp_path):
         root = xml.etree.ElementTree.fromstring(svg)
         assert root.tag == '{http://www.w3.org/2000/svg}svg' and int(root.get('width')) > 300
         texts = [''.join(it.itertext()) for it in root.iter('{http://www.w3.org/2000/svg}text')]
-        assert {'net': {'router', 'p', 'q', 'sa'}, 'windows': {'fa', 'fb', '5k'}, 'lengths': {'pq', '27 dropped: queue full'}}[panel] <= {*texts}, texts
+        assert {'net': {'router', 'p', 'q', 'sa'}, 'windows': {'fa', 'fb', '5k'}, 'lengths': {'pq', '27 dropped: queue full', '×12'}}[panel] <= {*texts}, texts
         assert any(it.startswith('packets that wait') for it in texts) == (panel == 'lengths')       # in as many words as have room beside the key
         assert ('pq' in texts) == (panel == 'lengths')      # names of curves stand below their own panel
-        assert 'fill: rgb' in svg and 'class="catch"' not in svg
+        assert 'fill: rgb' in svg and ('paint-order: stroke' in svg or panel == 'net') and 'class="catch"' not in svg
         browser.click(element('#save-png'))
         png = saved(folder, f'{name}_{called}.png')
         assert png[:8] == b'\x89PNG\r\n\x1a\n'

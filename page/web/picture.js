@@ -3,7 +3,7 @@
 // PNG, in twice the size.
 
 const LOOKS_KEPT = ['fill', 'stroke', 'stroke-width', 'stroke-dasharray', 'opacity', 'font-family', 'font-size', 'font-weight', 'text-anchor',
-  'visibility', 'display'];
+  'visibility', 'display', 'paint-order'];
 const LEGEND = 22, PNG_SCALE = 2;
 
 function svgElement(name, facts, text) {
