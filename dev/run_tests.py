@@ -37,7 +37,6 @@ LONG = ('dev/test_page.py', 'dev/test_page_lecture.py', 'dev/test_page_debugger.
 # Those that have browsers, each of several threads, and how many of them are run at once.
 BROWSERS, BROWSERS_AT_ONCE = 'dev/test_page', 2
 LEFT_OUT = 'LEFT OUT', 'SKIPPED'            # how a line begins that says so: ours, and pytest's
-ADDED = '-q -rs --no-header --tb=short'     # as pytest.ini has it, but for the cache, which says what failed
 # How long what was ended may take to end, in seconds.
 GRACE = 5
 
@@ -55,7 +54,7 @@ class Test:
         self.name, self.folder = name, f'{folder}/{os.path.basename(name)}'
         # What failed is kept where both find it: the test, and the test run again.
         kept = f'{folder}/{".." if again else "."}/{os.path.basename(name)}.failed'
-        words = ['-o', f'addopts={ADDED}', '-o', f'cache_dir={os.path.normpath(kept)}', *['--last-failed'] * again]
+        words = ['-o', f'cache_dir={os.path.normpath(kept)}', *['--last-failed'] * again]
         self.words = [f'./{name}'] if name.endswith('.sh') else [python, '-m', 'pytest', *words, name]
         self.process: subprocess.Popen[bytes] | None = None
         self.status, self.seconds, self.begun = 0, 0.0, 0.0

@@ -127,6 +127,15 @@ def say(text: str) -> int:
 
 # ---- ends
 
+def command(name: str, module: str) -> Callable[[], int]:
+    """The `main` of a command, which answers the status. Where its module is the one that Python runs, it is called."""
+    def main() -> int:
+        return run(f'tcpsim.cli.{name}')
+    if module == '__main__':
+        sys.exit(main())
+    return main
+
+
 def run(module: str) -> int:
     """Runs a tool, the `main` of a module; answers its status. Signals that ask to end are raised as `Ended`, so that
     what was begun is taken away; those that were ignored from the start stay so, as nohup has it."""

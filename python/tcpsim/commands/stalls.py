@@ -1,13 +1,4 @@
 """The command tcpsim-stalls."""
-import sys
+from tcpsim.command_line import command
 
-from tcpsim.command_line import run
-
-
-def main() -> int:
-    """Answers the status."""
-    return run('tcpsim.cli.stalls')
-
-
-if __name__ == '__main__':
-    sys.exit(main())
+main = command('stalls', __name__)
