@@ -17,7 +17,6 @@ import subprocess
 import tempfile
 from collections import namedtuple
 
-from found import found_groups
 from results import CALLGRIND, ENVIRONMENT, at_priority, instructions, number, processor, put_section, table, timed, words_of
 from scenarios import SCENARIOS, chain, four_groups, one_flow, path_of, started, tree
 
@@ -194,22 +193,20 @@ def said(rows, kind):
     return f'{hold} of {len(rows)} {kind}.\n'
 
 
-Found = namedtuple('Found', 'name events groups threads plain auto by_hand')
+Found = namedtuple('Found', 'name events threads plain auto by_hand')
 
 
 def found(program, rounds, before):
     """Runs of each scenario by four workers, in the groups that the program finds for them and in those by hand."""
     for name in (it for it in SCENARIOS if it not in UNTIMED):
         scenario = SCENARIOS[name]()
-        path, groups = path_of(name, scenario), found_groups(scenario, 4)
-        crew, auto = ('--workers', '4'), ('--groups', 'auto')
+        path, crew, auto = path_of(name, scenario), ('--workers', '4'), ('--groups', 'auto')
         kinds = [(program, path, (), '0-3'), (program, path, (*crew, *auto), '0-3')]
         if name in BY_HAND:
             kinds.append((program, path, (*crew, '--groups', BY_HAND[name](scenario)), '0-3'))
         events = events_of(program, path)
         took = seconds(kinds, times(events, rounds), before)
-        yield Found(name, events, len(set(groups)), threads(program, path, auto), *took[:2],
-                    took[2] if len(took) > 2 else None)
+        yield Found(name, events, threads(program, path, auto), *took[:2], took[2] if len(took) > 2 else None)
 
 
 def text_table(rows, rounds):
@@ -226,13 +223,12 @@ def text_table(rows, rounds):
 
 
 def found_table(rows):
-    yield (f'Seconds with the groups that `--groups auto` finds for four workers (bench/found.py), of `run` without options, and '
+    yield (f'Seconds with the groups that `--groups auto` finds for four workers, of `run` without options, and '
            f'of four workers with groups by hand. The bound of `run` is at least {FOUND_LEAST} times the seconds of found groups. '
            f'That of found groups is at most {FOUND_MOST} times those of groups by hand or of `run`, whichever is less. In one '
            'group a second thread makes the text.\n')
-    yield from table(('Scenario', 'Events', 'Groups found', 'Threads', '`run`', 'found', 'by hand', '`run` to found',
-                      'found to the best', 'Within'),
-                     [(f'`{r.name}`', f'{r.events:,}', f'{r.groups}', f'{r.threads:,}',
+    yield from table(('Scenario', 'Events', 'Threads', '`run`', 'found', 'by hand', '`run` to found', 'found to the best', 'Within'),
+                     [(f'`{r.name}`', f'{r.events:,}', f'{r.threads:,}',
                        f'{r.plain:.3f}', f'{r.auto:.3f}', f'{r.by_hand:.3f}' if r.by_hand else '-', f'{r.plain / r.auto:.2f}',
                        f'{r.auto / min(r.plain, r.by_hand or r.plain):.2f}',
                        'yes' if r.plain / r.auto >= FOUND_LEAST and r.auto / min(r.plain, r.by_hand or r.plain) <= FOUND_MOST
