@@ -30,8 +30,8 @@ import build
 TOP = os.path.dirname(os.path.dirname(os.path.abspath(__file__)))
 # Those that take longest, which are begun first.
 LONG = ('dev/test_page.py', 'dev/test_page_lecture.py', 'dev/test_page_debugger.py', 'dev/test_page_compare.py', 'dev/test_page_share.py',
-        'python/tests/test_ends.py', 'python/tests/test_inputs.py', 'python/tests/test_debug.py', 'dev/test_shell.py', 'dev/test_systematic.py',
-        'dev/test_compare.py', 'python/tests/test_sweep_engines.py', 'python/tests/test_sweep_means.py', 'python/tests/test_sweep_files.py',
+        'python/tests/test_ends.py', 'python/tests/test_inputs.py', 'python/tests/test_debug.py', 'dev/test_refused_memory.py', 'dev/test_systematic.py',
+        'dev/test_shell.py', 'dev/test_compare.py', 'python/tests/test_sweep_engines.py', 'python/tests/test_sweep_means.py', 'python/tests/test_sweep_files.py',
         'python/tests/test_sweep.py', 'python/tests/test_trace.py', 'python/tests/test_plot.py', 'dev/test_bounds.py',
         'dev/refuse_tests.sh', 'dev/test_helgrind.py', 'dev/test_dist.py', 'dev/test_types.py')
 # Those that have browsers, each of several threads, and how many of them are run at once.

@@ -1,5 +1,6 @@
-"""Tries the built program from outside: its words, its input, its output, how it ends, and that it does without memory that
-is refused. Whole texts, images and sessions are in test_whole.py, what is at a bound in test_bounds.py."""
+"""Tries the built program from outside: its words, its input, its output, and how it ends. Whole
+texts, images and sessions are in test_whole.py, what is at a bound in test_bounds.py, memory that is refused in
+test_refused_memory.py."""
 import os
 import signal
 import subprocess
@@ -406,24 +407,3 @@ def test_a_limit_on_the_size_of_files(tmp_path):
     limited = f'ulimit -f 8; exec "$@" > {tmp_path}/limited'
     assert by_shell(limited, 'run', input=LONG) == told(-signal.SIGXFSZ)
     assert by_shell(f"trap '' XFSZ; {limited}", 'run', input=LONG) == told(3, 'write failed')
-
-
-# ---- want of memory
-
-FOUR, FULL_QUEUE = (paths(name)[0] for name in ('four_flows_before_codel', 'slow_start_into_a_full_queue'))
-
-
-@pytest.mark.wants(cc='gcc', bash='bash')
-@pytest.mark.parametrize('words', [(), (FULL_QUEUE, 'run'), *((FOUR, word) for word in ('run', 'asm', 'figures', 'dis')),
-                                   *(('IMAGE', word) for word in ('asm', 'dis', 'run', 'figures'))])
-def test_memory_that_is_refused(words, put):
-    """Without words the table of runs of refuse_memory.sh."""
-    words = [put('image', outcome(['asm', FOUR])[2]) if word == 'IMAGE' else word for word in words]
-    done = ran(os.path.join(TOP, 'dev', 'refuse_memory.sh'), *words, timeout=1800)
-    assert done.returncode == 0, done.stdout + done.stderr
-
-
-@pytest.mark.wants(cc='gcc')
-def test_memory_that_is_refused_to_sessions():
-    done = ran(os.path.join(TOP, 'dev', 'refuse_debug.py'), timeout=1800)
-    assert done.returncode == 0, done.stdout + done.stderr
