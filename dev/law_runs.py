@@ -79,7 +79,7 @@ def port_seen(net, node, port):
     queue = port.queue
     codel = fields(queue) if hasattr(queue, 'first_above') else None
     return SimpleNamespace(number=port.number, rate=port.rate, delay=port.delay, to=port.to, lose=port.lose, offered=port.offered,
-                           sent=port.sent, free=net.alarms[node].get(port.alarm) if port.busy else None, cells=list(queue.entries),
+                           sent=port.sent, free=net.timers[node].get(port.timer) if port.busy else None, cells=list(queue.entries),
                            capacity=queue.capacity, codel=codel)
 
 
@@ -191,7 +191,7 @@ def flows_stay_as_stated(e, f, g):
 
 @of_sender
 def no_flow_hangs(e, f, g):
-    return e.start in e.net.alarms[e.node] or g.una >= g.total or (g.una < g.nxt and g.deadline is not None)
+    return e.start in e.net.timers[e.node] or g.una >= g.total or (g.una < g.nxt and g.deadline is not None)
 
 
 @of_sender
@@ -201,7 +201,7 @@ def sent_fits_the_receivers_window(e, f, g):
 
 @of_sender
 def timers_run_while_bytes_are_in_flight(e, f, g):
-    return (g.deadline is not None) == (g.una < g.nxt) and e.net.alarms[e.node].get(e.rto) == g.deadline and SECOND <= g.rto <= 60 * SECOND
+    return (g.deadline is not None) == (g.una < g.nxt) and e.net.timers[e.node].get(e.rto) == g.deadline and SECOND <= g.rto <= 60 * SECOND
 
 
 @of_sender
@@ -402,13 +402,13 @@ def receivers_acknowledge_what_comes(e):
     flow = e.net.scenario.flows[e.flow]
     answer = [e.Packet(e.flow, True, a.next, 40)]
     if e.kind == 'delack':
-        return is_offered(answer, *e.ports[0]) and a.next == r.next and a.alarm is None
+        return is_offered(answer, *e.ports[0]) and a.next == r.next and a.timer is None
     seen = {e.packet.number, a.next - a.mss, a.next, r.next} | a.held | r.held
     if any(is_received(a, x) != (x == e.packet.number or is_received(r, x)) for x in seen if x >= 0):
         return False
-    if a.alarm is None:
+    if a.timer is None:
         return is_offered(answer, *e.ports[0])
-    return is_offered([], *e.ports[0]) and a.alarm == e.now + flow.delack and r.alarm is None and e.packet.number == r.next and not r.held
+    return is_offered([], *e.ports[0]) and a.timer == e.now + flow.delack and r.timer is None and e.packet.number == r.next and not r.held
 
 
 # ---- links

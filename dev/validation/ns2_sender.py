@@ -261,7 +261,7 @@ class Ns2Receiver(Receiver):
     __slots__ = ()
 
     def on_data(self, seq, now):
-        if seq == self.next - self.mss and not self.held and self.delack > 0 and self.alarm is None:
-            self.alarm = now + self.delack
+        if seq == self.next - self.mss and not self.held and self.delack > 0 and self.timer is None:
+            self.timer = now + self.delack
             return None
         return super().on_data(seq, now)

@@ -99,13 +99,13 @@ class Logged(Network):
             header = 0 if seq == 0 and 'segment 0 has no header' in self.on else HEADER_BYTES
             self.sends.append((now, seq // mss))
             self.offer(self.own_ports[node][0], Packet(0, False, seq, mss + header), now, acts)
-        self.set_alarm(node, RTO, self.ends[node].deadline)
+        self.set_timer(node, RTO, self.ends[node].deadline)
         return acts
 
-    def alarm(self, node, now, number):
+    def timer(self, node, now, number):
         if number == RTO:
             self.timeouts.append(now)
-        return super().alarm(node, now, number)
+        return super().timer(node, now, number)
 
     def run(self):
         while self.step() is not None:

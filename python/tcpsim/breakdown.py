@@ -1,4 +1,4 @@
-"""The parts of a flow's completion time as rows and in words, beside those of the same flow alone on its ways."""
+"""The parts of a flow's completion time as rows and in words, beside those of the same flow alone on its paths."""
 from __future__ import annotations
 
 from collections import namedtuple
@@ -19,7 +19,7 @@ Lines = Callable[[str], AbstractContextManager[Iterable[str]]]
 
 
 class Breakdown:
-    """A flow's path and its parts. `alone` is the path to the same byte where the flow has its ways for itself, or None; `awaits`
+    """A flow's path and its parts. `alone` is the path to the same byte where the flow has its paths for itself, or None; `awaits`
     says what the flow waits for where the trace ends, if it is not complete."""
 
     def __init__(self, walk: CriticalPaths, flow: int, alone: Path | None = None):
@@ -129,8 +129,8 @@ def words_of_timeout(timeout: Timeout) -> list[str]:
 
 
 def text_alone(scenario: Scenario, flow: int) -> str:
-    """The scenario's text with this flow alone: its ways, their routes and losses, and nothing else."""
-    links = {number for way in scenario.ways[flow] for number in way}
+    """The scenario's text with this flow alone: its paths, their routes and losses, and nothing else."""
+    links = {number for path in scenario.paths[flow] for number in path}
     nodes = {node for number in links for node in (scenario.links[number].source, scenario.links[number].to)}
     names = {scenario.nodes[node].name for node in nodes} | {scenario.links[number].name for number in links} | {scenario.flows[flow].name}
     kept = []

@@ -204,7 +204,7 @@ def an_acknowledgement_was_lost(stall: Stall) -> Found | None:
 
 
 def a_delayed_acknowledgement_was_waited_for(stall: Stall) -> Found | None:
-    """Nothing was lost, and the receiver's answer waited for its alarm or for another segment; without
+    """Nothing was lost, and the receiver's answer waited for its timer or for another segment; without
     this wait the span would have been half as long or short enough."""
     if not is_unharmed(stall) or not is_delayed(stall):
         return None

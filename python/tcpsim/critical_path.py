@@ -135,7 +135,7 @@ class CriticalPaths(Spans):
     # ---- hooks
 
     def born(self, packet: Packet) -> None:
-        """An end sends a packet. An alarm's event gets its record here: each sends one at least."""
+        """An end sends a packet. A timer's event gets its record here: each sends one at least."""
         other = self.others.get(packet.flow.number)
         if other is not None:
             packet.watch = other

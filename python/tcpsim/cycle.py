@@ -1,6 +1,6 @@
 """The cycle of timeouts of a NewReno flow with an open window, as figures.py and stalls.py notice it.
 
-In a long recovery a NewReno sender sends on for each duplicate, so that nxt - una grows past what its way holds. The
+In a long recovery a NewReno sender sends on for each duplicate, so that nxt - una grows past what its path holds. The
 timeout that ends such a recovery leaves half of that as ssthresh, so slow start overflows the queue again
 (docs/MODEL.md section 3). Sizes are bytes.
 """
@@ -21,8 +21,8 @@ Cycle = namedtuple('Cycle', 'flow mss timeouts beyond most held')
 
 
 def held(scenario: Scenario, number: int) -> int:
-    """Bytes of a flow's segments that its way holds: the bandwidth-delay product of its slowest link, and the queue there."""
-    there, back = scenario.ways[number]
+    """Bytes of a flow's segments that its path holds: the bandwidth-delay product of its slowest link, and the queue there."""
+    there, back = scenario.paths[number]
     flow, slowest = scenario.flows[number], min((scenario.links[link] for link in there), key=lambda link: link.rate)
     trip = sum(scenario.links[link].delay for link in there + back)
     product = Fraction(slowest.rate * trip, (flow.mss + HEADER_BYTES) * BITS_NS)

@@ -198,7 +198,7 @@ class EngineRun:
 
     def data_dropped(self) -> int | None:
         """Segments that were dropped at any link; None where a link dropped something to which acknowledgements come too."""
-        there, back = (set(itertools.chain.from_iterable(ways)) for ways in zip(*self.scenario.ways))
+        there, back = (set(itertools.chain.from_iterable(paths)) for paths in zip(*self.scenario.paths))
         if any(map(self.dropped, there & back)):
             return None
         return sum(self.dropped(number) for number in range(len(self.links)) if number not in back)
@@ -219,7 +219,7 @@ class EngineRun:
     def longest(self, number: int) -> int:
         """Nanoseconds that the greatest packet takes that can come to a link."""
         sizes = [HEADER_BYTES + (flow.mss if number in there else 0)
-                 for flow, (there, back) in zip(self.scenario.flows, self.scenario.ways) if number in there + back]
+                 for flow, (there, back) in zip(self.scenario.flows, self.scenario.paths) if number in there + back]
         return -(-max(sizes, default=0) * BITS_NS // self.scenario.links[number].rate)
 
 

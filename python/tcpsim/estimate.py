@@ -27,15 +27,15 @@ def events(scenario: Scenario) -> float:
     Each packet has two events a link: it has left, and it has arrived. A flow sends its segments once, and no more than
     its receiver's window in each of the shortest round trips. All flows over a link share what its rate carries.
     """
-    segments = [_segments(scenario, flow, *ways) for flow, ways in zip(scenario.flows, scenario.ways)]
+    segments = [_segments(scenario, flow, *paths) for flow, paths in zip(scenario.flows, scenario.paths)]
     for number, link in enumerate(scenario.links):
-        over = [flow for flow, (there, _) in enumerate(scenario.ways) if number in there]
+        over = [flow for flow, (there, _) in enumerate(scenario.paths) if number in there]
         bits = BITS_NS * sum(segments[flow] * (HEADER_BYTES + scenario.flows[flow].mss) for flow in over)
         room = link.rate * max((_span(scenario, scenario.flows[flow]) for flow in over), default=0)
         for flow in over if bits > room else ():
             segments[flow] *= room / bits
     return sum(count * (2 * len(there) + 2 * len(back) * (.5 if flow.delack else 1))
-               for count, flow, (there, back) in zip(segments, scenario.flows, scenario.ways))
+               for count, flow, (there, back) in zip(segments, scenario.flows, scenario.paths))
 
 
 def _span(scenario: Scenario, flow: Flow) -> int:

@@ -95,14 +95,14 @@ def stopped_by_links(scenario: Scenario, flows: Iterable[int]) -> list[int]:
     while rising:
         over: dict[int, list[int]] = {}
         for number in rising:
-            for link in scenario.ways[number][0]:
+            for link in scenario.paths[number][0]:
                 over.setdefault(link, []).append(number)
         level, link = min((left[link] / len(numbers), link) for link, numbers in over.items())
         less = {number: asks[number] for number in rising if asks[number] < level}
         stopped = less or dict.fromkeys(over[link], level)
         full += [] if less else stopped
         for number, rate in stopped.items():
-            for each in scenario.ways[number][0]:
+            for each in scenario.paths[number][0]:
                 left[each] -= rate
         rising -= set(stopped)
     return sorted(full)
@@ -115,10 +115,10 @@ def asked(scenario: Scenario, number: int) -> float:
 
 def least_trip(scenario: Scenario, number: int) -> int:
     """The round trip of a flow's segment and its acknowledgement where no packet waits, in ns."""
-    (there, back), links = scenario.ways[number], scenario.links
+    (there, back), links = scenario.paths[number], scenario.links
     packet = scenario.flows[number].mss + HEADER_BYTES
     return sum(links[link].delay - -size * BITS_NS // links[link].rate
-               for way, size in ((there, packet), (back, HEADER_BYTES)) for link in way)
+               for path, size in ((there, packet), (back, HEADER_BYTES)) for link in path)
 
 
 def window(scenario: Scenario, number: int) -> int:

@@ -247,7 +247,7 @@ def cycles(run: Figures) -> list[Cycle]:
 def flow_figures(run: Figures, number: int, used: Sequence[float]) -> list[tuple]:
     """The figures of a flow: (figure, unit, value), value None where there is none."""
     flow, trips = run.flows[number], run.trips[number]
-    busiest = max(run.scenario.ways[number][0], key=lambda link: used[link])    # the first where equal
+    busiest = max(run.scenario.paths[number][0], key=lambda link: used[link])    # the first where equal
     link = run.links[busiest]
     carried = sum(n * stream.size for stream, n in link.count.items())
     lost = sum(n for (_, sort, _), n in flow.drops.items() if sort == DATA)
@@ -326,8 +326,8 @@ TIMED = (('least timed round trip', 'least round trip'), ('median timed round tr
 
 def engine_flow_figures(run: EngineRun, number: int, used: Sequence[float | None]) -> list[tuple]:
     """The figures of a flow, from the program's table."""
-    values, way = run.flows[number], run.scenario.ways[number][0]
-    busiest = max(way, key=lambda link: -1. if (part := used[link]) is None else part)     # the first where equal
+    values, path = run.flows[number], run.scenario.paths[number][0]
+    busiest = max(path, key=lambda link: -1. if (part := used[link]) is None else part)     # the first where equal
     return [('delivered', 'bytes', values['delivered', 'bytes']),
             ('goodput', 'bit/s', run.goodput(number)),
             ('bottleneck', 'link', None if used[busiest] is None else run.scenario.links[busiest].name),

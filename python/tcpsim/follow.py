@@ -27,7 +27,7 @@ State = namedtuple('State', 'name begin end')
 
 
 class Row:
-    """One row of the table. `span` is the time that it tells of (a wait, a sending, a way) or None."""
+    """One row of the table. `span` is the time that it tells of (a wait, a sending, a propagation) or None."""
 
     def __init__(self, line: int, time: int, order: tuple[int, int, int], packet: str, event: str, at: str,
                  words: str, span: int | None, behind: int | None):

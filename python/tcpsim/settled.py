@@ -29,8 +29,8 @@ def tooth(scenario: Scenario, number: int, flows: Sequence[int]) -> float:
     the target. The round trip grows with the queue: its mean is that of both ends. One more is that of the recovery. What a queue
     of one's own holds nobody knows, and it has no tooth.
     """
-    flow, (there, _), links = scenario.flows[number], scenario.ways[number], scenario.links
-    beside = {link: sum(link in scenario.ways[other][0] for other in flows) for link in there}
+    flow, (there, _), links = scenario.flows[number], scenario.paths[number], scenario.links
+    beside = {link: sum(link in scenario.paths[other][0] for other in flows) for link in there}
     slowest = min(there, key=lambda link: links[link].rate / beside[link])
     link, trip = links[slowest], least_trip(scenario, number)
     duration = (flow.mss + HEADER_BYTES) * BITS_NS / link.rate
@@ -63,7 +63,7 @@ def rounded(time: float) -> str:
 
 def can_end(scenario: Scenario, number: int) -> bool:
     """Whether a flow can be complete before the scenario's end, at the rate of its slowest link."""
-    flow, rate = scenario.flows[number], min(scenario.links[link].rate for link in scenario.ways[number][0])
+    flow, rate = scenario.flows[number], min(scenario.links[link].rate for link in scenario.paths[number][0])
     return flow.segments * (flow.mss + HEADER_BYTES) * BITS_NS < rate * (scenario.end - flow.start)
 
 

@@ -45,7 +45,7 @@ class Net:
         return len(self.flows) - 1
 
     def next_links(self, goal):
-        """For each node the first link of a way of fewest hops to `goal` through routers."""
+        """For each node the first link of a path of fewest hops to `goal` through routers."""
         into: list[list[int]] = [[] for _ in self.nodes]
         for number, link in enumerate(self.links):
             into[link.to].append(number)
@@ -62,7 +62,7 @@ class Net:
         return found
 
     def routes(self, every=False):
-        """The routes of all flows' ways; or of every router to every end that it can reach."""
+        """The routes of all flows' paths; or of every router to every end that it can reach."""
         routes = set()
         for flow in self.flows:
             for start, goal in ((flow.sender, flow.receiver), (flow.receiver, flow.sender)):
@@ -190,7 +190,7 @@ def islands(pick):
 
 
 def broken(scenario, pick):
-    """The scenario with a few routes left out or leading elsewhere, or a link ending elsewhere: ways
+    """The scenario with a few routes left out or leading elsewhere, or a link ending elsewhere: paths
     that break off, come to a wrong end, or go round."""
     routes, ports = dict(((r, d), k) for r, d, k in scenario.routes), scenario.outgoing()
     for _ in range(pick.choice((1, 2, 2, 3, 5))):

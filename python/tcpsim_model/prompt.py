@@ -210,7 +210,7 @@ class Prompt:
 
     def of_flow(self, flow):
         """The lines of the dump of its ends, of the links where packets of it wait, and of its pending events, which
-        are its alarms and its packets under way."""
+        are its timers and its packets under way."""
         net, ends = self.debugger.net, self.debugger.scenario.flows[flow]
         lines = [net.dump_node(node) for node in sorted((ends.sender, ends.receiver))]
         lines += [net.dump_link(port) for port in net.ports if any(packet[0] == flow for packet, _ in port.queue.entries)]

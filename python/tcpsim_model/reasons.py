@@ -123,8 +123,8 @@ class Parts:
                 return (f'route {number} is of {self.whole(router)}, for {self.whole(destination)}, '
                         f'over link {self.name(LINK, link)} of {self.whole(source)}', 'route ROUTER DEST LINK')
 
-    def ways(self, returns):
-        """The first way of a flow that returns, or that breaks."""
+    def paths(self, returns):
+        """The first path of a flow that returns, or that breaks."""
         for number, flow in enumerate(self.flows):
             for packets, start, goal in (('data', flow.sender, flow.receiver), ('acknowledgements', flow.receiver, flow.sender)):
                 if stop := self.stop(start, goal):
@@ -134,7 +134,7 @@ class Parts:
                         return f'{packets} of flow {self.name(FLOW, number)} {told}', statement
 
     def stop(self, start, goal):
-        """Where a way first comes to a node that it may not come to, or was at before: the node before, the link from it, the
+        """Where a path first comes to a node that it may not come to, or was at before: the node before, the link from it, the
         node, and whether it was there before. None where it comes to its end."""
         here, seen, link = start, [], next(number for number, link in enumerate(self.links) if link.source == start)
         while here != goal:
@@ -160,8 +160,8 @@ class Parts:
 
     def shown(self, code):
         """What shows first that the parts have the fault of this code, and a statement that would mend it."""
-        found = {'L3': self.few_or_late, 'L5': self.ends, 'L6': self.kinds, 'L7': lambda: self.ways(False),
-                 'L8': lambda: self.ways(True)}.get(code, lambda: None)()
+        found = {'L3': self.few_or_late, 'L5': self.ends, 'L6': self.kinds, 'L7': lambda: self.paths(False),
+                 'L8': lambda: self.paths(True)}.get(code, lambda: None)()
         return f'{code}: {found[0]}\n{found[1]}\n' if found else ''
 
 

@@ -2,31 +2,31 @@
 
 
 class Receiver:
-    __slots__ = ('mss', 'delack', 'next', 'held', 'alarm')
+    __slots__ = ('mss', 'delack', 'next', 'held', 'timer')
 
     def __init__(self, mss, delack):
         self.mss, self.delack = mss, delack
         self.next = 0           # the least multiple of mss that wasn't received
         self.held = set()       # the numbers received above it
-        self.alarm = None       # when a delayed acknowledgement is due
+        self.timer = None       # when a delayed acknowledgement is due
 
     def on_data(self, seq, now):
-        """The number to acknowledge at once, or None where the answer waits until `alarm`."""
+        """The number to acknowledge at once, or None where the answer waits until `timer`."""
         if seq == self.next:
             self.next += self.mss
-            if not self.held and self.delack > 0 and self.alarm is None:
-                self.alarm = now + self.delack
+            if not self.held and self.delack > 0 and self.timer is None:
+                self.timer = now + self.delack
                 return None
             while self.next in self.held:
                 self.held.remove(self.next)
                 self.next += self.mss
         elif seq > self.next:
             self.held.add(seq)
-        self.alarm = None
+        self.timer = None
         return self.next
 
     def on_delack(self):
-        self.alarm = None
+        self.timer = None
         return self.next
 
     def after(self):

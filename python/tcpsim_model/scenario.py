@@ -116,8 +116,8 @@ def fault_of_kinds(s):
     return None if right else 'L6'
 
 
-def fault_of_way(s, ports, routes, start, goal):
-    """L7 where the way from one end to the other breaks off or comes to another end, L8 where it
+def fault_of_path(s, ports, routes, start, goal):
+    """L7 where the path from one end to the other breaks off or comes to another end, L8 where it
     returns to a node."""
     here, seen = s.links[ports[start][0]].to, {start}
     while here != goal:
@@ -129,15 +129,15 @@ def fault_of_way(s, ports, routes, start, goal):
         here = s.links[routes[here, goal]].to
 
 
-def fault_of_ways(s):
-    """L7 over all ways, and only then L8."""
+def fault_of_paths(s):
+    """L7 over all paths, and only then L8."""
     ports = s.outgoing()
     routes = {(router, destination): link for router, destination, link in s.routes}
-    faults = {fault_of_way(s, ports, routes, *ends)
+    faults = {fault_of_path(s, ports, routes, *ends)
               for f in s.flows for ends in ((f.sender, f.receiver), (f.receiver, f.sender))}
     return next((code for code in ('L7', 'L8') if code in faults), None)
 
 
 def fault_of_whole(s):
     """The first of L5 to L8 of a scenario whose numbers are all in range."""
-    return fault_of_ends(s) or fault_of_kinds(s) or fault_of_ways(s)
+    return fault_of_ends(s) or fault_of_kinds(s) or fault_of_paths(s)

@@ -9,7 +9,7 @@ from tcpsim_model.scenario import ROUTER, SENDER
 from tcpsim_model.sender import Sender
 from tcpsim_model.variants import of_flow
 
-START, RTO, DELACK, FIRST_FREE = 0, 1, 2, 3     # a node's alarms; port p is free: FIRST_FREE + p
+START, RTO, DELACK, FIRST_FREE = 0, 1, 2, 3     # a node's timers; port p is free: FIRST_FREE + p
 HEADER_BYTES = 40
 BITS_NS = 8 * 10**9
 
@@ -25,13 +25,13 @@ def line_text(n, line):
 
 class Port:
     """The sending side of a link."""
-    __slots__ = ('number', 'to', 'rate', 'delay', 'lose', 'queue', 'alarm', 'busy', 'offered', 'sent')
+    __slots__ = ('number', 'to', 'rate', 'delay', 'lose', 'queue', 'timer', 'busy', 'offered', 'sent')
 
     def __init__(self, number, link, place, own=None):
         self.number, self.to, self.rate, self.delay = number, link.to, link.rate, link.delay
         self.lose = frozenset(link.lose)
         self.queue = Own(own(link)) if own else queue_of(link)
-        self.alarm = FIRST_FREE + place     # the node's alarm for "this port is free"
+        self.timer = FIRST_FREE + place     # the node's timer for "this port is free"
         self.busy = False
         self.offered = self.sent = 0
 
@@ -39,14 +39,14 @@ class Port:
 class Network:
     """A state of the net. `position` is the number of events that were run.
 
-    Pending events lie in a heap. An alarm that was replaced or cleared stays there until it comes
-    to the top, where `alarms` tells that it isn't set any more."""
+    Pending events lie in a heap. A timer that was replaced or cleared stays there until it comes
+    to the top, where `timers` tells that it isn't set any more."""
 
     def __init__(self, scenario):
         self.scenario, self.end, self.position = scenario, scenario.end, 0
         self.kinds, self.flows = scenario.nodes, scenario.flows
         count = len(scenario.nodes)
-        self.alarms: list[dict[int, int]] = [{} for _ in range(count)]      # of each node: alarm number to its time
+        self.timers: list[dict[int, int]] = [{} for _ in range(count)]      # of each node: timer number to its time
         self.pending = []                           # (time, node, source, number, packet or None)
         self.ends: list = [None] * count            # sender or receiver at each node
         self.flow_at: list[int | None] = [None] * count
@@ -61,21 +61,21 @@ class Network:
             self.ends[flow.sender] = Sender(flow.mss, flow.segments, flow.rwnd, **of_flow(flow))
             self.ends[flow.receiver] = Receiver(flow.mss, flow.delack)
             self.flow_at[flow.sender] = self.flow_at[flow.receiver] = number
-            self.set_alarm(flow.sender, START, flow.start)
+            self.set_timer(flow.sender, START, flow.start)
 
     # Pending events.
 
-    def set_alarm(self, node, number, time):
-        """Sets an alarm in place of the one of that number; None clears it."""
-        alarms = self.alarms[node]
+    def set_timer(self, node, number, time):
+        """Sets a timer in place of the one of that number; None clears it."""
+        timers = self.timers[node]
         if time is None:
-            alarms.pop(number, None)
-        elif alarms.get(number) != time:
-            alarms[number] = time
+            timers.pop(number, None)
+        elif timers.get(number) != time:
+            timers[number] = time
             heappush(self.pending, (time, node, 0, number, None))
 
     def is_stale(self, event):
-        return event[2] == 0 and self.alarms[event[1]].get(event[3]) != event[0]
+        return event[2] == 0 and self.timers[event[1]].get(event[3]) != event[0]
 
     def least(self):
         """The pending event of the least key, or None."""
@@ -127,7 +127,7 @@ class Network:
         port.busy = True
         port.sent += 1
         node = self.scenario.links[port.number].source
-        self.set_alarm(node, port.alarm, free)
+        self.set_timer(node, port.timer, free)
         heappush(self.pending, (free + port.delay, port.to, port.number + 1, port.sent, packet))
         self.touched.add(port.number)
         acts.append(f' tx={port.number}:{packet.flow}:{packet.number}')
@@ -141,7 +141,7 @@ class Network:
         size = self.flows[flow].mss + HEADER_BYTES
         for seq in numbers:
             self.offer(port, Packet(flow, False, seq, size), now, acts)
-        self.set_alarm(node, RTO, self.ends[node].deadline)
+        self.set_timer(node, RTO, self.ends[node].deadline)
         return acts
 
     def at_receiver(self, node, now, number):
@@ -150,7 +150,7 @@ class Network:
         receiver = self.ends[node]
         if number is not None:
             self.offer(self.own_ports[node][0], Packet(self.flow_at[node], True, number, HEADER_BYTES), now, acts)
-        self.set_alarm(node, DELACK, receiver.alarm)
+        self.set_timer(node, DELACK, receiver.timer)
         return acts
 
     def at_router(self, node, now, packet):
@@ -167,7 +167,7 @@ class Network:
             return self.at_sender(node, now, self.ends[node].on_ack(packet[2], now))
         return self.at_receiver(node, now, self.ends[node].on_data(packet[2], now))
 
-    def alarm(self, node, now, number):
+    def timer(self, node, now, number):
         if number == START:
             return self.at_sender(node, now, self.ends[node].on_start(now))
         if number == RTO:
@@ -187,8 +187,8 @@ class Network:
         now, node, source, number, packet = event
         self.touched, self.dropped = set(), []
         if source == 0:
-            del self.alarms[node][number]
-            acts = self.alarm(node, now, number)
+            del self.timers[node][number]
+            acts = self.timer(node, now, number)
         else:
             self.inside[packet[0]] -= 1
             acts = self.arrive(node, now, packet)
@@ -207,11 +207,11 @@ class Network:
         return ('start', 'rto', 'delack')[number], str(flow), flow
 
     def is_stalled(self, flow):
-        """Whether a flow has begun, is not all acknowledged, and has no packet in the net: nothing but an alarm of its
+        """Whether a flow has begun, is not all acknowledged, and has no packet in the net: nothing but a timer of its
         own goes on with it."""
         sender = self.flows[flow].sender
         end = self.ends[sender]
-        return START not in self.alarms[sender] and end.una < end.total and self.inside[flow] == 0
+        return START not in self.timers[sender] and end.una < end.total and self.inside[flow] == 0
 
     # The dump of a state.
 

@@ -93,11 +93,11 @@ class TaggedReceiver(Receiver):
         super().__init__(*given)
 
     @property
-    def alarm(self):
+    def timer(self):
         return self.due
 
-    @alarm.setter
-    def alarm(self, time):
+    @timer.setter
+    def timer(self, time):
         self.due = time
         if time is not None:
             self.held_by = self.net.event
@@ -141,7 +141,7 @@ class TaggedNetwork(Network):
         packet.waited = [((QUEUE, port.number, flow), spent[flow] - packet.before[flow]) for flow in spent]
         super().send(port, packet, now, acts)
         packet.sent, packet.began = self.position + 1, now
-        packet.left = self.alarms[self.scenario.links[port.number].source][port.alarm]
+        packet.left = self.timers[self.scenario.links[port.number].source][port.timer]
         self.last[port.number] = packet.flow, now, packet.left
 
     def caused(self, now, node, source, number, packet):

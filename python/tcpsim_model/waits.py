@@ -1,4 +1,4 @@
-"""What a flow waits for: first how it stands, then where its packets are, then its alarms."""
+"""What a flow waits for: first how it stands, then where its packets are, then its timers."""
 from tcpsim_model.simulate import DELACK, RTO, START
 from tcpsim_model.text import FLOW, LINK, NODE
 
@@ -7,7 +7,7 @@ def why(net, flow, names):
     """What `why` answers of a flow of the net; `names` has what nodes, links and flows are called."""
     lines = [f'{names.called(FLOW, flow)} {standing(net, flow)}']
     lines += [f'{head}: {", ".join(found)}' for head, found in (
-        ('waits', waiting(net, flow, names)), ('under way', under_way(net, flow, names)), ('alarms', alarms(net, flow))) if found]
+        ('waits', waiting(net, flow, names)), ('under way', under_way(net, flow, names)), ('alarms', timers(net, flow))) if found]
     return ''.join(line + '\n' for line in lines)
 
 
@@ -15,8 +15,8 @@ def standing(net, flow):
     """How a flow stands: the first of these that holds."""
     sender = net.flows[flow].sender
     end = net.ends[sender]
-    if START in net.alarms[sender]:
-        return f'is not started: it starts at {net.alarms[sender][START]} ns'
+    if START in net.timers[sender]:
+        return f'is not started: it starts at {net.timers[sender][START]} ns'
     if end.una == end.total:
         return f'is complete: all {counted(end.total, "byte")} {be(end.total)} acknowledged'
     if net.is_stalled(flow):
@@ -40,24 +40,24 @@ def be(count):
 
 
 def awaited(net, flow):
-    """What goes on with a flow that is stalled: the first of its alarms."""
-    found = own_alarms(net, flow)
+    """What goes on with a flow that is stalled: the first of its timers."""
+    found = own_timers(net, flow)
     if not found:
         return 'nothing goes on with it'
     time, number = found[0]
     return f'its {"retransmission timer" if number == RTO else "delayed acknowledgement"} is due at {time} ns'
 
 
-def own_alarms(net, flow):
-    """A flow's alarms, of its sender and its receiver, in the order of their keys: time and number of each."""
+def own_timers(net, flow):
+    """A flow's timers, of its sender and its receiver, in the order of their keys: time and number of each."""
     ends = net.flows[flow]
-    found = [(net.alarms[node][number], node, number) for node, numbers in ((ends.sender, (START, RTO)), (ends.receiver, (DELACK,)))
-             for number in numbers if number in net.alarms[node]]
+    found = [(net.timers[node][number], node, number) for node, numbers in ((ends.sender, (START, RTO)), (ends.receiver, (DELACK,)))
+             for number in numbers if number in net.timers[node]]
     return [(time, number) for time, _, number in sorted(found)]
 
 
-def alarms(net, flow):
-    return [f'{("start", "rto", "delack")[number]} at {time} ns' for time, number in own_alarms(net, flow)]
+def timers(net, flow):
+    return [f'{("start", "rto", "delack")[number]} at {time} ns' for time, number in own_timers(net, flow)]
 
 
 def waiting(net, flow, names):

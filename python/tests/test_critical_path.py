@@ -57,20 +57,20 @@ def awaited_by_model(net, scenario, number):
     """What a flow can wait for where the model's run ends, in words: of a packet each place where one of the sort is."""
     flow = scenario.flows[number]
     sender, names = net.ends[flow.sender], [link.name for link in scenario.links]
-    if simulate.START in net.alarms[flow.sender]:
+    if simulate.START in net.timers[flow.sender]:
         return {f'its start at {flow.start / 1e9:.9f} s'}
     places = [(packet, f'in the queue of {names[port.number]}') for port in net.ports for packet, _ in port.queue.entries]
     for time, node, source, _, packet in net.pending:
         if source:
             port = net.ports[source - 1]
-            sends = port.alarm in net.alarms[scenario.links[source - 1].source] and time == net.last[source - 1][2] + scenario.links[source - 1].delay
+            sends = port.timer in net.timers[scenario.links[source - 1].source] and time == net.last[source - 1][2] + scenario.links[source - 1].delay
             places.append((packet, f'{"sent by" if sends else "under way on"} {names[source - 1]}'))
     own = [(packet, where) for packet, where in places if packet.flow == number]
     acks = {f'acknowledgement {packet.number}, {where}' for packet, where in own if packet.is_ack and packet.number > sender.una}
     if acks:
         return acks
-    if net.ends[flow.receiver].alarm is not None and net.ends[flow.receiver].next > sender.una:
-        return {f'the delayed acknowledgement, due at {net.ends[flow.receiver].alarm / 1e9:.9f} s'}
+    if net.ends[flow.receiver].timer is not None and net.ends[flow.receiver].next > sender.una:
+        return {f'the delayed acknowledgement, due at {net.ends[flow.receiver].timer / 1e9:.9f} s'}
     copies = {f'segment {packet.number}, {where}' for packet, where in own if not packet.is_ack and packet.number == sender.una}
     more = f', or for duplicates; packets in the net: {len(own)}' if own else ''
     return copies or {f'its retransmission timer, due at {sender.deadline / 1e9:.9f} s{more}'}
@@ -251,15 +251,15 @@ def test_a_part_of_a_trace_has_the_path_to_its_last_acknowledgement():
 
 @pytest.mark.parametrize('name', NAMES)
 def test_a_flow_alone_waits_behind_nobody_else(name):
-    """Its text has its ways and nothing else, and the program's rules accept it."""
+    """Its text has its paths and nothing else, and the program's rules accept it."""
     scenario = Scenario(example(name)[0])
     for number, flow in enumerate(scenario.flows):
         text = text_alone(scenario, number)
         own, model = Scenario(text), assemble(text.encode())
         assert [it.name for it in own.flows] == [flow.name] and own.end == scenario.end
-        assert {it.name for it in own.links} == {scenario.links[link].name for way in scenario.ways[number] for link in way}
+        assert {it.name for it in own.links} == {scenario.links[link].name for path in scenario.paths[number] for link in path}
         assert {own.links[link].name: lost for link, lost in own.lost.items()} == \
-            {scenario.links[link].name: lost for link, lost in scenario.lost.items() if link in sum(scenario.ways[number], [])}
+            {scenario.links[link].name: lost for link, lost in scenario.lost.items() if link in sum(scenario.paths[number], [])}
         if flow.segments <= 1000:
             path = critical_paths(own, ''.join(simulate.trace(model)).splitlines()).path(0)
             assert {part.behind for part in path.parts() if part.kind == QUEUE} <= {flow.name} and path.events

@@ -90,7 +90,7 @@ class Moments:
         """The states of a packet that its end offered at a moment, as (name, from, to), how it ended, when."""
         declared, states = self.scenario.flows[flow], []
         size = HEADER_BYTES + (declared.mss if sort == DATA else 0)
-        for link in self.scenario.ways[flow][sort]:
+        for link in self.scenario.paths[flow][sort]:
             began = self.taken[link, sort, flow, number].get(at)
             if began is None:
                 return self.stopped(link, (sort, flow, number), at, states)

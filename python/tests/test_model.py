@@ -254,8 +254,8 @@ class TestNewRenoAlone:
 
 def test_delayed_acknowledgements():
     r = Receiver(1000, 500000000)
-    assert (r.on_data(0, 7), r.alarm) == (None, 500000007)
-    assert (r.on_data(2000, 8), r.alarm) == (1000, None)
+    assert (r.on_data(0, 7), r.timer) == (None, 500000007)
+    assert (r.on_data(2000, 8), r.timer) == (1000, None)
     assert (r.on_data(1000, 9), r.on_data(0, 10)) == (3000, 3000)
 
 
@@ -271,7 +271,7 @@ def test_against_the_set_of_numbers_received():
             wait = seq == old and not any(x > seq for x in seen) and delack > 0 and not waits
             seen.add(seq)
             assert r.on_data(seq, now) == (None if wait else least_missing(seen))
-            assert r.alarm == (now + delack if wait else None)
+            assert r.timer == (now + delack if wait else None)
             assert r.held == {x for x in seen if x > least_missing(seen)}
             waits = wait
             if waits and pick.random() < 0.3:

@@ -191,7 +191,7 @@ def test_by_hand():
 def test_odd_round_trips():
     for trip in (8, 9, 15, 81, 40 * MS + 1):
         read = Scenario(command.scenario(['dumbbell', '--flows', '1', '--rtt', f'{trip}ns']))
-        assert sum(read.links[link].delay for way in read.ways[0] for link in way) == trip
+        assert sum(read.links[link].delay for path in read.paths[0] for link in path) == trip
 
 
 def test_round_trips_and_ways():
@@ -203,18 +203,18 @@ def test_round_trips_and_ways():
             # 3 hops of 10 ms and two cables of 1 ms, each way
             ('chain --hops 3 --delay 10ms --access-delay 1ms', (64,), 5)):
         read = Scenario(command.scenario(words.split()))
-        for (there, back), trip in zip(read.ways, trips):
+        for (there, back), trip in zip(read.paths, trips):
             assert sum(read.links[link].delay for link in there + back) == trip * MS
             assert (len(there), len(back)) == (hops, hops)
     read = Scenario(command.scenario('parking-lot --hops 3 --cross 2'.split()))
-    names = [[read.links[link].name for link in there[1:-1]] for there, _ in read.ways]
+    names = [[read.links[link].name for link in there[1:-1]] for there, _ in read.paths]
     assert names == [['p0p1', 'p1p2', 'p2p3'], ['p0p1'], ['p0p1'], ['p1p2'], ['p1p2'], ['p2p3'], ['p2p3']]
     read = Scenario(command.scenario('islands --islands 3 --flows 2 --crossing 1'.split()))
-    names = [[read.links[link].name for link in there[1:-1]] for there, _ in read.ways]
+    names = [[read.links[link].name for link in there[1:-1]] for there, _ in read.paths]
     assert names == [['p1q1'], ['p2q2'], ['p3q3'], ['p1q1', 'q1p2', 'p2q2'],
                              ['p2q2', 'q2p3', 'p3q3'], ['p3q3', 'q3p1', 'p1q1']]
     read = Scenario(command.scenario('asymmetric --uploads 1'.split()))
-    names = [[read.links[link].name for link in there[1:-1]] for there, _ in read.ways]
+    names = [[read.links[link].name for link in there[1:-1]] for there, _ in read.paths]
     assert names == [['down'], ['up']]
 
 
@@ -269,8 +269,8 @@ def _runs(words):
         assert delivered == [12 * 1460] * len(runs.flows)
     # every route is one that some flow takes
     read = runs.scenario
-    taken = {(read.links[link].source, read.links[way[-1]].to, link) for ways in read.ways for way in ways
-             for link in way[1:]}
+    taken = {(read.links[link].source, read.links[path[-1]].to, link) for paths in read.paths for path in paths
+             for link in path[1:]}
     assert {(*at, link) for at, link in read.routes.items()} == taken
 
 

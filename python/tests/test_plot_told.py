@@ -1,4 +1,4 @@
-"""Tests of what tcpsim-plot says of flows and links beside their curves: ways, round trips, who uses a link, at which link
+"""Tests of what tcpsim-plot says of flows and links beside their curves: paths, round trips, who uses a link, at which link
 packets were lost and of what sort, duplicates, timers, heights of axes.
 """
 from types import SimpleNamespace
@@ -17,12 +17,12 @@ from test_trace import TRACE  # noqa: E402
 
 
 class TestNotes(Drawn):
-    """What is said of flows and links: ways, round trips, in what flows differ, who uses a link."""
+    """What is said of flows and links: paths, round trips, in what flows differ, who uses a link."""
     def test_ways_and_round_trips(self):
         scenario = read_run(*pictures.run_of('two_round_trips_do_not_share_fairly')).scenario
         # fa: 1040 bytes take 27.733334 ms at 300 kbit/s and 83.2 us at each of two links of 100 Mbit/s, 40 bytes 1.066667 ms
         # and 3.2 us; 5 + 1 + 1 ms each way. The sender's link of fb is 199 ms longer, there and back.
-        assert [notes.way_text(scenario, number) for number in (0, 1)] == ['sa→p→q→ra', 'sb→p→q→rb']
+        assert [notes.path_text(scenario, number) for number in (0, 1)] == ['sa→p→q→ra', 'sb→p→q→rb']
         trips = [notes.least_round_trip(scenario, number) for number in (0, 1)]
         assert trips == [27_733_334 + 2 * 83_200 + 1_066_667 + 2 * 3_200 + 14 * MS] * 1 + [trips[0] + 398 * MS]
         assert notes.trip_text(scenario, 1) == 'round trip ≥ 441 ms'
@@ -38,7 +38,7 @@ class TestNotes(Drawn):
             if 0 < a < count - 1:
                 text += f'route n{a} n{count - 1 if b > a else 0} l{a}{b}\n'
         text += f'flow f n0 n{count - 1} 1000 1 0 64000 0\n'
-        assert notes.way_text(Scenario(text), 0) == 'n0→n1→…→n7→n8'
+        assert notes.path_text(Scenario(text), 0) == 'n0→n1→…→n7→n8'
 
     def test_flows_are_told_apart_by_what_differs(self):
         first, second = read_run(*pictures.run_of('a_larger_initial_window')).scenario.flows
@@ -55,7 +55,7 @@ class TestNotes(Drawn):
         scenario = read_run(*pictures.run_of('parking_lot_of_three_routers')).scenario
         assert notes.link_note(scenario, 0) == 'p→q: data of fa, fb'
         scenario.flows = [scenario.flows[1]] * 5
-        scenario.ways = [scenario.ways[1]] * 5
+        scenario.paths = [scenario.paths[1]] * 5
         assert notes.link_note(scenario, 0) == 'p→q: data of 5 flows'
 
     def test_round_trips_that_differ_are_in_the_flows_names(self):
@@ -129,7 +129,7 @@ class TestSigns(Drawn):
         sequence = figure.get_axes()[-1]
         # the ninth segment comes at 22.28 ms
         arrived = max(read_run(*pictures.run_of('delayed_acks_and_their_alarm')).flows[0].next_times)
-        assert list(read_run(*pictures.run_of('delayed_acks_and_their_alarm')).flows[0].alarm_times) == [arrived + 100 * MS]
+        assert list(read_run(*pictures.run_of('delayed_acks_and_their_alarm')).flows[0].delack_times) == [arrived + 100 * MS]
         assert [y for _, y in marks(sequence)['>']] == [9]
         assert 'ack that was held back for 100 ms' in key_of(figure)
 

@@ -1,4 +1,4 @@
-"""Tests of what tcpsim-net gives flows beside their ways: variants, windows, losses, mice and small differences; of the
+"""Tests of what tcpsim-net gives flows beside their paths: variants, windows, losses, mice and small differences; of the
 same fields of a sweep; and of the cycle of timeouts of a NewReno flow, which tcpsim-flows and tcpsim-stalls name.
 
 They go by the built program, and by the model where that is not built.
@@ -91,16 +91,16 @@ def test_a_dumbbell_of_many_flows_is_a_tree(count):
     read = Scenario(text)
     leaves = -(-count // 15) if count > 15 else 0
     assert sum(node.kind == 'router' for node in read.nodes) == 2 + 2 * leaves
-    trips = [sum(read.links[link].delay for way in ways for link in way) for ways in read.ways]
+    trips = [sum(read.links[link].delay for path in paths for link in path) for paths in read.paths]
     assert trips == [(40, 80)[n % 2] * 10**6 for n in range(count)]
-    assert all('pq' in [read.links[link].name for link in there] for there, _ in read.ways)
+    assert all('pq' in [read.links[link].name for link in there] for there, _ in read.paths)
     assert [flow['delivered', 'bytes'] for flow in engine(text).flows] == [3 * 1460] * count
 
 
 # ---- the window of NewReno flows
 
 # One flow for a minute: rate in Mbit/s, round trip in ms, queue in bandwidth-delay products. The least of what is used is
-# 0.93 where there are eight packets in a product and a round trip takes no more than 100 ms. Two kinds of ways have less: of 2 Mbit/s
+# 0.93 where there are eight packets in a product and a round trip takes no more than 100 ms. Two kinds of paths have less: of 2 Mbit/s
 # and 20 ms, with three places a packet more or less counts; and those of 200 ms, where the first slow start costs a
 # timeout and tens of seconds until the window is back.
 GRID = [*itertools.product((2, 5, 10, 20, 50), (20, 50, 100, 200), (1, 2))]
@@ -183,7 +183,7 @@ def test_flows_are_spread():
     for before, after in zip(plain.flows, one.flows):
         assert 1460 - 146 <= after.mss <= before.mss
         assert 0 <= after.start - before.start <= 40 * 10**6
-    trips = [sum(one.links[link].delay for way in ways for link in way) for ways in one.ways]
+    trips = [sum(one.links[link].delay for path in paths for link in path) for paths in one.paths]
     assert all(40 * 10**6 <= trip <= 42 * 10**6 for trip in trips)
     assert min(len({*trips}), len({flow.mss for flow in one.flows}), len({flow.start for flow in one.flows})) >= 7
 

@@ -111,12 +111,12 @@ def stays(name, flow):
     """Of each packet of a flow that entered a queue: (link, state, from, to)."""
     moments, found = moments_of(name), []
     for sort in (DATA, ACK):
-        way = moments.scenario.ways[flow][sort]
+        path = moments.scenario.paths[flow][sort]
         for (link, *packet, number), taken in list(moments.taken.items()):
-            if (link, *packet) == (way[0], sort, flow):
+            if (link, *packet) == (path[0], sort, flow):
                 for at in taken:
                     states = moments.life(flow, sort, number, at)[0]
-                    found += [(way[place // 3], *state) for place, state in enumerate(states)]
+                    found += [(path[place // 3], *state) for place, state in enumerate(states)]
     return found
 
 

@@ -137,11 +137,11 @@ def why_of(text: str) -> Why:
         head, _, rest = line.partition(': ')
         parts[head] = tuple(rest.split(', '))
     waits = (parts_of(r'(\w+) (\d+) at place (\d+) of link (\w+)', word) for word in parts['waits'])
-    ways = (parts_of(r'(\w+) (\d+) to node (\w+) at (\d+) ns', word) for word in parts['under way'])
+    packets = (parts_of(r'(\w+) (\d+) to node (\w+) at (\d+) ns', word) for word in parts['under way'])
     alarms = (parts_of(r'(\w+) at (\d+) ns', word) for word in parts['alarms'])
     _, flow, stands = first.split(' ', 2)
     return Why(flow, stands, tuple(WaitingPacket(kind, int(number), int(place), link) for kind, number, place, link in waits),
-               tuple(PacketUnderWay(kind, int(number), node, int(time)) for kind, number, node, time in ways),
+               tuple(PacketUnderWay(kind, int(number), node, int(time)) for kind, number, node, time in packets),
                tuple(Alarm(kind, int(time)) for kind, time in alarms), missing, text.rstrip('\n'))
 
 

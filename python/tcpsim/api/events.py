@@ -42,7 +42,7 @@ class Fields(NamedTuple):
     node: str
     kind: str
     flow: str | None            # None of `free`
-    link: str | None            # by which the packet came, or which is free; None of an alarm
+    link: str | None            # by which the packet came, or which is free; None of a timer
     number: int | None          # the byte or acknowledgement number of the packet that came
     una: int | None
     nxt: int | None

@@ -269,8 +269,8 @@ def facts_of(row: FlowResult | LinkResult) -> Iterator[tuple[str, object]]:
 
 def flow_result(run: EngineRun, number: int, used: list[float | None]) -> FlowResult:
     """The figures of a flow, from the program's table."""
-    values, way = run.flows[number], run.scenario.ways[number][0]
-    busiest = max(way, key=lambda link: -1. if (part := used[link]) is None else part)     # the first where equal
+    values, path = run.flows[number], run.scenario.paths[number][0]
+    busiest = max(path, key=lambda link: -1. if (part := used[link]) is None else part)     # the first where equal
     least, median, p95, p99, most = (values[f'{which} round trip{"s" * (which[0] == "9")}', 'ns'] for which in WHICH)
     return FlowResult(run.scenario.flows[number].name, values['start', 'ns'], values['delivered', 'bytes'], run.goodput(number),
                       None if used[busiest] is None else run.scenario.links[busiest].name, values['sent', 'segments'],

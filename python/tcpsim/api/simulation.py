@@ -190,7 +190,7 @@ class Simulation:
 
     def time(self, flow: str | int, to: int | None = None, alone: bool = True) -> FlowTime:
         """Where the time of a flow went, to its last new acknowledgement or to that of the byte `to`: `parts`, `events`, `timeouts`,
-        `frame()` and `plot()`. With `alone` the flow is run alone on its ways too, where the scenario has others."""
+        `frame()` and `plot()`. With `alone` the flow is run alone on its paths too, where the scenario has others."""
         parsed = self._parsed()
         with as_api():
             number = flow_named(parsed, str(flow))

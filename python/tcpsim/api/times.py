@@ -26,7 +26,7 @@ class TimePart:
     doubled: int | None         # of a retransmission timer, how often it was doubled since it was measured
     ns: int
     share: float                # of the whole, 0 to 1
-    alone_ns: int | None        # the same where the flow is alone on its ways
+    alone_ns: int | None        # the same where the flow is alone on its paths
 
 
 class FlowTime:

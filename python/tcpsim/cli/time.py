@@ -6,7 +6,7 @@ Usage: bin/tcpsim-time SCENARIO [TRACE] [--flow NAMES] [--to BYTE] [--path] [--c
 
 A path goes from the acknowledgement that completed the flow back from cause to cause to its start. Its parts sum to the
 completion time, without a rest. Without --flow there is a row for each flow. With --flow, and of a scenario with one flow,
-each part has a row, the greatest first, beside what it is where the flow is alone on its ways. Without TRACE the program is run.
+each part has a row, the greatest first, beside what it is where the flow is alone on its paths. Without TRACE the program is run.
 """
 from __future__ import annotations
 
@@ -43,7 +43,7 @@ def words_of_tool() -> argparse.Namespace:
     words.add_argument('--csv', action='store_true',
                        help='flow,part,at,behind,doubled,ns,percent,alone; with --path '
                             'flow,line,time,event,number,at,part,part at,behind,ns; times in nanoseconds')
-    words.add_argument('--alone', action='store_true', default=None, help='beside each flow alone on its ways, also where a trace is given '
+    words.add_argument('--alone', action='store_true', default=None, help='beside each flow alone on its paths, also where a trace is given '
                                                                           'or each flow has one row')
     words.add_argument('--no-alone', action='store_false', dest='alone', help='run no flow alone')
     words.add_argument('--plot', metavar='FILE', help='a picture in the table\'s place, .png, .svg or .pdf: a bar for each flow; of several '

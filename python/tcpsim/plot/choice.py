@@ -93,7 +93,7 @@ def add_words(words: Words) -> None:
                        help=f'of {",".join(PANELS)}; else {",".join(FIRST_CHOICE)}, '
                             f'and of more than two flows {",".join(OF_MANY)}')
     words.add_argument('--flow', '--flows', dest='flows', type=list_of_names, metavar='NAMES',
-                       help='names, else all, or the four that carry most; the links are then those of their ways')
+                       help='names, else all, or the four that carry most; the links are then those of their paths')
     words.add_argument('--link', '--links', dest='links', type=list_of_names, metavar='NAMES',
                        help='names, else those where packets of several flows waited longest')
     words.add_argument('--from', dest='begin', type=moment, metavar='T',
@@ -259,9 +259,9 @@ def within(times: ArrayLike, lengths: ArrayLike, window: tuple[int, int]) -> int
     return int(lengths[(times >= window[0]) & (times <= window[1])].sum())
 
 
-def ways_of(run: Run, flows: Iterable[int]) -> list[int]:
+def links_of(run: Run, flows: Iterable[int]) -> list[int]:
     """The links over which these flows go, by their numbers."""
-    return sorted({link for flow in flows for way in run.scenario.ways[flow] for link in way})
+    return sorted({link for flow in flows for path in run.scenario.paths[flow] for link in path})
 
 
 def shown_of(given: argparse.Namespace, run: Run, window: tuple[int, int],
@@ -271,7 +271,7 @@ def shown_of(given: argparse.Namespace, run: Run, window: tuple[int, int],
         named(given.flows, run.scenario.flows, 'flow')
     if given.links is not None:
         return flows, named(given.links, run.scenario.links, 'link'), []
-    among = range(len(run.links)) if given.flows is None else ways_of(run, flows)
+    among = range(len(run.links)) if given.flows is None else links_of(run, flows)
     links = worst_links(run, window, among)
     if most_links == 1:
         links = sorted(links, key=lambda number: (-sum(run.links[number].waits), number))

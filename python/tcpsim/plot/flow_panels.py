@@ -205,7 +205,7 @@ def sequence_panel(picture: Picture, axes: Axes, view: FlowView, heading: list, 
     picture.curve(axes, view, begin + list(flow.next_times), [0] + list(flow.next), scale, **RECEIVED)
     picture.curve(axes, view, begin + list(flow.una_times), [0] + list(flow.una), scale, **ACKNOWLEDGED)
     picture.points(axes, *duplicates(picture, view), scale, **DUPLICATE)
-    picture.points(axes, flow.alarm_times, flow.alarms, scale, **HELD_BACK)
+    picture.points(axes, flow.delack_times, flow.delacks, scale, **HELD_BACK)
     missed = [*lost(picture, view), *lost(picture, view, acks=True)]
     mark_lost(picture, axes, view, missed, lambda loss: loss.number / scale, 9 if len(missed) < 20 else 5.5)
     picture.points(axes, flow.again_times, flow.again, scale, zorder=3.7,
@@ -235,7 +235,7 @@ def sequence_key(picture: Picture) -> list[Artist]:
            Line2D([], [], label='received in order', **RECEIVED), Line2D([], [], label='acknowledged', **ACKNOWLEDGED)]
     if any(len(duplicates(picture, view)[0]) for view in picture.flows):
         key.append(Line2D([], [], **DUPLICATE, ls='none', label='duplicate ack'))
-    held = {view.run.flow.delack for view in picture.flows for time in view.run.alarm_times if picture.sees(time)}
+    held = {view.run.flow.delack for view in picture.flows for time in view.run.delack_times if picture.sees(time)}
     if held:
         key.append(Line2D([], [], **HELD_BACK, ls='none',
                           label=f'ack that was held back for {" or ".join(map(length_text, sorted(held)))}'))

@@ -1,4 +1,4 @@
-"""What a picture says of a flow and of a link in words: ways, round trips, in what the flows differ, who uses a link."""
+"""What a picture says of a flow and of a link in words: paths, round trips, in what the flows differ, who uses a link."""
 from __future__ import annotations
 
 from collections.abc import Sequence
@@ -9,15 +9,15 @@ from tcpsim.traces.reader import first_window
 
 from .clock import length_text
 
-MOST_NODES = 6          # a way with more is named by its first and last two nodes
+MOST_NODES = 6          # a path with more is named by its first and last two nodes
 MOST_FLOWS = 4          # of more that use a link only the number is told
 
 
 # ---- flows
 
-def way_text(scenario: Scenario, number: int) -> str:
-    """A flow's way by its nodes."""
-    nodes = [scenario.flows[number].sender, *(scenario.links[link].to for link in scenario.ways[number][0])]
+def path_text(scenario: Scenario, number: int) -> str:
+    """A flow's path by its nodes."""
+    nodes = [scenario.flows[number].sender, *(scenario.links[link].to for link in scenario.paths[number][0])]
     names = [scenario.nodes[node].name for node in nodes]
     if len(names) > MOST_NODES:
         names[2:-2] = ['…']
@@ -28,7 +28,7 @@ def least_round_trip(scenario: Scenario, number: int) -> int:
     """What a segment and its acknowledgement take where neither waits, in ns."""
     sizes = HEADER_BYTES + scenario.flows[number].mss, HEADER_BYTES
     return sum(-(-size * BITS_NS // scenario.links[link].rate) + scenario.links[link].delay
-               for size, way in zip(sizes, scenario.ways[number]) for link in way)
+               for size, path in zip(sizes, scenario.paths[number]) for link in path)
 
 
 def words_of(flow: Flow) -> dict:
@@ -51,8 +51,8 @@ def trip_text(scenario: Scenario, number: int) -> str:
 
 
 def flow_notes(scenario: Scenario, number: int, unlike: Sequence[str], trip: str | None) -> tuple[str, ...]:
-    """What is said of a flow below its name: its way, its round trip if that is not in the name, in what it is unlike others."""
-    return (way_text(scenario, number), *([trip] if trip else []), *unlike)
+    """What is said of a flow below its name: its path, its round trip if that is not in the name, in what it is unlike others."""
+    return (path_text(scenario, number), *([trip] if trip else []), *unlike)
 
 
 # ---- links
@@ -67,7 +67,7 @@ def carried(scenario: Scenario, number: int) -> str:
     """Of which flows a link carries the data, and of which the acknowledgements."""
     found = []
     for at, what in enumerate(('data', 'acks')):
-        names = [flow.name for flow, ways in zip(scenario.flows, scenario.ways) if number in ways[at]]
+        names = [flow.name for flow, paths in zip(scenario.flows, scenario.paths) if number in paths[at]]
         if names:
             found.append(f'{what} of ' + (', '.join(names) if len(names) <= MOST_FLOWS else f'{len(names)} flows'))
     return ' and '.join(found)
@@ -81,4 +81,4 @@ def link_note(scenario: Scenario, number: int) -> str:
 
 def only_acks(scenario: Scenario, number: int) -> tuple[int, ...]:
     """The flows of which a link carries the acknowledgements and no data."""
-    return tuple(flow for flow, (forth, back) in enumerate(scenario.ways) if number in back and number not in forth)
+    return tuple(flow for flow, (forth, back) in enumerate(scenario.paths) if number in back and number not in forth)

@@ -39,7 +39,7 @@ def about(scenario: Scenario) -> dict:
         'flows': [{'name': flow.name, 'sender': flow.sender, 'receiver': flow.receiver, 'mss': flow.mss,
                    'segments': flow.segments, 'start': flow.start, 'rwnd': flow.rwnd, 'delack': flow.delack}
                   for flow in scenario.flows],
-        'ways': [[list(there), list(back)] for there, back in scenario.ways]}
+        'ways': [[list(there), list(back)] for there, back in scenario.paths]}
 
 
 def for_script(value: object) -> str:

@@ -76,7 +76,7 @@ class Reader:
         for number, flow in enumerate(scenario.flows):
             self.at_node[flow.sender] = self.at_node[flow.receiver] = number
         self.hops: dict[tuple[int, int, int], LinkNow] = {}     # of a node, a flow and a sort its next link
-        for number, (there, back) in enumerate(scenario.ways):
+        for number, (there, back) in enumerate(scenario.paths):
             for sort, way in ((DATA, there), (ACK, back)):
                 for link in way:
                     self.hops[scenario.links[link].source, number, sort] = self.links[link]

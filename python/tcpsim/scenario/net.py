@@ -102,7 +102,7 @@ class Net:
         return len(self.flows) - 1
 
     def next_links(self, goal: int) -> dict[int, int]:
-        """For each other node the first link of a way of fewest hops to `goal` through routers."""
+        """For each other node the first link of a path of fewest hops to `goal` through routers."""
         into: list[list[int]] = [[] for _ in self.nodes]
         for number, link in enumerate(self.links):
             into[link.to].append(number)
@@ -117,20 +117,20 @@ class Net:
                         queue.append(source)
         return found
 
-    def way(self, start: int, goal: int) -> list[int]:
+    def path(self, start: int, goal: int) -> list[int]:
         """The links from one node to another."""
-        hops, way = self.next_links(goal), []
+        hops, path = self.next_links(goal), []
         while start != goal:
-            way.append(hops[start])
+            path.append(hops[start])
             start = self.links[hops[start]].to
-        return way
+        return path
 
     def routes(self, every: bool = False) -> list[tuple[int, int, int]]:
-        """(router, destination, link) of all flows' ways, rising; or of every router to every end."""
+        """(router, destination, link) of all flows' paths, rising; or of every router to every end."""
         routes = set()
         for flow in self.flows:
             for start, goal in ((flow.sender, flow.receiver), (flow.receiver, flow.sender)):
-                routes |= {(self.links[link].source, goal, link) for link in self.way(start, goal)[1:]}
+                routes |= {(self.links[link].source, goal, link) for link in self.path(start, goal)[1:]}
                 if every:
                     routes |= {(node, goal, link) for node, link in self.next_links(goal).items()
                                if self.nodes[node].kind == ROUTER}
@@ -175,9 +175,9 @@ class Net:
     def _greatest_packet(self) -> int:
         return max(flow.mss for flow in self.flows) + HEADER_BYTES
 
-    def ways(self) -> list[tuple[list[int], list[int]]]:
-        """The links of each flow's ways, there and back."""
-        return [(self.way(flow.sender, flow.receiver), self.way(flow.receiver, flow.sender)) for flow in self.flows]
+    def paths(self) -> list[tuple[list[int], list[int]]]:
+        """The links of each flow's paths, there and back."""
+        return [(self.path(flow.sender, flow.receiver), self.path(flow.receiver, flow.sender)) for flow in self.flows]
 
     def room(self, link: int) -> int:
         """How many packets a link's queue takes."""
@@ -189,13 +189,13 @@ class Net:
         wanted = [number for number, link in enumerate(self.links) if link.queue.is_product]
         if not wanted:
             return {}
-        ways = self.ways()
+        paths = self.paths()
         delays = [link.delay for link in self.links]
         products = {}
         for number in wanted:
             packets = self.links[number].queue.capacity.packets(
-                self.links[number].rate, units.round_trip(number, ways, delays), self._greatest_packet(),
-                units.flows_over(number, ways, self.flows))
+                self.links[number].rate, units.round_trip(number, paths, delays), self._greatest_packet(),
+                units.flows_over(number, paths, self.flows))
             products[number] = units.within('capacity', packets, 'the bandwidth-delay product of link '
                                             f'{self.links[number].name}, {packets:,} packets,')
         return products

@@ -1,4 +1,4 @@
-"""What tcpsim-net gives flows and links beside their ways: variants, initial windows, losses, the windows of NewReno flows,
+"""What tcpsim-net gives flows and links beside their paths: variants, initial windows, losses, the windows of NewReno flows,
 and small differences between flows. Windows are bytes, times ns.
 """
 from __future__ import annotations
@@ -72,17 +72,17 @@ def lose_packets(net: Net, given: Sequence[tuple[str, list[int]]]) -> None:
 
 
 def bound_windows(net: Net) -> Sequence[str]:
-    """Gives each newreno flow a receiver's window of 1.25 times what its way holds, and says so: lines of a comment.
+    """Gives each newreno flow a receiver's window of 1.25 times what its path holds, and says so: lines of a comment.
     In a long recovery an open window lets a NewReno sender send several times as much as that (docs/MODEL.md section 3)."""
     bounded, rooms = [flow for flow in net.flows if flow.variant == 'newreno' and flow.rwnd == OPEN_WINDOW], {}
     if not bounded:
         return ()
-    for flow, ways in zip(net.flows, net.ways()):
+    for flow, paths in zip(net.flows, net.paths()):
         if flow in bounded:
-            slowest = min(ways[0], key=lambda link: net.links[link].rate)       # the first where equal
+            slowest = min(paths[0], key=lambda link: net.links[link].rate)       # the first where equal
             if slowest not in rooms:
                 rooms[slowest] = net.room(slowest)
-            trip = sum(net.links[link].delay for way in ways for link in way)
+            trip = sum(net.links[link].delay for path in paths for link in path)
             flow.rwnd = bounded_window(flow, net.links[slowest].rate, trip, rooms[slowest])
             flow.note += ', a window of 1.25 x (BDP + queue)'
     return ('Receivers\' windows of newreno flows are 1.25 x (bandwidth-delay product + queue), as no --rwnd was given: with '
@@ -92,7 +92,7 @@ def bound_windows(net: Net) -> Sequence[str]:
 
 def bounded_window(flow: Flow, rate: int, trip: int, room: int) -> int:
     """1.25 times the segments of a bandwidth-delay product and a queue, in bytes: the rate is bit/s, the round trip ns,
-    the room packets. At least two segments more than these, so that there are losses on a short way too."""
+    the room packets. At least two segments more than these, so that there are losses on a short path too."""
     held = Fraction(rate * trip, (flow.mss + HEADER_BYTES) * units.BITS_NS) + room
     segments = max(ceil(WIDER * held), ceil(held) + 2)
     return min(segments * flow.mss, units.RANGES['rwnd'][1])
@@ -111,9 +111,9 @@ def spread(net: Net, number: int, end: int) -> Sequence[str]:
     """Has flows differ by small amounts that are drawn from a number, and says so: lines of a comment. The sender's cable is
     longer by up to a twentieth of the flow's round trip, a segment shorter by up to a tenth, and the flow starts later by
     up to a round trip."""
-    for flow, ways in zip(net.flows, net.ways()):
-        trip = sum(net.links[link].delay for way in ways for link in way)
-        net.links[ways[0][0]].delay += drawn(number, flow.name, 'delay', trip // PART_OF_TRIP)
+    for flow, paths in zip(net.flows, net.paths()):
+        trip = sum(net.links[link].delay for path in paths for link in path)
+        net.links[paths[0][0]].delay += drawn(number, flow.name, 'delay', trip // PART_OF_TRIP)
         flow.mss -= drawn(number, flow.name, 'segment', flow.mss // PART_OF_SEGMENT)
         flow.start = min(flow.start + drawn(number, flow.name, 'start', trip), end - 1)
         flow.note += f', spread by {number}'

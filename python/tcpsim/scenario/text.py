@@ -1,4 +1,4 @@
-"""A scenario's text, read: its nodes, links and flows, and each flow's ways. Times are nanoseconds, sizes bytes, rates
+"""A scenario's text, read: its nodes, links and flows, and each flow's paths. Times are nanoseconds, sizes bytes, rates
 bit/s. Nothing but Python's standard library.
 """
 from __future__ import annotations
@@ -36,11 +36,11 @@ WAY, ASKS = operator.attrgetter('rate', 'delay'), operator.attrgetter('mss', 'rw
 
 
 class Scenario:
-    """A scenario that the program has taken: names and numbers, and each flow's two ways."""
+    """A scenario that the program has taken: names and numbers, and each flow's two paths."""
 
     def __init__(self, text: str):
         self.text = text
-        self.kept: dict[tuple, Any] = {}        # by whoever found it: what was found out from ways, rates, delays, segments and windows alone
+        self.kept: dict[tuple, Any] = {}        # by whoever found it: what was found out from paths, rates, delays, segments and windows alone
         self.end = -1
         self.nodes: list[Node] = []
         self.links: list[Link] = []
@@ -62,7 +62,7 @@ class Scenario:
             raise WrongScenario('the scenario has no `sim` or no flow')
         self.leaves = [[n for n, link in enumerate(self.links) if link.source == node]
                        for node in range(len(self.nodes))]
-        self.ways = [(self._way(f.sender, f.receiver), self._way(f.receiver, f.sender))
+        self.paths = [(self._path(f.sender, f.receiver), self._path(f.receiver, f.sender))
                      for f in self.flows]
 
     def _declare(self, name: str, entries: list[T], entry: T) -> None:
@@ -140,13 +140,13 @@ class Scenario:
             return self.routes.get((node, to))
         return self.leaves[node][0] if self.leaves[node] else None
 
-    def _way(self, node: int, to: int) -> list[int]:
-        """The links of a way, in order."""
-        way: list[int] = []
+    def _path(self, node: int, to: int) -> list[int]:
+        """The links of a path, in order."""
+        path: list[int] = []
         while node != to:
             link = self.hop(node, to) if node < len(self.nodes) else None
-            if link is None or link in way:
+            if link is None or link in path:
                 raise WrongScenario('the scenario has a flow whose way does not come to its end')
-            way.append(link)
+            path.append(link)
             node = self.links[link].to
-        return way
+        return path

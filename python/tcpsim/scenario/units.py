@@ -222,18 +222,18 @@ def warn_of_order(queues: Sequence[Queue]) -> None:
     warnings.warn(f'{doubtful[0]}{more} has a target above its interval: the order is codel:TARGET:INTERVAL', stacklevel=level)
 
 
-def round_trip(link: int, ways: Sequence[tuple[Sequence[int], Sequence[int]]], delays: Sequence[int]) -> int:
+def round_trip(link: int, paths: Sequence[tuple[Sequence[int], Sequence[int]]], delays: Sequence[int]) -> int:
     """The mean round trip, of delays alone, of the flows whose data goes over a link, or of those whose
-    acknowledgements do where no data does; 0 where nothing does. `ways` are each flow's links there and back."""
+    acknowledgements do where no data does; 0 where nothing does. `paths` are each flow's links there and back."""
     for sort in (0, 1):
-        trips = [sum(delays[n] for way in both for n in way) for both in ways if link in both[sort]]
+        trips = [sum(delays[n] for path in both for n in path) for both in paths if link in both[sort]]
         if trips:
             return sum(trips) // len(trips)
     return 0
 
 
-def flows_over(link: int, ways: Sequence[tuple[Sequence[int], Sequence[int]]], flows: Sequence) -> int:
-    """How many flows have their data go over a link, or where none has, their acknowledgements. `ways` are each flow's. Mice, which have
+def flows_over(link: int, paths: Sequence[tuple[Sequence[int], Sequence[int]]], flows: Sequence) -> int:
+    """How many flows have their data go over a link, or where none has, their acknowledgements. `paths` are each flow's. Mice, which have
     one segment in flight, are not counted."""
-    many = [both for both, flow in zip(ways, flows) if flow.rwnd >= 2 * flow.mss]
+    many = [both for both, flow in zip(paths, flows) if flow.rwnd >= 2 * flow.mss]
     return next(filter(None, (sum(link in both[sort] for both in many) for sort in (0, 1))), 0)

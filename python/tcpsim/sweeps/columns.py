@@ -91,7 +91,7 @@ def data_lost(run: Figures, number: int) -> int:
 
 def share_of(run: Figures, number: int) -> float:
     """The part of its bottleneck's bytes that a flow of a trace had."""
-    links = [run.links[link] for link in run.scenario.ways[number][0]]
+    links = [run.links[link] for link in run.scenario.paths[number][0]]
     busiest = max(links, key=lambda link: link.sending(run.end))
     return busiest.bytes_of(number) / (sum(n * stream.size for stream, n in busiest.count.items()) or 1)
 

@@ -196,14 +196,14 @@ def greatest_packet(lines: list[str]) -> int:
 
 
 def packets_of(products: Products, text: str, name: str, packet: int) -> int:
-    """What a capacity is in packets of so many bytes, at a link of a text; 1 in a text that has no ways."""
+    """What a capacity is in packets of so many bytes, at a link of a text; 1 in a text that has no paths."""
     try:
         read = Scenario(text)
     except Unreadable:
         return 1
     number = [link.name for link in read.links].index(name)
-    trip = units.round_trip(number, read.ways, [link.delay for link in read.links])
-    return products.packets(read.links[number].rate, trip, packet, units.flows_over(number, read.ways, read.flows))
+    trip = units.round_trip(number, read.paths, [link.delay for link in read.links])
+    return products.packets(read.links[number].rate, trip, packet, units.flows_over(number, read.paths, read.flows))
 
 
 def setting(word: str, pattern: Pattern, option: str = '--set') -> Setting:

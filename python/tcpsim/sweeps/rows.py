@@ -244,9 +244,9 @@ def link_of(run: Figures | EngineRun, name: str | None) -> int:
     """The link of this name, else the one of the flows' data that is busiest, the first where equal."""
     if name is not None:
         return [link.name for link in run.scenario.links].index(name)
-    ways = sorted({number for there, _ in run.scenario.ways for number in there})
-    used = {number: used_of(run, number) for number in ways}
-    return max(ways, key=lambda number: -1. if (part := used[number]) is None else part)
+    paths = sorted({number for there, _ in run.scenario.paths for number in there})
+    used = {number: used_of(run, number) for number in paths}
+    return max(paths, key=lambda number: -1. if (part := used[number]) is None else part)
 
 
 def thirds_by(text: str, asked: AskedOfRun, bench: Bench) -> Thirds | None:

@@ -21,7 +21,7 @@ class FlowRun(FlowState):
         self.times, self.cwnd, self.ssthresh, self.flight = (array('q') for _ in range(4))
         self.una_times, self.una = array('q'), array('q')       # where una rose
         self.next_times, self.next = array('q'), array('q')     # where the receiver's next byte rose
-        self.alarm_times, self.alarms = array('q'), array('q')  # where it acknowledged what it had held back
+        self.delack_times, self.delacks = array('q'), array('q')  # where it acknowledged what it had held back
         self.sent_times, self.sent = array('q'), array('q')     # segments sent for the first time
         self.again_times, self.again = array('q'), array('q')   # segments sent again
         self.by_fast_retransmit = self.by_timeout = 0
@@ -60,10 +60,10 @@ class FlowRun(FlowState):
         self.next_times.append(time)
         self.next.append(self.expected)
 
-    def on_alarm(self, time: int) -> None:
+    def on_delack(self, time: int) -> None:
         """Keeps an acknowledgement that was held back until its timer ended."""
-        self.alarm_times.append(time)
-        self.alarms.append(self.expected)
+        self.delack_times.append(time)
+        self.delacks.append(self.expected)
 
     def on_timeout(self, time: int) -> None:
         """Keeps the moment of a timeout."""

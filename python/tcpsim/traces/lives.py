@@ -62,7 +62,7 @@ class Packet:
         self.text = flow.begin + self.word                      # as an act of the trace names it
         self.offered, self.line, self.why = offered, line, why  # by its end: when, in which line, why
         self.since: int | None = None   # an acknowledgement's: since when the segment that it answers waited
-        self.hop = flow.ways[sort]      # where it is
+        self.hop = flow.paths[sort]     # where it is
         self.fate: str | None = None    # `CAME` to its end or why it was dropped; None in the net
         self.waited = False             # whether it was dropped out of a queue
         self.asked: int | None = None   # a segment's: what the receiver asked for when it came, its next byte
@@ -90,7 +90,7 @@ class Port:
     def __init__(self, number: int, link: Link, place: int, kind: str):
         self.number, self.link, self.capacity, self.delay = number, link, link.capacity, link.delay
         self.tx = f'tx={number}:'
-        self.node, self.alarm = str(link.source), str(3 + place)    # in the key of a line `free l`
+        self.node, self.timer = str(link.source), str(3 + place)    # in the key of a line `free l`
         self.acts = 7 + STATE_WORDS[kind]               # where they begin in a line `free l`
         self.to, self.source = str(link.to), str(number + 1)    # in the key of an arrival
         self.waiting: deque[Packet] = deque()
@@ -102,14 +102,14 @@ class Port:
 class FlowState:
     """Both ends of a flow, as the lines so far leave them."""
 
-    def __init__(self, number: int, flow: Flow, ways: tuple[list[int], list[int]], ports: list[Port]):
+    def __init__(self, number: int, flow: Flow, paths: tuple[list[int], list[int]], ports: list[Port]):
         self.number, self.flow, self.word, self.begin = number, flow, str(number), f'{number}:'
         self.mss, self.total = flow.mss, flow.mss * flow.segments
-        forth, back = ([ports[link] for link in links] for links in ways)
-        self.ways = {DATA: way(forth, HEADER_BYTES + flow.mss, 'data', self.word),
-                     ACK: way(back, HEADER_BYTES, 'ack', self.word)}
+        forth, back = ([ports[link] for link in links] for links in paths)
+        self.paths = {DATA: first_hop(forth, HEADER_BYTES + flow.mss, 'data', self.word),
+                     ACK: first_hop(back, HEADER_BYTES, 'ack', self.word)}
         sender, receiver = str(flow.sender), str(flow.receiver)
-        self.alarms = {'start': [sender, '0', '0'], 'rto': [sender, '0', '1'], 'delack': [receiver, '0', '2']}
+        self.timers = {'start': [sender, '0', '0'], 'rto': [sender, '0', '1'], 'delack': [receiver, '0', '2']}
         # the sender
         self.una = self.nxt = self.high = self.dups = 0
         self.recovering, self.phase = False, ''     # `phase`: the word of the sender's last line
@@ -128,15 +128,15 @@ class FlowState:
         self.waits_since: int | None = None     # since when
 
     def hops(self) -> Iterator[Hop]:
-        """All hops, of both ways."""
-        for first in self.ways.values():
+        """All hops, of both paths."""
+        for first in self.paths.values():
             hop: Hop | None = first
             while hop is not None:
                 yield hop
                 hop = hop.next
 
     def due(self, kind: str) -> int | None:
-        """When an alarm is to come, or None."""
+        """When a timer is due, or None."""
         if kind == 'delack':
             return None if self.waits_since is None else self.waits_since + self.flow.delack
         return self.flow.start if kind == 'start' else self.deadline
@@ -206,8 +206,8 @@ def after_sample(srtt: int | None, rttvar: int, trip: int) -> tuple[int, int, in
     return srtt, rttvar, min(max(srtt + max(1, 4 * rttvar), LEAST_RTO), MOST_RTO)
 
 
-def way(ports: list[Port], size: int, kind: str, flow: str) -> Hop:
-    """The first hop of a way over these ports, for packets of this size."""
+def first_hop(ports: list[Port], size: int, kind: str, flow: str) -> Hop:
+    """The first hop of a path over these ports, for packets of this size."""
     hop = None
     for port in reversed(ports):
         hop = Hop(port, -(-size * BITS_NS // port.link.rate), kind, flow, hop)

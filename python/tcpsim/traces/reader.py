@@ -74,7 +74,7 @@ class FlowState:
     def on_received(self, time: int) -> None:
         """Told that `expected` rose."""
 
-    def on_alarm(self, time: int) -> None:
+    def on_delack(self, time: int) -> None:
         """Told that the receiver acknowledges `expected`, which it had held back."""
 
     def on_window(self, time: int, cwnd: str, ssthresh: str, flight: int) -> None:
@@ -307,10 +307,10 @@ class Reader(OwnQueues):
             raise ValueError('another packet is the next to arrive')
 
     def _end_line(self, flow: FlowState, node: str, kind: str, words: list[str], time: int) -> tuple[LinkState, int]:
-        """A line of a flow's end that is no segment: at its sender, or of its receiver's alarm."""
+        """A line of a flow's end that is no segment: at its sender, or of its receiver's delayed acknowledgement."""
         if kind == 'delack' and node == flow.receiver and flow.answer_waits and time == flow.answer_due:
             flow.answers(None, int(words[7][5:]), time)
-            flow.on_alarm(time)
+            flow.on_delack(time)
             return flow.back_link, self._offer(flow.back_link, f'{flow.text}{flow.expected}', flow.acks, words, 8, time)
         if node != flow.sender or kind not in ('ack', 'start', 'rto'):
             raise ValueError('no event of this node')

@@ -32,7 +32,7 @@ class Walk:
         places = {link: place for links in scenario.leaves for place, link in enumerate(links)}
         self.ports = [Port(number, link, places[number], scenario.nodes[link.source].kind)
                       for number, link in enumerate(scenario.links)]
-        self.flows = [FlowState(number, flow, scenario.ways[number], self.ports)
+        self.flows = [FlowState(number, flow, scenario.paths[number], self.ports)
                       for number, flow in enumerate(scenario.flows)]
         self._flow = {flow.word: flow for flow in self.flows}
         self._port = {str(port.number): port for port in self.ports}
@@ -72,7 +72,7 @@ class Walk:
                 elif kind == 'data' or kind == 'ack':
                     at = self._arrival(words)
                 else:
-                    at = self._alarm(words, kind)
+                    at = self._timer(words, kind)
                 if at != len(words):
                     raise ValueError('a packet is named that nothing offered')
             for self.line, line in numbered:
@@ -106,7 +106,7 @@ class Walk:
     def _free(self, words: list[str]) -> int:
         port = self._port[words[6]]
         packet = port.sending
-        if packet is None or self.time != port.free_at or words[4] != port.alarm or words[2] != port.node or words[3] != '0':
+        if packet is None or self.time != port.free_at or words[4] != port.timer or words[2] != port.node or words[3] != '0':
             raise ValueError('that link does not become free now')
         port.sending = None
         port.flight.append(packet)
@@ -131,10 +131,10 @@ class Walk:
         packet.end(CAME, self.time, self.line)
         return (self._receiver if packet.sort == DATA else self._sender)(packet.flow, words[5], packet, words, 8)
 
-    def _alarm(self, words: list[str], kind: str) -> int:
+    def _timer(self, words: list[str], kind: str) -> int:
         flow = self._flow[words[6]]
-        if words[2:5] != flow.alarms[kind] or self.time != flow.due(kind):
-            raise ValueError('that node has no such alarm now')
+        if words[2:5] != flow.timers[kind] or self.time != flow.due(kind):
+            raise ValueError('that node has no such timer now')
         return (self._receiver if kind == 'delack' else self._sender)(flow, kind, None, words, 7)
 
     # ---- offering to a link and taking from its queue; `words[at]` is the first act that is not yet used
@@ -312,7 +312,7 @@ class Walk:
         return at
 
     def _answer(self, flow: FlowState, segment: Packet | None) -> Packet:
-        """The acknowledgement that the receiver sends now: to a segment, or at its alarm."""
+        """The acknowledgement that the receiver sends now: to a segment, or at its timer."""
         answer = Packet(flow, ACK, flow.next, self.time, self.line, ALARM if segment is None else AT_ONCE)
         of = segment or flow.waits
         if of is None:
