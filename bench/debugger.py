@@ -10,7 +10,6 @@ have yet is left out of its table. Instructions are counted where valgrind is in
 """
 import os
 import re
-import select
 import shutil
 import subprocess
 import sys
@@ -19,10 +18,9 @@ from collections import namedtuple
 
 from results import BENCH, CALLGRIND, ENVIRONMENT, PROGRAM, at_priority, instructions, made, number, resident, table, within, words_of
 from scenarios import EVER, GBIT, MBIT, MS, MSS, RECEIVER, ROUTER, SCENARIOS, SENDER, US, Net, droptail, four_groups, islands, path_of, two_ends, under_way
+from tcpsim.prompt import Prompt
 
 PAGE = os.path.join(BENCH, 'DEBUGGER.md')
-PROMPT = b'(tcpsim) '
-LONGEST = 600                   # seconds that an answer may take
 PLACE, STRETCH = 900_000, 100_000   # the line to which `reverse` goes, and how many events behind it it is typed
 ANSWER, BACK, DUMP = 0.050, 0.5, 0.020   # seconds: an answer, `reverse`, a dump
 STALL = 1.15                    # times the time of a breakpoint on timeouts
@@ -32,55 +30,34 @@ SAVED = 64 * 2**20              # bytes of checkpoints
 Timed = namedtuple('Timed', 'mean longest')
 
 
-class Session:
+class Session(Prompt):
     """A session at a prompt, into which lines are typed."""
 
     def __init__(self, path, *options, before=()):
-        self.program = subprocess.Popen([*before, PROGRAM, 'debug', path, *options], stdin=subprocess.PIPE, stdout=subprocess.PIPE,
-                                        stderr=subprocess.PIPE, bufsize=0, env=ENVIRONMENT)
-        self.out, self.notes = self.program.stdout.fileno(), self.program.stderr.fileno()
-        self.answered()
+        with open(path, 'rb') as scenario:
+            super().__init__([*before, PROGRAM, 'debug', *options], scenario.read())
+        self.ready()
 
     def __enter__(self):
         return self
 
     def __exit__(self, *_):
-        self.program.stdin.close()
-        status = self.program.wait()
-        assert status == 0, f'the session ended with status {status}'
-
-    def answered(self):
-        """What is written up to the next prompt, and what is noted."""
-        answer, noted = b'', b''
-        while not noted.endswith(PROMPT):
-            ready, _, _ = select.select([self.out, self.notes], [], [], LONGEST)
-            assert ready, 'no answer'
-            if self.out in ready:
-                answer += os.read(self.out, 1 << 20)
-            elif piece := os.read(self.notes, 1 << 16):
-                noted += piece
-            else:
-                sys.exit(f'the session has ended: {noted.decode()}')
-        while select.select([self.out], [], [], 0)[0]:
-            answer += os.read(self.out, 1 << 20)
-        return answer.decode(), noted.removesuffix(PROMPT).decode()
+        self.end()
 
     def timed(self, line):
         """The answer to a line, and the seconds until the next prompt. It may not be refused."""
         begin = time.perf_counter()
-        self.program.stdin.write(line.encode() + b'\n')
-        answer, noted = self.answered()
+        answer = self.ask(line)
         took = time.perf_counter() - begin
-        assert not noted, f'{line}: {noted}'
-        return answer, took
+        assert not answer.note, f'{line}: {answer.note}'
+        return answer.text, took
 
     def type(self, line):
         return self.timed(line)[0]
 
     def knows(self, line):
         """Whether a line is one of the program's; it is answered then."""
-        self.program.stdin.write(line.encode() + b'\n')
-        return not self.answered()[1]
+        return not self.ask(line).note
 
 
 def position(answer):
@@ -155,7 +132,7 @@ def answers(path, rounds, before):
             answer, took = session.timed('reverse')
             assert position(answer) == first, answer
             back.append(took)
-        memory = resident(session.program)
+        memory = resident(session.process)
     return first, {line: min(times) for line, times in found.items()}, min(back), memory
 
 
@@ -209,7 +186,7 @@ def crowded(before):
     path = path_of('under_way_100000', SCENARIOS['under_way_100000']())
     with Session(path, before=before) as session:
         session.type('run')
-        kept = resident(session.program)
+        kept = resident(session.process)
     process = subprocess.Popen([PROGRAM, 'run', path], stdout=subprocess.PIPE, env=ENVIRONMENT)
     plain = 0
     while process.stdout.read1(1 << 16):

@@ -30,6 +30,7 @@ import shutil
 import signal
 import subprocess
 import sys
+import tempfile
 import time
 
 TOP = os.path.dirname(os.path.dirname(os.path.abspath(__file__)))
@@ -39,6 +40,7 @@ MADE = f"{TOP}/crates/{PROGRAM}/out/{PROGRAM}"
 # The program's LLVM module, and what says of which proof and which program it is.
 MODULE, RECORD = f"{MADE}.bc", f"{MADE}.module"
 PARTS = ("src", "specs", "proofs")
+ENDS = signal.SIGINT, signal.SIGTERM, signal.SIGHUP     # the signals that ask a script to end
 # What one of the prover's processes may take, in bytes.
 JOB_MEMORY = 2_500_000_000
 # How often it says how far it is where nothing else is said, in seconds.
@@ -426,6 +428,25 @@ def take_from_the_gate(crates, libraries):
             it.mark_as_kept()
 
 
+@contextlib.contextmanager
+def room(prefix, end=lambda: None):
+    """A temporary folder, which goes however the script is ended; before it goes, `end` is called."""
+    def stop(number, _):
+        sys.exit(128 + number)
+
+    ends = [it for it in ENDS if signal.getsignal(it) is not signal.SIG_IGN]
+    for number in ends:
+        signal.signal(number, stop)
+    folder = tempfile.mkdtemp(prefix=prefix)
+    try:
+        yield folder
+    finally:
+        for number in ends:
+            signal.signal(number, signal.SIG_IGN)
+        end()
+        shutil.rmtree(folder, ignore_errors=True)
+
+
 def end_with_signals(crates):
     """Where this script is ended, so are the provers of the crates."""
     def stop(number, _):
@@ -433,7 +454,7 @@ def end_with_signals(crates):
             it.stop()
         os._exit(128 + number)
 
-    for it in (signal.SIGINT, signal.SIGTERM, signal.SIGHUP):
+    for it in ENDS:
         signal.signal(it, stop)
 
 

@@ -29,7 +29,6 @@ import shutil
 import signal
 import subprocess
 import sys
-import tempfile
 import threading
 import time
 
@@ -46,7 +45,6 @@ UNREAD = re.compile('is not in scope|has no field|is no name|operand is missing|
 REFUSED = 'refused, as it must be'
 # How long --due tries mutants, and how long after the beginning of `make test` it may begin to, in seconds.
 TRYING, LATEST = 20 * 60, 130 * 60
-ENDS = (signal.SIGINT, signal.SIGTERM, signal.SIGHUP)
 
 
 # ---- whether an edit can be applied
@@ -151,25 +149,6 @@ class Provers:
                     os.killpg(prover.pid, signal.SIGKILL)
 
 
-@contextlib.contextmanager
-def room(provers):
-    """A temporary folder, which goes however this script is ended, as the provers do."""
-    def end(number, _):
-        sys.exit(128 + number)
-
-    for number in ENDS:
-        if signal.getsignal(number) is not signal.SIG_IGN:
-            signal.signal(number, end)
-    folder = tempfile.mkdtemp(prefix='mutants-')
-    try:
-        yield folder
-    finally:
-        for number in ENDS:
-            signal.signal(number, signal.SIG_IGN)
-        provers.end()
-        shutil.rmtree(folder, ignore_errors=True)
-
-
 def verdict(status, lines, changed):
     """What a check of an edited crate says of the edit, which changed these files."""
     for line in lines:
@@ -230,7 +209,7 @@ def try_all(names, provers):
     kit, libraries = build.toolchain(), build.declared()
     sums = build.sums_of(libraries, kit, libraries)
     refused, failed, left = {}, 0, []
-    with room(provers) as place, concurrent.futures.ThreadPoolExecutor(build.jobs_at_once(0)) as pool:
+    with build.room('mutants-', provers.end) as place, concurrent.futures.ThreadPoolExecutor(build.jobs_at_once(0)) as pool:
         running = {}
         for name in names:
             below = build.places_below(name, libraries, sums)

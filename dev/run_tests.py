@@ -18,11 +18,9 @@ import contextlib
 import glob
 import os
 import resource
-import shutil
 import signal
 import subprocess
 import sys
-import tempfile
 import time
 
 import build
@@ -107,25 +105,6 @@ class Test:
         print(f'== {self.name}: {how} ({took})\n{self.said()}', end='', flush=True)
 
 
-@contextlib.contextmanager
-def room():
-    """A temporary folder, which goes however this script is ended."""
-    def end(number, _):
-        sys.exit(128 + number)
-
-    ends = [it for it in (signal.SIGINT, signal.SIGTERM, signal.SIGHUP) if signal.getsignal(it) is not signal.SIG_IGN]
-    for number in ends:
-        signal.signal(number, end)
-    folder = tempfile.mkdtemp(prefix='run-tests-')
-    os.chmod(folder, 0o711)         # a test that is run as nobody comes through it
-    try:
-        yield folder
-    finally:
-        for number in ends:
-            signal.signal(number, signal.SIG_IGN)
-        shutil.rmtree(folder, ignore_errors=True)
-
-
 def run(tests, jobs):
     """Runs the tests, so many at once, and tells of each once those before it were told; answers those that failed."""
     rank = {name: at for at, name in enumerate(LONG)}
@@ -162,7 +141,8 @@ def main():
     python = sys.executable if words.python is None else words.python
     names = words.names or all_tests()
     gone = [it for it in names if not python and it.endswith('.py')]
-    with room() as folder:
+    with build.room('run-tests-') as folder:
+        os.chmod(folder, 0o711)         # a test that is run as nobody comes through it
         tests = [Test(it, python or sys.executable, folder) for it in names if it not in gone]
         first = run(tests, max(1, words.jobs))
         alone = os.path.join(folder, 'alone')

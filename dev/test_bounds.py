@@ -185,13 +185,6 @@ def number_table():
             yield name, 1000 if least == 'MSS' else int(least.replace(',', '')), int(greatest.replace(',', ''))
 
 
-def placed(name, value):
-    """The text with the number in its place, and the line in which it stands."""
-    line, statement = PLACES[name]
-    text = LATEST if name == 'START' else CANONICAL
-    return replaced(text, line, statement.format(value)), line
-
-
 def test_the_page_has_every_number():
     assert [name for name, _, _ in number_table()] == list(PLACES)
 
@@ -200,7 +193,8 @@ def test_numbers_of_texts():
     cases = []
     for name, least, greatest in number_table():
         for value in {least - 1, least, greatest, greatest + 1} - {-1}:
-            text, line = placed(name, value)
+            line, statement = PLACES[name]
+            text = replaced(LATEST if name == 'START' else CANONICAL, line, statement.format(value))
             wanted = Answer(0, text, '') if least <= value <= greatest else refused(f'E5 line {line}')
             cases.append(((name, value), ('dis',), text, wanted))
     assert len(cases) == 4 * len(PLACES) - 2
@@ -388,10 +382,6 @@ WRITE_ERRORS = (EIO, EINTR, ENOMEM, ENOSPC, EPIPE, 0)
 READ_ERRORS = (EIO, EINTR, ENOMEM)
 
 
-def calls_for(size):
-    return -(-size // MOST_A_CALL)
-
-
 class Ends:
     """A reader and a writer that take three bytes a call, and fail at one of them; asked again they would go on."""
 
@@ -440,7 +430,7 @@ class Ends:
         assert sum(took) == len(out)
         if words[0] != 'debug' and not {'--groups', '--every'} & set(words):
             assert took[:-1] == [MOST_A_CALL] * (len(took) - 1)
-        assert reads == (calls_for(len(data)) + 1 if data else 0)
+        assert reads == (-(-len(data) // MOST_A_CALL) + 1 if data else 0)
         return reads, took
 
 

@@ -202,11 +202,8 @@ class Figures(Reader):
         else:
             self._start()
         ended = len(self._delivered) + 1
-        return self._stop if ended == PORTIONS else min(self._stop, self.begin + ended * (self._last_moment() - self.begin) // PORTIONS)
-
-    def _last_moment(self) -> int:
-        """The span's end where flows go on to it."""
-        return min(self._stop, self.scenario.end)
+        last = min(self._stop, self.scenario.end)       # the span's end where flows go on to it
+        return self._stop if ended == PORTIONS else min(self._stop, self.begin + ended * (last - self.begin) // PORTIONS)
 
     def portions(self) -> list[list[int]]:
         """What each flow delivered in each of the span's PORTIONS; of a span that ends with the last flow less."""

@@ -125,9 +125,14 @@ class Terminal:
         """The status, once the session has ended by these keys; nobody is left."""
         left = children(self.child.pid)
         self.type(keys)
+        status = self.ended()
+        until(lambda: not any(map(is_running, left)), 'something runs on')
+        return status
+
+    def ended(self):
+        """The status of a session that ends by itself."""
         self.child.expect_exact(pexpect.EOF)
         self.child.close()
-        until(lambda: not any(map(is_running, left)), 'something runs on')
         return self.child.exitstatus
 
 
@@ -265,9 +270,7 @@ def test_groups_go_to_the_program(terminal, begun):
     assert session.ask('run') == at_once(TWO, 'run')[0]
     session = terminal('--groups', '0', TWO)
     session.child.expect_exact('refused groups')
-    session.child.expect_exact(pexpect.EOF)
-    session.child.close()
-    assert session.child.exitstatus == 2
+    assert session.ended() == 2
 
 
 def test_an_image(begun, tmp_path):
@@ -298,16 +301,11 @@ def test_ctrl_c_ends_a_move_and_keeps_the_session(begun, long):
         assert {line: session.ask(line) for line in kept} == kept
     # The last move again is that before what was ended, which the new process has not seen.
     session.ask('clear')
-    assert session.ask('step 2').endswith(f'at {position + 2} of the run, ' + moved_time(session))
+    assert session.ask('step 2').endswith(f'at {position + 2} of the run, time {session.ask("lines 1").split()[1]} ns\n')
     session.interrupt('until 1000000s')
     assert f'\nat {position + 4} of the run' in session.ask('')
     assert f'\nat {position + 6} of the run' in session.ask('')
     assert session.end() == 0
-
-
-def moved_time(session):
-    """The end of a move's line, as the last line of the trace has it."""
-    return f'time {session.ask("lines 1").split()[1]} ns\n'
 
 
 def test_ctrl_c_comes_again_and_again(begun, long):
@@ -418,9 +416,7 @@ def test_a_program_that_is_killed_is_started_again(begun):
     ('printf "(tcpsim) " >&2; read line; echo read failed >&2; exit 3', 3, 'read failed')])
 def test_a_program_that_ends(terminal, put, does, status, said):
     session = terminal('--program', put('dies', f'#!/bin/sh\n{does}\n', 0o700), TWO)
-    session.child.expect_exact(pexpect.EOF)
-    session.child.close()
-    assert (session.child.exitstatus, said in session.child.before, 'Traceback' in session.child.before) == (status, True, False)
+    assert (session.ended(), said in session.child.before, 'Traceback' in session.child.before) == (status, True, False)
 
 
 @pytest.mark.parametrize('number, status', [(signal.SIGTERM, 143), (signal.SIGHUP, 129), (signal.SIGKILL, None)])
@@ -431,9 +427,7 @@ def test_nobody_is_left_where_it_is_ended(begun, long, number, status):
         if busy:
             session.begin_long('run')
         session.child.kill(number)
-        session.child.expect_exact(pexpect.EOF)
-        session.child.close()
-        assert session.child.exitstatus == status
+        assert session.ended() == status
         until(lambda: not is_running(program), 'the program runs on')
 
 
@@ -441,12 +435,8 @@ def test_nobody_is_left_where_it_is_ended(begun, long, number, status):
 
 def test_a_refused_scenario(terminal, put):
     session = terminal(put('wrong.txt', 'sim 01\n'))
-    session.child.expect_exact(pexpect.EOF)
-    session.child.close()
-    assert session.child.exitstatus == 1
-    told = session.child.before.splitlines()
-    assert told[0] == 'refused E4 line 1'
-    assert told[1:3] == ['sim 01', '    ^^']
+    assert session.ended() == 1
+    assert session.child.before.splitlines()[:3] == ['refused E4 line 1', 'sim 01', '    ^^']
 
 
 def test_words_that_are_refused(put):
@@ -459,9 +449,7 @@ def test_words_that_are_refused(put):
 def test_a_file_that_is_not_there(terminal):
     session = terminal('/not/there')
     session.child.expect_exact('tcpsim-debug: /not/there: No such file or directory')
-    session.child.expect_exact(pexpect.EOF)
-    session.child.close()
-    assert session.child.exitstatus == 2
+    assert session.ended() == 2
 
 
 # ---- without a terminal

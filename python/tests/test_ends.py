@@ -48,16 +48,6 @@ def to_broken_link(path):
     path.symlink_to('target')
 
 
-def to_device(path):
-    """A device like /dev/null, of our own: a tool that puts a file in its place harms nobody."""
-    os.mknod(path, 0o666 | stat.S_IFCHR, os.makedev(1, 3))
-
-
-def to_others(path):
-    to_old(path)
-    os.chown(path, NOBODY, NOBODY)
-
-
 @pytest.mark.parametrize('tool', TOOLS)
 @pytest.mark.parametrize('make, mode', [(to_nothing, 0o640), (to_old, 0o644), (to_private, 0o600), (to_link, 0o600),
                                         (to_broken_link, 0o640)])
@@ -79,7 +69,7 @@ def test_file(tool, make, mode, place):
 @pytest.mark.parametrize('tool', TOOLS)
 def test_device(tool, place):
     path = target(place, tool)
-    to_device(path)
+    os.mknod(path, 0o666 | stat.S_IFCHR, os.makedev(1, 3))      # as /dev/null, of our own: a tool that replaces it harms nobody
     done = run(tool, *words(tool), '-o', path, cwd=place)
     assert done.returncode == 0, done.stderr
     assert stat.S_ISCHR(path.lstat().st_mode) and path.lstat().st_rdev == os.makedev(1, 3)
@@ -107,7 +97,8 @@ def test_fifo(tool, place):
 def test_others(tool, place):
     """Another's file stays another's."""
     path = target(place, tool)
-    to_others(path)
+    to_old(path)
+    os.chown(path, NOBODY, NOBODY)
     done = run(tool, *words(tool), '-o', path, cwd=place)
     assert done.returncode == 0, done.stderr
     assert path.read_bytes() == whole(tool)

@@ -107,10 +107,6 @@ GRID = [*itertools.product((2, 5, 10, 20, 50), (20, 50, 100, 200), (1, 2))]
 SHORT, LONG = (2, 20, 1), 200
 
 
-def least_used(rate, trip, times):
-    return 0.88 if (rate, trip, times) == SHORT or trip == LONG else 0.93
-
-
 @pytest.mark.skipif(len(PROGRAM) > 1, reason='the model is too slow for a minute of 50 Mbit/s')
 @pytest.mark.parametrize('rate, trip, times', GRID)
 def test_a_newreno_flow_uses_its_link_and_has_losses(rate, trip, times):
@@ -118,7 +114,7 @@ def test_a_newreno_flow_uses_its_link_and_has_losses(rate, trip, times):
     run = engine(text_of(f'dumbbell --flows 1 --rate {rate}M --rtt {trip}ms --queue droptail:{queue} --variant newreno '
                          f'--end {MINUTE}'))
     assert run.links[0]['dropped as full', 'packets'] > 0
-    assert run.over_span(0, ('busy', 'ns')) >= least_used(rate, trip, times)
+    assert run.over_span(0, ('busy', 'ns')) >= (0.88 if (rate, trip, times) == SHORT or trip == LONG else 0.93)
     assert run.flows[0]['timeouts', 'times'] <= 1
 
 

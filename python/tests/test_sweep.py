@@ -283,7 +283,7 @@ def test_outputs_and_pictures():
         script, *words = shlex.split(line.replace('\\\n', '').replace('/tmp/', DIR.name + '/'))
         if '--skip' in words and format_of(PROGRAM) < FROM or 'tcpsim-find' in script and PROGRAM == clone.MODEL:
             continue            # the latter would take the model some minutes
-        if '--plot' in words and not has_matplotlib():
+        if '--plot' in words and not importlib.util.find_spec('matplotlib'):
             del words[words.index('--plot'):]
         done = tool(*words, script=script, cwd=TOP)
         assert (done.returncode, done.stdout) == (0, output)
@@ -296,10 +296,6 @@ def plot_sweep():
     """What draws a sweep, where matplotlib is there."""
     from tcpsim.plot import sweep as drawn
     return drawn
-
-
-def has_matplotlib():
-    return importlib.util.find_spec('matplotlib') is not None
 
 
 def description(svg):

@@ -17,21 +17,17 @@ import tempfile
 import pytest
 
 pytest.importorskip('hypothesis', reason='no hypothesis: apt-get install python3-hypothesis')
-from hypothesis import HealthCheck, given, settings, strategies as st  # noqa: E402
+from hypothesis import given, strategies as st  # noqa: E402
 
 from clone import BIN, PATIENCE, PROGRAM, tool, until  # noqa: E402
 from tcpsim import command_line  # noqa: E402
 from tcpsim.sweeps.files import FIRST_LINE, LONGEST  # noqa: E402
+from test_inputs import drawn  # noqa: E402
 from test_trace import BY_HAND  # noqa: E402
 
 SWEEP = os.path.join(BIN, 'tcpsim-sweep')
 SCENARIO = BY_HAND.replace('droptail 2', 'droptail 7')
 SETS = '--set', 'a.queue=droptail:2,3'
-
-
-def drawn(count):
-    """The settings of a test that draws so many cases, the same each time."""
-    return settings(max_examples=count, derandomize=True, database=None, deadline=None, suppress_health_check=list(HealthCheck))
 
 
 def swept(*words, cwd):

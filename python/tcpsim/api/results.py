@@ -213,7 +213,7 @@ class Results:
         rows, little = engine_figures(self._run), self._carried_little
         mice = self.mice if len(self.mice) > 1 else ()
         return [opening(rows), self.flows.shown(lambda flow: flow.name not in mice),
-                self.links.shown(lambda link: is_used(link) and link.name not in little)]
+                self.links.shown(lambda link: link.packets_sent + link.packets_dropped > 0 and link.name not in little)]
 
     def __repr__(self) -> str:
         return '\n'.join([*(line for rows in self._tables() for line in aligned(rows)), *self._last_lines()])
@@ -250,11 +250,6 @@ def drop_columns(links: list[LinkResult]) -> list[tuple]:
 def dropped_as(word: str, link: LinkResult) -> int:
     """Packets that a link dropped by this word."""
     return link.drops.get(word, 0)
-
-
-def is_used(link: LinkResult) -> bool:
-    """Whether a link has carried or dropped anything."""
-    return bool(link.packets_sent or link.packets_dropped)
 
 
 def facts_of(row: FlowResult | LinkResult) -> Iterator[tuple[str, object]]:

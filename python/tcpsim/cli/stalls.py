@@ -100,12 +100,6 @@ def write_summary_csv(summary: list[tuple], file: Output) -> None:
         out.writerow((flow, count, ns, *(part for name in names for part in causes.get(name, (0, 0)))))
 
 
-def write_causes(file: Output) -> None:
-    """Writes the rule of each cause."""
-    for cause in CAUSES:
-        print(f'{name_of(cause)}\n    {rule_of(cause)}', file=file)
-
-
 def words_of() -> argparse.Namespace:
     """What the words ask for."""
     words = Words(description='Each span of a flow without a new acknowledgement, and its cause.')
@@ -140,7 +134,8 @@ def main() -> None:
     given = words_of()
     with output.opened(given.output, inputs_of(given)) as file:
         if given.causes:
-            write_causes(file)
+            for cause in CAUSES:
+                print(f'{name_of(cause)}\n    {rule_of(cause)}', file=file)
             return
         flows, rows, others, cycles = rows_of(given)
         if given.summary and given.csv:
