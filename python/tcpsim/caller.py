@@ -24,7 +24,7 @@ class Caller:
         self._environment = dict(os.environb)
 
     def output_of(self, words: list[str], source: bytes, patience: float | None = None) -> Iterator[bytes | None]:
-        """What a program writes, and before that None where it has not ended within so many seconds. ProgramFailed where it does not
+        """What a program writes, and before that None where it has not ended within `patience` seconds. ProgramFailed where it does not
         end well, Unreadable where it would write more. One whose end nobody waits for is ended."""
         if not self._files and not self._make():
             with running(words, source) as program:

@@ -14,7 +14,7 @@ from math import ceil
 from tcpsim.scenario.text import Scenario
 from tcpsim.scenario.units import BITS_NS, HEADER_BYTES
 
-LEAST = 2           # so many timeouts are a cycle
+LEAST = 2           # timeouts of a cycle, at least
 WIDER = Fraction(5, 4)
 BEYOND, MOST, HELD = 'timeouts with more in flight than the way holds', 'most in flight at a timeout', 'held by the way'
 Cycle = namedtuple('Cycle', 'flow mss timeouts beyond most held')
@@ -30,7 +30,7 @@ def held(scenario: Scenario, number: int) -> int:
 
 
 def cycle_of(scenario: Scenario, number: int, flights: Sequence[int]) -> Cycle | None:
-    """What is noticed of a flow that had so many bytes in flight at its timeouts; None where it is no cycle."""
+    """What is noticed of a flow with these bytes in flight at its timeouts; None where it is no cycle."""
     flow, holds = scenario.flows[number], held(scenario, number)
     beyond = [flight for flight in flights if flight > holds]
     if not flow.newreno or len(beyond) < LEAST:

@@ -70,7 +70,7 @@ def portions_of(path: str, source: bytes, first: Callable[[], None] | None, run:
 
 
 def portions_in(blocks: Iterable[bytes], begin: int, step: int, flows: int, ended: Callable[[], None] = lambda: None) -> list[list[int]]:
-    """What each of so many flows delivered in each portion, of the rows by time of these blocks. `ended` raises where what wrote them
+    """What each flow delivered in each portion, of the rows by time of these blocks. `ended` raises where what wrote them
     failed."""
     found, rest = [[0] * flows for _ in range(PORTIONS)], b''
     for block in blocks:

@@ -18,7 +18,7 @@ T = (12.7062047, 4.3026527, 3.1824463, 2.7764451, 2.5705818, 2.4469119, 2.364624
 
 
 def student(freedom: int) -> float:
-    """Student's t at 0.975 for so many degrees of freedom (Abramowitz and Stegun, 26.7.5)."""
+    """Student's t at 0.975, by the degrees of freedom (Abramowitz and Stegun, 26.7.5)."""
     if freedom <= len(T):
         return T[freedom - 1]
     x = statistics.NormalDist().inv_cdf(.975)

@@ -16,8 +16,8 @@ from tcpsim.scenario.text import Scenario
 from tcpsim.scenario.units import BITS_NS, HEADER_BYTES, spelled_time
 
 LEAST = .02             # a difference of less than this part of the goodput is none
-TEETH = 6               # so many make a mean: two for each third
-RISE = 2                # in so many, a window has grown to all that the path and the queue hold, from one segment on
+TEETH = 6               # that make a mean: two for each third
+RISE = 2                # in this many, a window has grown to all that the path and the queue hold, from one segment on
 THIRD = PORTIONS // 3
 
 

@@ -12,7 +12,7 @@ from tcpsim.scenario.units import BITS_NS
 
 TITLES = ('bottleneck', 'used %', 'wait ms: median', '99th', 'loss %', 'flows', 'goodput Mbit/s', 'each %', 'timeouts', 'Jain')
 LITTLE = .1             # of what the busiest link is used: whose part is less, and which dropped nothing, carried little
-FEW = 4                 # so many links that carried little are shown
+FEW = 4                 # links that carried little and are shown, at most
 
 Figures = Mapping[str, Any]     # of a flow, a link or the run, by name: numbers and words
 

@@ -240,7 +240,7 @@ class Running:
             raise ProgramFailed(status, self._note.read(NOTED), self._path)
 
     def read_all(self, most: int) -> bytes:
-        """All that it writes once it has ended well; Unreadable where that is more than so many bytes."""
+        """All that it writes once it has ended well; Unreadable where that is more than `most` bytes."""
         found, size = [], 0
         while block := self.read(BLOCK):
             found.append(block)
@@ -276,7 +276,7 @@ class Spawned:
             raise
 
     def wait(self, patience: float | None = None) -> int:
-        """The status once it has ended; subprocess.TimeoutExpired where it does not within so many seconds."""
+        """The status once it has ended; subprocess.TimeoutExpired where it does not within `patience` seconds."""
         if self.returncode is None and patience is not None:
             descriptor = os.pidfd_open(self.pid)
             try:

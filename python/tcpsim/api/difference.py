@@ -29,7 +29,7 @@ UNITS: dict[str, Callable[..., str]] = {
 
 class Side(NamedTuple):
     """A run that is compared: its scenario, the lines of its trace, the rows of its figures, and what waits at a link, by
-    name, behind so many events."""
+    name, at a position."""
 
     scenario: Scenario
     lines: Iterable[str]
@@ -39,7 +39,7 @@ class Side(NamedTuple):
 
 def queue_at(scenario: ScenarioText, engine: str | None, queues: Mapping[str, Callable[..., object]] | None, position: int,
              link: str) -> Sequence[QueuedPacket]:
-    """What waits at a link behind so many events; engine and queues are those of `debug`."""
+    """What waits at a link at a position; engine and queues are those of `debug`."""
     with DebugSession(scenario, engine, queues) as at:
         at.goto(position)
         return at.state.links[link].queue
@@ -48,7 +48,7 @@ def queue_at(scenario: ScenarioText, engine: str | None, queues: Mapping[str, Ca
 # ---- the first event that differs
 
 class Parting(NamedTuple):
-    """Where two runs part, behind so many events that are the same. `here` and `there` are the lines of one event, or None in a
+    """Where two runs part, behind the events that are the same. `here` and `there` are the lines of one event, or None in a
     run that has none now, in which it comes `later`, if it does; both None where all events are the same. `positions` are
     those before it, as the debugger's goto counts them."""
 

@@ -130,7 +130,7 @@ class DebugSession:
         return self._moved(f'until {time}')
 
     def goto(self, position: int) -> Move:
-        """On or back to a position: so many events of the run, as `Event.n` and a stall's `positions` count them; to the end
+        """On or back to a position, counted in events of the run as `Event.n` and a stall's `positions` count them; to the end
         where there are fewer."""
         if isinstance(position, bool) or not isinstance(position, int) or position < 0:
             raise Wrong(f'goto: {position!r} is no position: they are counted from 0, the beginning')

@@ -95,7 +95,7 @@ class Page(Shown):
 
 
 class ReplayPage(Page):
-    """A page on which a run of so many `events` moves."""
+    """A page on which a run of `events` events moves."""
 
     def __init__(self, text: str, events: int, path: str | None = None):
         self.events = events

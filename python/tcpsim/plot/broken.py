@@ -13,7 +13,7 @@ from .style import STEPS
 
 OVERSHOOT = 1.8         # slow start's window is this many times the greatest one later, and the axis is broken,
 LATER = .4              # where what comes later is at least this part of the picture,
-LEAST = 16              # and slow start's window has so many segments
+LEAST = 16              # and slow start's window has this many segments
 ABOVE = .3              # how high the part above the break is drawn, as a part of what is below it,
 GAP = .07               # and the break
 CLEAR = .93             # up to which part of what is below it there are ticks

@@ -247,7 +247,7 @@ def worst_links(run: Run, window: tuple[int, int], among: Iterable[int]) -> list
 
 
 def most_carried(run: Run, window: tuple[int, int], most: int) -> list[int]:
-    """The flows of which most bytes were acknowledged within the window, so many at most, in the scenario's order."""
+    """The flows of which most bytes were acknowledged within the window, `most` at most, in the scenario's order."""
     carried = [int(np.diff(np.asarray([0, *flow.una])[np.searchsorted(flow.una_times, window, side='right')])[0])
                for flow in run.flows]
     return sorted(sorted(range(len(carried)), key=lambda number: (-carried[number], number))[:most])

@@ -75,7 +75,7 @@ class Clock:
         return np.interp(np.asarray(times, dtype=float), self._knots, self._places)
 
     def edges(self, count: int) -> np.ndarray:
-        """The moments, in ns, at the edges of so many columns of the same width."""
+        """The moments, in ns, at the edges of `count` columns of the same width."""
         if not self.cuts:
             return np.linspace(self.window[0], self.window[1], count + 1)
         places = np.linspace(self._places[0], self._places[-1], count + 1)

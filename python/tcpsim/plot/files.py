@@ -17,7 +17,7 @@ WIDTH = {10: 1400}      # pixels of a .png by the picture's width in inches; of 
 
 
 def save(figure: Figure, path: str, dots: int = 0) -> None:
-    """Writes the picture into a file that ends in .png, .svg or .pdf; `OSError` where it cannot be written. A .png has so many dots an
+    """Writes the picture into a file that ends in .png, .svg or .pdf; `OSError` where it cannot be written. A .png has this many dots an
     inch, where they are given."""
     with output.opened(path) as file:
         file.write(content_of(figure, path, dots))

@@ -21,11 +21,11 @@ from .spans import duplicate_times, mark_spans, span_key
 from .style import (AGAIN, IN_FLIGHT, KEY_SIZE, NOTE, RECEIVER, RUST, SSTHRESH, WHOLE_STEPS, byte_unit, bytes_text, key_above,
                     label_room, muted, series, sign_look, text_width)
 
-MOST_DUPLICATES = 100   # so many are marked
+MOST_DUPLICATES = 100   # that are marked, at most
 FAR = 50                # times the axis of windows: how high above it ssthresh is, is told where it is less
 FEW = 60                # rings that are large
 OWN_AXIS = .1           # a flow whose values are below this part of the greatest has an axis of its own
-APART = 2               # flows whose byte numbers lie over so many times the longest way of one are far apart
+APART = 2               # flows whose byte numbers lie over this many times the longest range of one are far apart
 OWN = 'an axis of its own'
 ROWS = .07, .25         # how far below 0 the first row of losses is, and each further one, as parts of the axis
 COMPLETE = {'marker': 'o', 'ms': 5, 'ls': 'none'}

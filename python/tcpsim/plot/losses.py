@@ -11,7 +11,7 @@ from tcpsim.traces.reader import ACK, DATA
 from .picture import FlowView, Picture
 from .style import HALO, NOTE, OF_ACKS, ON_WHITE, SIGNS, sign_look, sign_of
 
-MOST_NAMED = 6          # so many lost packets are named beside their sign
+MOST_NAMED = 6          # lost packets that are named beside their sign, at most
 NEAR = .02, .06         # parts of a panel's width and height: signs that are nearer to each other have one name
 TOUCH, COUNTED = 8, 32        # points from sign to sign within which they are one with its count, and so wide it is with that
 COUNT_SIZE = 9          # points of the letters of a count

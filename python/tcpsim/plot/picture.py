@@ -13,7 +13,7 @@ from .points import dots, steps
 from .style import LINKS, series
 
 DATA = 0
-MOST_FLOWS = 4          # so many are drawn where none are named, those that carry most
+MOST_FLOWS = 4          # drawn at most where none are named, those that carry most
 
 # A flow or link as it is shown: what its run did with it, its name in the picture, its number there, the moment up to which
 # its run is known, and what is said of it. `trip` is the least that a flow's round trip can be, where that is not alike for

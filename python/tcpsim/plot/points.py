@@ -8,11 +8,11 @@ from numpy.typing import ArrayLike
 
 from tcpsim.traces.curves import FlowRun, LinkRun
 
-COLUMNS = 1000          # a curve keeps the first, least, greatest and last value of each of so many times
+COLUMNS = 1000          # a curve keeps the first, least, greatest and last value of each of this many times
 DOTS = (500, 300)       # dots that fall into one cell of this grid are drawn once
 BANDS = 300             # columns of an envelope
 DENSE = 1.2             # changes a column from which on a curve is drawn as its envelope,
-PARTS = 20              # and twice as many in one of so many parts of the window
+PARTS = 20              # and twice as many in one of this many parts of the window
 
 
 def steps(times: ArrayLike, values: ArrayLike, window: tuple[int, int]) -> tuple[np.ndarray, np.ndarray]:

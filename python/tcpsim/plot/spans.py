@@ -15,8 +15,8 @@ from .picture import FlowView, Picture, recoveries
 from .points import stalls
 from .style import DARK_RED, NOTE, ON_WHITE, SHADES, TIMEOUT_WIDTH, band_mark, timeout_mark
 
-MOST_TIMERS = 4         # of so many timeouts it is said what preceded them
-MOST_IN_FULL = 2        # of so many flows all is said
+MOST_TIMERS = 4         # timeouts of which the picture says what preceded them
+MOST_IN_FULL = 2        # flows of which the picture says all
 
 
 def mark_spans(picture: Picture, axes: Axes, view: FlowView, said: dict | None = None, in_full: bool = True,

@@ -126,7 +126,7 @@ SPELLED = {name: {rate: spelled_rate, time: spelled_time}.get(reader, '{:,}'.for
 # ---- queues
 
 class Products(namedtuple('Products', 'times root')):
-    """A queue's capacity as so many bandwidth-delay products of its link, or by the root of how many flows send over it."""
+    """A queue's capacity as a number of bandwidth-delay products of its link, or by the root of how many flows send over it."""
 
     def __str__(self) -> str:
         times = str(int(self.times)) if self.times.denominator == 1 else f'{float(self.times):g}'

@@ -56,7 +56,7 @@ def csv_text(rows: list[dict], columns: list[str]) -> str:
 
 
 def plain_text(path: str, most: int = LONGEST) -> str:
-    """The text of a plain file of at most so many bytes. What is none is not opened: one would wait for a pipe."""
+    """The text of a plain file of at most `most` bytes. What is none is not opened: one would wait for a pipe."""
     if not stat.S_ISREG(os.stat(path).st_mode):
         raise Unreadable(f'{path} is no plain file')
     with open(os.open(path, os.O_RDONLY | os.O_NONBLOCK | output.FLAGS), 'rb') as file:

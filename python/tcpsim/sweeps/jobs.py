@@ -254,7 +254,7 @@ def job_folder(named: str | None) -> Iterator[str]:
 
 
 def answer_of(words: list[str], package: str, patience: int = PATIENCE) -> str:
-    """What a command of an engine answers in so many seconds, or Refused in one sentence."""
+    """What a command of an engine answers within `patience` seconds, or Refused in one sentence."""
     try:
         done = subprocess.run(words, stdin=subprocess.DEVNULL, capture_output=True, timeout=patience, encoding='utf-8', errors='replace',
                               check=False)
@@ -325,7 +325,7 @@ def state_of(number: str, task: int) -> str:
 
 
 def by_parallel(given: argparse.Namespace, jobs: int, hosts: str | None) -> Runner:
-    """Runs points by GNU parallel, so many side by side on each machine: this one, or those of an --sshlogin."""
+    """Runs points by GNU parallel, `jobs` side by side on each machine: this one, or those of an --sshlogin."""
     def rows(grid: Grid, numbers: Sequence[int]) -> Iterator[Ran]:
         logins = ['--sshlogin', hosts] if hosts else []
         compare_versions(grid, hosts)

@@ -196,7 +196,7 @@ def greatest_packet(lines: list[str]) -> int:
 
 
 def packets_of(products: Products, text: str, name: str, packet: int) -> int:
-    """What a capacity is in packets of so many bytes, at a link of a text; 1 in a text that has no paths."""
+    """What a capacity is in packets of this size in bytes, at a link of a text; 1 in a text that has no paths."""
     try:
         read = Scenario(text)
     except Unreadable:

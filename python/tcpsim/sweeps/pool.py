@@ -82,7 +82,7 @@ def end_workers(workers: set[BaseProcess]) -> None:
 
 
 def here(jobs: int) -> Runner:
-    """Runs points on this machine, so many side by side."""
+    """Runs points on this machine, `jobs` side by side."""
     return lambda grid, numbers: rows_of(grid.run, numbers, jobs)
 
 
@@ -143,7 +143,7 @@ def one_by_one(run: Callable, numbers: Sequence[int]) -> Iterator[Ran]:
 
 
 def batch_after(count: int, seconds: float) -> int:
-    """How many runs come next where so many took so long."""
+    """How many runs come next where `count` took these seconds."""
     return max(1, min(2 * count, int(BATCH * count / seconds))) if seconds else 2 * count
 
 
@@ -155,7 +155,7 @@ class Waiting:
         self._out: Counter[Connection] = Counter()
 
     def send(self, pipe: Connection, count: int, ended: int = 0) -> None:
-        """Sends a worker of whose points these have ended so many more, if there are any, and unless it has enough; at the end fewer, so
+        """Sends a worker `count` points more, if there are any, unless it has enough; `ended` of its points have ended. At the end fewer, so
         that all workers have the same to do."""
         self._out[pipe] -= ended
         if self._sent < len(self._numbers) and self._out[pipe] < AHEAD * count:

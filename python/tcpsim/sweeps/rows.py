@@ -128,7 +128,7 @@ class Bench:
 
     def written(self, text: str, asked: AskedOfRun, patience: float | None = None) -> Iterator[bytes | Exception | None]:
         """What the program writes of a text that is asked for its table, or what went wrong; before that None where it has not ended
-        within so many seconds."""
+        within `patience` seconds."""
         try:
             if not asked.queues and asked.is_elsewhere():
                 raise Refused(f'{asked.program} is another here: {version_of(asked.program) or "it says no version"!r} and not '

@@ -94,7 +94,7 @@ def runs_to_check(grid: Grid) -> int:
 # ---- one choice of the other values
 
 class Quest:
-    """The search among so many values of one choice of the others. `tried` has the means of each value by its place, `met` whether
+    """The search among the values of one choice of the others. `tried` has the means of each value by its place, `met` whether
     it meets all conditions."""
 
     def __init__(self, count: int, first: Sequence[int], asked: Asked):

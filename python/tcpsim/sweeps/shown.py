@@ -34,7 +34,7 @@ def columns(grid: Grid) -> list[tuple]:
 
 
 def fixed_and_varied(grid: Grid, settings: Sequence[Setting], count: int) -> tuple[list[str], list[str]]:
-    """What is the same in all of so many rows, in words, and the keys of what is not."""
+    """What is the same in all rows, in words, and the keys of what is not."""
     fixed = [each for each in settings if len(each.values) == 1 and count > 1]
     return ([f'{each.key}={each.label(each.values[0])}' for each in fixed], [each.key for each in settings if each not in fixed])
 
