@@ -28,14 +28,21 @@ Case = namedtuple('Case', 'words input file', defaults=(b'', None))
 Answer = namedtuple('Answer', 'status note length sum')
 
 
+def on_one_processor():
+    """Has this process, and what it runs, use one processor alone."""
+    if hasattr(os, 'sched_setaffinity'):
+        os.sched_setaffinity(0, {min(os.sched_getaffinity(0))})
+
+
 def native(case, program=PROGRAM, most=None):
-    """What the native program answers; None where it writes more than `most` bytes."""
+    """What the native program answers on one processor, as a page has: on two `run` may tell of its progress more often. None
+    where it writes more than `most` bytes."""
     with tempfile.TemporaryDirectory() as folder:
         if case.file is not None:
             with open(os.path.join(folder, FILE), 'wb') as file:
                 file.write(case.file)
         done = subprocess.run([program, *case.words], input=case.input, capture_output=True, cwd=folder, timeout=LONGEST, check=False,
-                              env={'PATH': '/usr/bin:/bin', 'LC_ALL': 'C'})
+                              env={'PATH': '/usr/bin:/bin', 'LC_ALL': 'C'}, preexec_fn=on_one_processor)
     if most and len(done.stdout) > most:
         return None
     return Answer(done.returncode, done.stderr.decode('latin1'), len(done.stdout), hashlib.sha256(done.stdout).hexdigest())

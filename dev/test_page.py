@@ -325,8 +325,8 @@ def test_figures_begin_with_what_people_ask(browser):
     text = page_cases.read('examples', 'parking_lot_of_three_routers.txt').decode()
     said, tables = figures_of(browser, text)
     assert said[0] == 'Bottleneck: qu, 90.6 % utilized in 8.000 s.' and said[1].startswith("Jain's index of goodput: 0.8491, of 3 flows")
-    assert tables[0][1:] == [['fa', '64 kbit/s', '26.7 %', 'qu', '13.6 %', '2', '31', '184 ms', '361 ms', '-'], ['fb', '113 kbit/s', '63.3 %', 'pq', '8.4 %', '3', '76', '71 ms', '166 ms', '-'],
-                             ['fc', '189 kbit/s', '73.3 %', 'qu', '5.8 %', '1', '128', '71 ms', '194 ms', '-']]
+    assert tables[0][1:] == [['fa', '64 kbit/s', '26.7 % of qu', '13.6 %', '2', '31', '184 ms', '361 ms', '-'], ['fb', '113 kbit/s', '63.3 % of pq', '8.4 %', '3', '76', '71 ms', '166 ms', '-'],
+                             ['fc', '189 kbit/s', '73.3 % of qu', '5.8 %', '1', '128', '71 ms', '194 ms', '-']]
     assert [row[0] for row in tables[1]] == ['link', 'pq', 'qu'] and len(tables[2]) == 15
     closed = browser.json('[...document.querySelectorAll("#figures-table details")].map(it => [it.open, it.firstChild.textContent])')
     assert closed == [[False, '14 links carried less than a tenth of the busiest, and dropped nothing'], [False, 'all figures, as the program counts them']]
@@ -763,7 +763,7 @@ def test_a_browser_without_64_bit_memory(made, tmp_path):
 
 def test_on_a_phone(chromium):
     """390 pixels wide: nothing leaves the page to the side. A lesson that is begun is seen with the net, the clock and the first panel's
-    axis of time; the clock stays while the run scrolls."""
+    axis of time; tabs and clock stay while the run scrolls, one below the other."""
     chromium.size(390, 844, mobile=True)
     try:
         for number in (3, 10, 13):
@@ -773,7 +773,8 @@ def test_on_a_phone(chromium):
             seen.append(chromium.json('[...document.querySelector("#charts > div:not([hidden])").querySelectorAll(".axis")].map(e => e.getBoundingClientRect()).map(box => [box.top, box.bottom])')[0])
             assert all(-1 <= top < bottom <= 845 for top, bottom in seen), (number, seen)
             chromium.value('document.getElementById("below").scrollIntoView()')
-            assert chromium.value('document.querySelector("#replay header").getBoundingClientRect().top') == 0
+            tabs, clock = chromium.json('["#tabs", "#replay header"].map(css => document.querySelector(css).getBoundingClientRect()).map(box => [box.top, box.bottom])')
+            assert tabs[0] == 0 and abs(clock[0] - tabs[1]) <= 1, (number, tabs, clock)
         for tab in ('net', 'figures', 'trace', 'debug'):
             chromium.click(element(f'[data-tab={tab}]'))
             wide = chromium.json('[document.documentElement.scrollWidth, innerWidth]')
