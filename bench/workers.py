@@ -211,8 +211,8 @@ def found(program, rounds, before):
 
 def text_table(rows, rounds):
     yield (f'Seconds of one group by two workers: a second thread makes the text. {rounds_said(rounds)} The trace is thrown away, '
-           f'or goes into a file of the system\'s memory ({IN_MEMORY}), or is thrown away beside {LOOPS} busy loops on the same '
-           f'cores. The bound is {TEXT_MOST} times the seconds of `run`, beside the loops {TEXT_LOADED} times.\n')
+           f'or goes into a file of the system\'s memory ({IN_MEMORY}). The last three columns are beside {LOOPS} busy loops on the '
+           f'same cores. The bound is {TEXT_MOST} times the seconds of `run`, beside the loops {TEXT_LOADED} times.\n')
     yield from table(('Scenario', 'Events', *(it for where in ('', ', in memory', ', beside loops') for it in
                                               (f'`run`{where}', f'2 workers{where}', f'to `run`{where}'))),
                      [(f'`{name}`', f'{events:,}', *(it for took in kinds for it in
