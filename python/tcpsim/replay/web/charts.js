@@ -58,8 +58,8 @@ function greatestOf(values) {
 
 // The greatest value that a lane's scale has.
 function topOf(series) {
-  const most = Math.max(0, ...series.filter(s => !s.thin || s.before).map(s => s.most === undefined ? greatestOf(s.curve.values) : s.most)) || 1;
-  return Math.max(most, ...series.filter(s => s.thin && !s.before).map(({curve}) => greatestOf(curve.values.filter(value => value <= NEAR * most))));
+  const most = Math.max(0, ...series.filter(s => !s.thin || s.before).map(s => s.most !== undefined ? s.most : s.curve ? greatestOf(s.curve.values) : 0)) || 1;
+  return Math.max(most, ...series.filter(s => s.thin && s.curve && !s.before).map(({curve}) => greatestOf(curve.values.filter(value => value <= NEAR * most))));
 }
 // The greatest values of lanes' axes: one has its own where its values are much smaller.
 function scalesOf(lanes) {

@@ -105,7 +105,7 @@ function keyOf(lanes, {facts}) {
   lanes.forEach(({series, bands = [], marks = []}, k) => {
     for (const {kind} of [...bands, ...marks]) there.set(kind, (there.get(kind) || 0) + 1);
     for (const {thin, before, other, curve} of series)
-      if (before) there.set('before'); else if (thin && !other && greatestOf(curve.values) > scales[k]) above.add(valueText(greatestOf(curve.values)));
+      if (before) there.set('before'); else if (thin && curve && !other && greatestOf(curve.values) > scales[k]) above.add(valueText(greatestOf(curve.values)));
   });
   const flows = new Set(lanes.flatMap(({series}) => series.filter(({flow}) => flow !== undefined).map(({flow}) => flow)));
   return [...KEYS.filter(([kind]) => there.has(kind)).map(([kind, words]) => [kind, LOOKS.drops[kind] ? `${number(there.get(kind))} ${words}` : words]), ...(above.size ? [['above', `ssthresh ${[...above].join(', ')}`]] : []), ...[...flows].sort((a, b) => b - a).map(f => ['flow', facts.flows[f].name, colourOf(f)])];
