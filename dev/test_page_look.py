@@ -669,12 +669,26 @@ def test_round_trips_that_were_timed_say_so(sized):
     heads = heads_of_flows(browser)
     names = [name for name, _ in heads]
     at = names.index('RTTs timed')
-    assert names[at:at + 3] == ['RTTs timed', 'least timed RTT', 'median of timed RTTs'] and 'RFC 6298 section 3' in heads[at][1]
+    assert names[at:at + 3] == ['RTTs timed', 'least timed RTT', 'median of timed RTTs, at most'] and 'RFC 6298 section 3' in heads[at][1]
     assert 'the program counts in classes, and this is the bound of one: at most 1/32 above' in heads[at + 2][1]
     assert browser.value(of_classes) == 5          # of flows, and two of either table of links
     cells = browser.json('[...document.querySelectorAll("#figures-table > .table:first-of-type tbody tr")].map(row => [...row.cells].map(e => [e.textContent, e.title]))')
     assert [[text for text, _ in row[at:at + 3]] for row in cells] == [['8', '48.8 ms', '134 ms'], ['1', '58.2 ms', '58.2 ms']]
     assert cells[0][at + 2][1] == '134,217,727 ns, of 8 that were timed'
+
+
+def test_a_wait_that_is_a_bound_says_so(sized):
+    """Of lesson 9 the trace has a median wait of 529 ms, and the program's classes one of at most 537: each has its own head."""
+    browser = sized
+    waits = '''(([head, row]) => [...head.cells].map((cell, k) => [cell.textContent, row.cells[k].textContent]).filter(([text]) => text.includes("wait,") || text.endsWith("wait")))(
+      [...document.querySelectorAll("#figures-table > .table:nth-of-type(2) tr")].slice(0, 2))'''
+    choose(browser, 'lesson 9')
+    show(browser, 'figures')
+    exact = browser.json(waits)
+    run(browser, 'figures')
+    bounds = browser.json(waits)
+    assert [head for head, _ in exact] == ['median wait', '99 % wait'] and [head for head, _ in bounds] == ['median wait, at most', '99 % wait, at most']
+    assert exact[0][1] != bounds[0][1], (exact, bounds)
 
 
 def test_goodput_and_share_say_of_which_time(sized):

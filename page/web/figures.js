@@ -138,13 +138,15 @@ const inWords = figure => figure.replace(/^(?:(least|median|greatest)|(\d+)th pe
   .replace(/^greatest queue$/, 'most waiting').replace(/^dropped as (lost|full)$/, (_, reason) => LOOKS.drops[reason]).replace(/^completed$/, 'complete at').replace(/^waited$/, 'packets waiting, times how long');
 // What a figure of the program's table is, where a trace has it otherwise.
 const titleOf = figure => [/round trip/.test(figure) && 'of those that the sender timed, one segment at a time', /^median|percentile/.test(figure) && IN_CLASSES].filter(Boolean).join('; ');
+// What heads a column of such bounds.
+const atMost = text => `${text}, at most`;
 const flowHeads = kept => ['flow', ['goodput from its start', 'bytes in order at the receiver, a second, from the flow\u2019s own start to its completion or the end'],
   ['share of the whole run', 'of the bytes that its bottleneck, the busiest link on its way, sent from the run\u2019s begin to its end, with headers and what was sent again'], ['loss', 'the part of its segments that was dropped'], ['time\u00adouts', 'how often its retransmission timer ended'],
   ...(kept ? [['RTTs', 'how many round trips: of each segment that was sent once and is acknowledged by its own number'], ['least RTT', 'the least of these'], ['median RTT', 'of these']] :
     [['RTTs timed', 'how many round trips its sender timed: one segment at a time, and none that was sent again (RFC 6298 section 3). So the longer they are, the fewer are timed'],
-      ['least timed RTT', 'the least of these'], ['median of timed RTTs', `of these, not of all segments; ${IN_CLASSES}`]]), ['complete at', 'when all its bytes were acknowledged']];
+      ['least timed RTT', 'the least of these'], [atMost('median of timed RTTs'), `of these, not of all segments; ${IN_CLASSES}`]]), ['complete at', 'when all its bytes were acknowledged']];
 const linkHeads = kept => ['link', ['utilization', 'the part of the time in which it sends'], ...[['median wait', 'in its queue'], ['99 % wait', 'the 99th percentile of the wait in its queue']]
-  .map(([text, title]) => [text, kept ? title : `${title}; ${IN_CLASSES}`]), ['most waiting', 'packets in its queue at most'], ['dropped', 'packets'],
+  .map(([text, title]) => kept ? [text, title] : [atMost(text), `${title}; ${IN_CLASSES}`]), ['most waiting', 'packets in its queue at most'], ['dropped', 'packets'],
   ['loss', 'the part of the packets that it sent or dropped; those that still wait at the end are not among them']];
 
 function headOf(text) {
