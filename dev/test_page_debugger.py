@@ -213,3 +213,21 @@ def test_time_is_answered_as_by_the_tool(browser, name):
         assert rows[1 + number] == ' '.join((flow.name, found.table()[-1][0], *found.table()[1][1:]))
     assert 'there is no flow nobody' in at_prompt(browser, 'time nobody')
     assert '\ntime [F]' in at_prompt(browser, 'help') and 'where the time of flow F went' in at_prompt(browser, 'help time')
+
+
+def test_the_two_kinds_of_stalls_are_told_apart(browser):
+    """In lesson 17 the button goes to 23, and the prompt's `stalls` lists six. Each says which it means, and the lesson how many of fa."""
+    choose(browser, 'lesson 17')
+    browser.click(element('[data-tab=debug]'))
+    told = at_prompt(browser, 'stalls')
+    hints = browser.json('[...document.querySelectorAll("#debugger pre [data-hint]")].map(e => [e.textContent, e.dataset.hint])')
+    assert hints[0][0] == '> stalls' and 'nothing of a flow is under way' in hints[0][1] and 'more than 200 ms' in hints[0][1], hints
+    assert hints[1] == ['goto 607: flow fc is stalled at 764306151 ns', '0.764306 s: fc stands still'], hints
+    assert len(hints) == 1 + told.count('goto ') == 7
+    browser.click(element('[data-tab=stalls]'))
+    browser.wait('!!document.querySelector("#stall-list table")')
+    said = text_of(browser, '#stall-list p')
+    assert said.startswith('23 stalls of more than 200 ms') and 'the longest first' in said and 'stalls lists fewer: where nothing of a flow is under way' in said
+    of_fa = browser.value('page.record.stalls.filter(({flow}) => page.facts.flows[flow].name === "fa").length'), told.count('flow fa is stalled')
+    assert of_fa == (10, 2) and 'fa has ten' in text_of(browser, '#lesson') and 'two of fa' in text_of(browser, '#lesson')
+    browser.value('simulator.showTab("net")')

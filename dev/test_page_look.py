@@ -736,7 +736,7 @@ def test_stalls_have_no_backticks(sized):
     choose(browser, 'lesson 10')
     run(browser)
     show(browser, 'stalls')
-    assert '`' not in text_of(browser, '#stall-list') and text_of(browser, '#stall-list code') == 'why'
+    assert '`' not in text_of(browser, '#stall-list') and browser.json('[...document.querySelectorAll("#stall-list code")].map(e => e.textContent)') == ['why', 'stalls']
 
 
 # ---- panels

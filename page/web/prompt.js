@@ -7,8 +7,13 @@ const SCENARIO_FILE = 'scenario.txt', PROMPT = '(tcpsim) ';
 const QUIT = /^ *q(u(i(t)?)?)? *$/, PLACE = /^at (\d+) of the run/gm;
 const AGAIN_WITHIN = 100;               // ms that a session may take to be run anew
 
-// What a line of an answer means, with names for its numbers: of a node, a link or an event that the session shows.
+// The debugger's stalls are not those of the button.
+const STANDS_STILL = 'where nothing of a flow is under way. The button stall goes to others: more than 200 ms without a new acknowledgement';
+const ASKS_STALLS = /^ *stal(l(s)?)? *$/, STALLED = /^goto \d+: flow (.*) is stalled at (\d+) ns$/;
+// What a line of an answer means, with names for its numbers: of a node, a link, a stall or an event that the session shows.
 function meaningOf(facts, line) {
+  const stalled = STALLED.exec(line);
+  if (stalled) return `${seconds(+stalled[2])}: ${stalled[1]} stands still`;
   const [kind, first, second, , , what, name, packet] = line.split(' ');
   if (kind === 'node' && facts.nodes[first]) return `${second} ${facts.nodes[first].name}`;
   if (kind === 'link' && facts.links[first]) return `link ${facts.links[first].name}`;
@@ -105,7 +110,9 @@ class Prompt {
     const {answer, noted} = await this.answerTo(command);
     this.running = false;
     if (this.over) return;
-    this.said.append(`> ${command}\n`, ...this.lines(answer), noted);
+    const [typed, end] = this.lines(`> ${command}\n`);
+    if (ASKS_STALLS.test(command)) typed.dataset.hint = STANDS_STILL;
+    this.said.append(typed, end, ...this.lines(answer), noted);
     if (QUIT.test(command)) this.forget();
     this.said.scrollTop = this.said.scrollHeight;
     const places = [...answer.matchAll(PLACE)];

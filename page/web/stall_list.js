@@ -128,9 +128,9 @@ class StallList {
     return [cause, queue ? `all its packets waited at link ${links[queue[0]].name} for ${waitText(queue[1])} of it; ${found}` : found];
   }
   draw(answers) {
-    const {record, stalls} = this, {flows} = record.facts;
-    this.say(`${many(stalls.length, 'stall')} of more than 200 ms without a new acknowledgement. What each flow waited for is the program\u2019s answer to `,
-      Object.assign(document.createElement('code'), {textContent: 'why'}), ' in the midst of the stall; tcpsim-stalls tells nine causes apart.');
+    const {record, stalls} = this, {flows} = record.facts, code = textContent => Object.assign(document.createElement('code'), {textContent});
+    this.say(`${many(stalls.length, 'stall')} of more than 200 ms without a new acknowledgement, the longest first. What each flow waited for is the program\u2019s answer to `,
+      code('why'), ' in the midst of the stall; tcpsim-stalls tells nine causes apart. The debugger\u2019s ', code('stalls'), ' lists fewer: where nothing of a flow is under way.');
     const table = tableOf(['flow', 'from', 'length', ['cause', 'in the words of tcpsim-stalls'], ['found', 'what the program answers to why; its lines are those of the trace']], stalls.map(stall => [flows[stall.flow].name, [seconds(stall.from, 3), `${number(stall.from)} ns`],
       [waitText(stall.to - stall.from), `${number(stall.to - stall.from)} ns`],
       ...(answers.has(stall) ? this.why(stall, answers.get(stall)) : ['-', `only the longest ${MOST_ASKED} are asked about`])]));
