@@ -16,6 +16,8 @@ IN_THE_PAGE = re.compile(r'^In \[the page\]\(PAGE\.md\): .*\n', re.M)
 PANELS = re.compile(r'^<!-- panels: (.*) -->\n', re.M)
 # Which numbers are on a lesson's shelf, over which ranges, and the figure of their strips: `<!-- shelf: a.capacity=1..100; used a; both -->`.
 SHELF = re.compile(r'^<!-- shelf: (.*) -->\n', re.M)
+# What it shows, in a sentence.
+CLAIM = re.compile(r'^(?:> .*\n)+\n', re.M)
 LINES = re.compile(r'\b([Ll]ines?) (\d+(?:(?:, and |, | and | to )\d+)*)(?!\d|\.\d)')
 
 
@@ -71,17 +73,17 @@ class Lesson:
 
 
 def lessons():
-    """All lessons, in order. A part without a number is the beginning of the lesson behind it."""
+    """All lessons, in order. A part without a number is in the lesson behind it, below the claim with which that begins."""
     with open(TUTORIAL, encoding='utf-8') as file:
         parts = re.split(r'^## (.*)\n', IN_THE_PAGE.sub('', file.read()), flags=re.M)[1:]
     found, before = [], ''
     for head, text in zip(parts[::2], parts[1::2]):
         numbered = re.fullmatch(r'(\d+)\. (.*)', head)
         if numbered:
-            found.append(Lesson(int(numbered.group(1)), html.unescape(numbered.group(2)), before + text))
+            found.append(Lesson(int(numbered.group(1)), html.unescape(numbered.group(2)), CLAIM.sub(lambda claim: claim[0] + before, text, 1)))
             before = ''
         else:
-            before = f'### {head}\n{text}\n'
+            before = f'### {head}\n{text.strip()}\n\n'
     if not found:
         raise Refused(f'{TUTORIAL} has no lesson')
     return found

@@ -725,9 +725,11 @@ def test_a_line_is_of_the_scenario_that_its_text_speaks_of(calm):
 
 
 def test_a_lesson_speaks_of_what_the_page_shows():
-    """Outside of what it says of a picture: of panels that it brings, and of none by its place in a picture."""
+    """Of no panel by its place; and outside of what it says of a picture only of panels that it brings. Above all is what it shows."""
     for lesson in page_lessons.lessons():
         panels = {name for name, *_ in lesson.panels}
+        assert lesson.text.startswith('<blockquote>'), lesson.number
+        assert not re.search('(?:upper|lower|two|three|each) panels?', lesson.text), lesson.number
         for part in re.findall(r'<p>(.*?)</p>', lesson.text, re.S):
             if re.search('picture', re.sub('<[^>]*>', '', part)):
                 continue
