@@ -147,6 +147,21 @@ def test_a_refused_text_is_told(browser):
     assert text_of(browser, '#both-figures caption').startswith('all ')
 
 
+def test_what_goes_on_is_no_refusal(browser):
+    """While both run it says so in the letters of all else, and not beside how long another run took."""
+    choose(browser, 'example one_segment')
+    browser.click(element('[data-tab=compare]'))
+    browser.value('''(() => {
+      const said = document.getElementById('compare-said');
+      window.told = [];
+      window.told.watch = new MutationObserver(() => window.told.push([said.textContent, getComputedStyle(said).color === getComputedStyle(document.body).color, document.getElementById('said').textContent]));
+      window.told.watch.observe(said, {childList: true, attributes: true});
+    })()''')
+    go(browser)
+    browser.value('window.told.watch.disconnect()')
+    assert browser.json('window.told[0]') == ['running both', True, '']
+
+
 def test_bdp_as_the_package_counts_it(chromium):
     """droptail:BDP at a link of each template is what tcpsim-net writes of it."""
     for shape, link in (('dumbbell', 'pq'), ('chain', 'p1p2'), ('parking-lot', 'p0p1'), ('asymmetric', 'down')):

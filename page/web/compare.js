@@ -57,7 +57,7 @@ class Compare {
     this.form.addEventListener('submit', event => { event.preventDefault(); this.start(); });
     for (const id of ['first', 'second', 'link']) byId(`compare-${id}`).addEventListener('change', () => this.offer());
   }
-  say(text) { byId('compare-said').textContent = text; }
+  say(text, isBad = true) { Object.assign(byId('compare-said'), {textContent: text, className: isBad ? 'bad' : ''}); }
   // The texts that there are, for the second first what belongs beside the scenario, and the links of the first.
   offer() {
     const texts = this.texts(), {partner} = this.lecture.simulator, beside = partner ? `example ${partner}` : OTHER_QUEUE;
@@ -116,7 +116,8 @@ class Compare {
   async start() {
     this.end();
     const token = this.token = {};
-    this.say('running both');
+    this.say('running both', false);
+    this.lecture.simulator.say('');
     try {
       const first = await this.runOf(this.textOf('first'), this.nameOf('first')), runs = [first];
       if (this.token !== token) return;
