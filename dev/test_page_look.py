@@ -492,6 +492,15 @@ def test_a_drop_says_whose_it_is_and_at_which_link(sized):
     look(browser, 'drops_of_windows')
 
 
+def test_how_many_a_mark_is_lies_over_rings(sized):
+    """In lesson 7 three segments are lost, and rings of what is sent again lie beside the cross."""
+    browser = sized
+    choose(browser, 'lesson 7')
+    settle(browser)
+    order = browser.json('[...document.querySelectorAll("#sequence .marks > *")].map(e => e.getAttribute("class"))')
+    assert {'again', 'many'} <= {*order} and 'again' not in order[order.index('many'):], order
+
+
 @pytest.mark.parametrize('width, panels', [(1400, ['windows', 'lengths', 'progress']), (1024, ['windows', 'lengths'])])
 def test_each_of_four_flows_is_read_beside_other_panels(sized, width, panels):
     """Each has a lane whose axis its own window fills by a third and more; and what has no room on it is in the key."""

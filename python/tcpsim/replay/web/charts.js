@@ -273,7 +273,8 @@ class Chart {
       }
     }
     const made = [...rows.values()].flat();
-    for (const one of made) this.drawMark(one, from, to);
+    // Words lie over rings, not below them.
+    for (const one of [...made].sort((one, two) => !!one.word - !!two.word)) this.drawMark(one, from, to);
     return made;
   }
   // How many a mark is, its words, and from where to where it reaches with these, which have no room beyond the edge.
