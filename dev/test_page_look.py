@@ -1107,6 +1107,7 @@ def test_names_of_lanes_lie_over_no_curve(sized):
         for panel, lanes in (('windows', 3), ('lengths', 2)):
             names, labels, curves = browser.json(f'''['.lane', '.axis text', ':is(.area, path[stroke])'].map(css => [...document.querySelectorAll(`#{panel} ${{css}}`)].map(e => e.getBoundingClientRect()).filter(e => e.width))''')
             if browser.value(f'page.panels.charts.{panel}.lanes.length') == 1:       # they had no room, and are one
+    assert len({(line, colour) for _, line, colour in both}) == 16
                 assert not names and width == 1024
                 continue
             assert len(names) == lanes, (width, panel)

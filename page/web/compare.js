@@ -231,7 +231,7 @@ class Compare {
     });
   }
   // The names of both runs' flows or links, and which have a box ticked.
-  ticked(id, names, count, colour) {
+  ticked(id, names, count, line) {
     const place = this.at(id), kept = [...place.querySelectorAll('input')].map(box => [box.value, box.checked]), was = new Map(kept);
     place.textContent = '';
     return names.filter((name, k) => {
@@ -240,7 +240,7 @@ class Compare {
       box.addEventListener('change', () => this.drawCharts());
       text.textContent = name;
       label.title = `shows or hides ${id === 'flows' ? 'flow' : 'link'} ${name} in the panel`;
-      text.style.borderBottom = `3px solid ${colour(name)}`;
+      text.style.borderBottom = `3px ${line(name)}`;
       label.append(box, text);
       place.append(label);
       return box.checked;
@@ -268,7 +268,7 @@ class Compare {
     const said = 'solid the first run, dashed the second';
     this.charts[0] = draw('windows', `cwnd in bytes: ${said}`, 'flows', this.ticked('flows', flows, 2, ofFlow), ofFlow, (record, f) => record.curve(record.ofFlow(f, CWND)));
     yield;
-    this.charts[1] = draw('lengths', `packets that wait: ${said}`, 'links', this.ticked('links', links, 1, ofLink), ofLink, (record, l) => record.queueCurve(l));
+    this.charts[1] = draw('lengths', `packets that wait: ${said}`, 'links', this.ticked('links', links, 1, name => linkLineOf(every.indexOf(name))), ofLink, (record, l) => record.queueCurve(l));
   }
   // Where the runs part, and a button that goes there in both nets.
   async sayParting([one, two], token) {

@@ -8,6 +8,8 @@ const LEAST_WIDE = 308, LEAST_TALL = 130;     // pixels of a panel, with the spa
 const MOST_TICKED = {flows: 4, links: 2}, MOST_NAMES = 5;
 const lineStyle = k => ['solid', 'dashed', 'dotted', 'double'][k % 4];
 const dashOf = k => DASHES[k % 4];
+// What is below a name: of links with one colour each has another.
+const lineOf = f => `${lineStyle(f)} ${colourOf(f)}`, linkLineOf = l => `${lineStyle(Math.floor(l / LOOKS.links))} ${linkColourOf(l)}`;
 
 // ---- what a run has of its flows
 
@@ -184,18 +186,18 @@ class Panels {
     const {record} = this, {facts, longest} = record, order = d3.range(facts.links.length).sort((a, b) => longest[b] - longest[a] || a - b), most = longest[order[0]];
     const markName = (flow, f) => markOf(facts, f) === flow.name ? flow.name : `${markOf(facts, f)} ${flow.name}`;
     this.ticked = {
-      flows: this.ticksOf('flows', facts.flows.map((flow, f) => [f, markName(flow, f), colourOf(f)]), (f, k) => k < MOST_TICKED.flows),
-      links: this.ticksOf('links', order.map(l => [l, facts.links[l].name, linkColourOf(l)]), (l, k) => k < MOST_TICKED.links && (!k || longest[l] >= LITTLE_OF_LONGEST * most))};
+      flows: this.ticksOf('flows', facts.flows.map((flow, f) => [f, markName(flow, f), lineOf(f)]), (f, k) => k < MOST_TICKED.flows),
+      links: this.ticksOf('links', order.map(l => [l, facts.links[l].name, linkLineOf(l)]), (l, k) => k < MOST_TICKED.links && (!k || longest[l] >= LITTLE_OF_LONGEST * most))};
   }
   ticksOf(id, ones, ticked) {
-    const boxes = ones.map(([k, name, colour], place) => {
+    const boxes = ones.map(([k, name, line], place) => {
       const label = document.createElement('label'), box = document.createElement('input'), text = document.createElement('span');
       Object.assign(box, {type: 'checkbox', checked: ticked(k, place)});
       box.dataset.index = k;
       box.addEventListener('change', () => this.draw(id));
       Object.assign(text, {textContent: name, className: 'dash'});
       label.title = `shows or hides ${id === 'flows' ? 'flow' : 'link'} ${name} in the panels; pressed twice, the name comes before the others`;
-      text.style.borderBottom = `3px ${id === 'flows' ? lineStyle(k) : 'solid'} ${colour}`;
+      text.style.borderBottom = `3px ${line}`;
       text.addEventListener('dblclick', () => { this.first[id] = k; this.draw(id); });
       label.append(box, text);
       label.hidden = place >= MOST_NAMES;
