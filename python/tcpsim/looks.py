@@ -25,7 +25,7 @@ PANELS = {'window': 'congestion window', 'queue': 'packets that wait in the queu
 # The colours of a page: its grounds, its letters, what can be pressed, and what is drawn of a run, in light and in the dark.
 PAGE = {
     'paper': ('#ffffff', '#14181d'), 'ground': ('#eef1f4', '#0b0e12'), 'raised': ('#f6f8fa', '#1d232a'), 'line': ('#d3d9df', '#333c46'),
-    'edge': ('#76818d', '#7d8894'), 'ink': ('#15191e', '#e8ecf0'), 'quiet': ('#55606b', '#a7b1bc'), 'accent': ('#0a5fb4', '#7bb8f5'),
+    'edge': ('#76818d', '#7d8894'), 'shade': ('#76818d', '#3f4a55'), 'ink': ('#15191e', '#e8ecf0'), 'quiet': ('#55606b', '#a7b1bc'), 'accent': ('#0a5fb4', '#7bb8f5'),
     'on-accent': ('#ffffff', '#08131f'), 'soft': ('#e3effb', '#1b3350'), 'good': ('#1b6e3c', '#7ed6a0'), 'good-soft': ('#e4f4ea', '#16301f'),
     'bad': ('#a61b1b', '#ff9d97'), 'bad-soft': ('#fdeaea', '#3a1a1a'), 'present': ('#fff3b0', '#4b4210'), 'node': ('#333b44', '#98a3ae'),
     'wire': ('#8a8a8a', '#77818b'), 'drop': (RED, '#FF8A4C'), 'drop-ink': ('#A84300', '#FF9F6B'), 'again': (ORANGE, ORANGE), 'codel': (PURPLE, '#E3A0C6'),
