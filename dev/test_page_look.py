@@ -1192,13 +1192,13 @@ def test_compare_says_what_it_does_before_it_is_pressed(sized):
 
 
 def test_on_a_phone_nothing_that_moves_the_run_is_out_of_view(sized):
-    """390 pixels wide: all tabs, and all buttons of the clock; what is above the lesson takes 80 pixels at most."""
+    """390 pixels wide: all tabs, and all buttons of the clock; of what is above the lesson, which takes 104 pixels at most."""
     browser = sized
     browser.size(390, 844, mobile=True)
     choose(browser, 'lesson 16')
     settle(browser)
-    assert browser.value('document.getElementById("top").getBoundingClientRect().height') <= 80
-    assert browser.json('''[...document.querySelectorAll('#tabs button, #replay header > *, #run, #stop, #choose')].filter(e => e.checkVisibility()).map(e => [e.id, e.getBoundingClientRect()])
+    assert browser.value('document.getElementById("top").getBoundingClientRect().height') <= 104
+    assert browser.json('''[...document.querySelectorAll('#tabs button, #replay header > *, #top :is(button, select)')].filter(e => e.checkVisibility()).map(e => [e.id, e.getBoundingClientRect()])
       .filter(([, {left, right}]) => left < 0 || right > 390).map(([id]) => id)''') == []
     browser.value('scrollTo(0, 0)')
     look(browser, 'phone_top')
@@ -1255,11 +1255,20 @@ def test_nothing_is_cut_in_a_window(chromium):
     browser.size(1400, 900)
     choose(browser, 'lesson 17')
     settle(browser)
+    apart = """[...document.querySelectorAll("#figures-table > h2 ~ h2 + .table tbody tr")].map(({cells: {5: dropped, 6: loss}}) => {
+      const [one, two] = [dropped, loss].map(({firstChild}) => { const range = new Range(); range.selectNodeContents(firstChild); return range.getBoundingClientRect(); });
+      return two.left - one.right; })"""
+    assert min(browser.json(apart)) >= 8
     browser.value('page.makeNet(false)')
     assert browser.json('(e => [e.scrollWidth - e.clientWidth, e.scrollHeight - e.clientHeight < 2])(page.net.room)') == [0, True]
     browser.value('page.show()')
     look(browser, 'whole_1400')
     browser.size(1024, 768)
+    # All of the tools; and no gap below what a tab has, nor between numbers of two columns.
+    assert browser.json(cut % ('#top :is(button, select)', 844)) == []
+    for tab in 'debug', 'time':
+        show(browser, tab)
+        assert browser.value(f'Math.max(...["#debugger pre", "#debugger form", "#time-went *"].flatMap(css => [...document.querySelectorAll(css)]).filter(e => e.checkVisibility()).map(e => e.getBoundingClientRect().bottom)) > document.getElementById("tab-{tab}").getBoundingClientRect().bottom - 24'), tab
     choose(browser, 'lesson 18')
     widest, room = browser.json('''(e => { const {font, paddingLeft} = getComputedStyle(e), ARROW = 20;
       return [Math.max(...[...e.options].filter(it => it.value.startsWith('lesson')).map(it => textWidth(it.textContent, font))), e.clientWidth - 2 * parseFloat(paddingLeft) - ARROW]; })(document.getElementById("choose"))''')
