@@ -779,6 +779,21 @@ def test_each_lesson_names_the_panels_that_carry_it(sized):
     assert browser.json('[...document.querySelectorAll("#delays .dots title")].map(e => e.textContent)') == ['delay of packets of f at a', 'delay of packets of g at a']
 
 
+@pytest.mark.parametrize('width', [1400, 1024])
+def test_a_lesson_opens_with_its_panels_in_view(sized, width):
+    """All that it names, lesson 15 windows too, since it speaks of timeouts; and the heads of the trace's lines, which are one row."""
+    browser = sized
+    browser.size(width, SIZES[width])
+    for lesson in (page_lessons.lessons()[k - 1] for k in (3, 13, 15, 17)):
+        choose(browser, f'lesson {lesson.number}')
+        settle(browser)
+        seen, heads = browser.json("""[[...document.querySelectorAll("#charts > div")].filter(e => e.checkVisibility() && e.getBoundingClientRect().bottom <= innerHeight).map(e => e.dataset.panel),
+          (({height, bottom}) => height > 0 && height <= 17 && bottom < innerHeight)(document.querySelector("#lines .heads").getBoundingClientRect())]""")
+        assert {*seen} == {name for name, *_ in lesson.panels} and heads, (lesson.number, seen, heads)
+        assert 'windows' in seen or lesson.number == 17
+        look(browser, f'opened_{width}_{lesson.number}')
+
+
 def test_small_multiples_from_three_flows_on(sized):
     """A lane a flow, each with its axis; where there is no room one flow before the others in grey."""
     browser = sized
@@ -1092,6 +1107,7 @@ def test_a_link_has_one_colour(sized):
     show(browser, 'compare')
     both = browser.json(boxes % 'both-links')
     assert len(both) == 16 and sorted(both) == sorted(alone) and [name for name, *_ in names] == ['pq', 'qu'] and all(it in alone for it in names)
+    assert len({(line, colour) for _, line, colour in both}) == 16
     look(browser, 'links_of_both')
     browser.value('simulator.showTab("net")')
 
@@ -1107,7 +1123,6 @@ def test_names_of_lanes_lie_over_no_curve(sized):
         for panel, lanes in (('windows', 3), ('lengths', 2)):
             names, labels, curves = browser.json(f'''['.lane', '.axis text', ':is(.area, path[stroke])'].map(css => [...document.querySelectorAll(`#{panel} ${{css}}`)].map(e => e.getBoundingClientRect()).filter(e => e.width))''')
             if browser.value(f'page.panels.charts.{panel}.lanes.length') == 1:       # they had no room, and are one
-    assert len({(line, colour) for _, line, colour in both}) == 16
                 assert not names and width == 1024
                 continue
             assert len(names) == lanes, (width, panel)
@@ -1240,11 +1255,20 @@ def test_on_a_phone_all_of_a_lesson_is_in_view(chromium):
     look(browser, 'phone_17')
     show(browser, 'figures')
     assert browser.json('[...document.querySelectorAll("#figures-table > .table")].map(e => e.scrollWidth - e.clientWidth)') == [0, 0]
+    apart = """[...document.querySelectorAll("#figures-table > h2 ~ h2 + .table tbody tr")].map(({cells: {5: dropped, 6: loss}}) => {
+      const [one, two] = [dropped, loss].map(({firstChild}) => { const range = new Range(); range.selectNodeContents(firstChild); return range.getBoundingClientRect(); });
+      return two.left - one.right; })"""
+    assert min(browser.json(apart)) >= 8
     look(browser, 'phone_17_figures')
     show(browser, 'debug')
     browser.value('scrollTo(0, 0)')
     assert browser.json(cut % ('#debugger form *', 844)) == []
     look(browser, 'phone_17_debug')
+    # All of the tools; and no gap below what a tab has, nor between numbers of two columns.
+    assert browser.json(cut % ('#top :is(button, select)', 844)) == []
+    for tab in 'debug', 'time':
+        show(browser, tab)
+        assert browser.value(f'Math.max(...["#debugger pre", "#debugger form", "#time-went *"].flatMap(css => [...document.querySelectorAll(css)]).filter(e => e.checkVisibility()).map(e => e.getBoundingClientRect().bottom)) > document.getElementById("tab-{tab}").getBoundingClientRect().bottom - 24'), tab
     browser.value('simulator.showTab("net")')
     browser.size(1280, 800)
 
@@ -1255,20 +1279,11 @@ def test_nothing_is_cut_in_a_window(chromium):
     browser.size(1400, 900)
     choose(browser, 'lesson 17')
     settle(browser)
-    apart = """[...document.querySelectorAll("#figures-table > h2 ~ h2 + .table tbody tr")].map(({cells: {5: dropped, 6: loss}}) => {
-      const [one, two] = [dropped, loss].map(({firstChild}) => { const range = new Range(); range.selectNodeContents(firstChild); return range.getBoundingClientRect(); });
-      return two.left - one.right; })"""
-    assert min(browser.json(apart)) >= 8
     browser.value('page.makeNet(false)')
     assert browser.json('(e => [e.scrollWidth - e.clientWidth, e.scrollHeight - e.clientHeight < 2])(page.net.room)') == [0, True]
     browser.value('page.show()')
     look(browser, 'whole_1400')
     browser.size(1024, 768)
-    # All of the tools; and no gap below what a tab has, nor between numbers of two columns.
-    assert browser.json(cut % ('#top :is(button, select)', 844)) == []
-    for tab in 'debug', 'time':
-        show(browser, tab)
-        assert browser.value(f'Math.max(...["#debugger pre", "#debugger form", "#time-went *"].flatMap(css => [...document.querySelectorAll(css)]).filter(e => e.checkVisibility()).map(e => e.getBoundingClientRect().bottom)) > document.getElementById("tab-{tab}").getBoundingClientRect().bottom - 24'), tab
     choose(browser, 'lesson 18')
     widest, room = browser.json('''(e => { const {font, paddingLeft} = getComputedStyle(e), ARROW = 20;
       return [Math.max(...[...e.options].filter(it => it.value.startsWith('lesson')).map(it => textWidth(it.textContent, font))), e.clientWidth - 2 * parseFloat(paddingLeft) - ARROW]; })(document.getElementById("choose"))''')

@@ -266,7 +266,7 @@ class Compare {
       return chart;
     };
     const said = 'solid the first run, dashed the second';
-    this.charts[0] = draw('windows', `cwnd in bytes: ${said}`, 'flows', this.ticked('flows', flows, 2, ofFlow), ofFlow, (record, f) => record.curve(record.ofFlow(f, CWND)));
+    this.charts[0] = draw('windows', `cwnd in bytes: ${said}`, 'flows', this.ticked('flows', flows, 2, name => `solid ${ofFlow(name)}`), ofFlow, (record, f) => record.curve(record.ofFlow(f, CWND)));
     yield;
     this.charts[1] = draw('lengths', `packets that wait: ${said}`, 'links', this.ticked('links', links, 1, name => linkLineOf(every.indexOf(name))), ofLink, (record, l) => record.queueCurve(l));
   }

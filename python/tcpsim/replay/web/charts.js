@@ -73,7 +73,7 @@ class Chart {
     Object.assign(this, {record, go, whole, text, fonts: new Map()});
     this.node = svg.node();
     this.box = this.node.getBoundingClientRect(); this.boxed = this.node.parentNode.clientHeight;
-    this.wide = Math.max(240, this.box.width || CHART.wide); this.tall = Math.max(80, this.box.height || CHART.tall);
+    this.wide = Math.max(200, this.box.width || CHART.wide); this.tall = Math.max(80, this.box.height || CHART.tall);
     this.svg = svg.attr('viewBox', `0 0 ${this.wide} ${this.tall}`).attr('preserveAspectRatio', 'none');
     this.x = d3.scale.linear().domain(this.span());
     this.title = this.svg.append('text').attr('class', 'title');

@@ -14,7 +14,7 @@ function rowsOf(line, letters) {
 
 function whereText(event, last, time) { return `event ${number(event)} of ${number(last)}   ${seconds(time)}`; }
 const EVENT_AFTER = 100;                // ms: while it plays, its events are read no faster
-const PLAY = ['▶ play', '❚❚ pause'], LEAST_FONT = 12, LEAST_LINES = 6;
+const PLAY = ['▶ play', '❚❚ pause'], LEAST_FONT = 12, LEAST_LINES = 3;
 
 // Takes smaller letters, down to LEAST_FONT, until an element's words have room in it.
 function fit(element) {
@@ -204,9 +204,9 @@ class Page {
       // Where the lines are not shown, as in a slide, their list has no width.
       this.letters = Math.max(1, Math.floor((this.list.clientWidth - 14) / textWidth('0', getComputedStyle(this.list).font)));
       // Few lines have no heads above them.
-      const room = Math.floor((this.list.clientHeight - 4) / 16), most = room - rowsOf(heads.textContent, this.letters);
-      heads.hidden = most < LEAST_LINES;
-      this.fit = Math.min(41, Math.max(3, heads.hidden ? room : most));
+      const room = Math.floor((this.list.clientHeight - 4) / 16);
+      heads.hidden = room <= LEAST_LINES;
+      this.fit = Math.min(41, Math.max(3, room - !heads.hidden));
     };
     const heads = Object.assign(document.createElement('li'), {className: 'heads', textContent: inColumns(this.columns, HEADS)});
     this.list.append(heads);
