@@ -42,6 +42,7 @@ class Lesson:
         except ImportError:
             raise Refused('the lessons want python3-markdown: apt-get install python3-markdown, and use /usr/bin/python3') from None
         made = markdown.markdown(text, extensions=['fenced_code', 'tables'])
+        made = re.sub(r'(<img [^>]*>)\s*<code>bin/tcpsim-plot [^<]*</code>', r'\1', made)     # it has the picture
         made = re.sub(r'<img alt="([^"]*)" src="pictures/(\w+)\.svg" ?/>', self._picture, made)
         made = re.sub(r' style="text-align: (\w+);"', r' class="\1"', made)        # which the page's policy would not let stand
         made = re.sub(r'<p><img alt="[^"]*" src="pictures/replay_\w+\.png" ?/></p>', '', made)        # the net itself shows it

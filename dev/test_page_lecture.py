@@ -728,7 +728,7 @@ def test_a_lesson_speaks_of_what_the_page_shows():
     """Of no panel by its place; and outside of what it says of a picture only of panels that it brings. Above all is what it shows."""
     for lesson in page_lessons.lessons():
         panels = {name for name, *_ in lesson.panels}
-        assert lesson.text.startswith('<blockquote>'), lesson.number
+        assert lesson.text.startswith('<blockquote>') and not re.search('<img [^>]*>\\s*<code>', lesson.text), lesson.number
         assert not re.search('(?:upper|lower|two|three|each) panels?', lesson.text), lesson.number
         for part in re.findall(r'<p>(.*?)</p>', lesson.text, re.S):
             if re.search('picture', re.sub('<[^>]*>', '', part)):
