@@ -904,6 +904,7 @@ def test_panes_of_the_debugger_and_the_trace_have_names_and_units(sized):
     show(browser, 'debug')
     hints = dict(browser.json('[...document.querySelectorAll("#debugger [data-hint]")].map(e => [e.textContent, e.dataset.hint])'))
     assert any(text.startswith('node 0 sender') and hint == 'sender s' for text, hint in hints.items()), hints
+    assert all(hint == f'{int(text.split()[-2]) / 1e9:.6f} s' for text, hint in hints.items() if text.startswith('at ')) and any(text.startswith('at ') for text in hints), hints
     assert any(re.match(r'event \d+ ', text) and re.match(r'[\d.]+ s, [sr]: (data|ack|rto|free) ', hint) for text, hint in hints.items()), hints
     assert not browser.value('document.querySelector("#debugger pre").textContent.includes("sender s\\n")')
 

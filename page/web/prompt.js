@@ -9,11 +9,11 @@ const AGAIN_WITHIN = 100;               // ms that a session may take to be run 
 
 // The debugger's stalls are not those of the button.
 const STANDS_STILL = 'where nothing of a flow is under way. The button stall goes to others: more than 200 ms without a new acknowledgement';
-const ASKS_STALLS = /^ *stal(l(s)?)? *$/, STALLED = /^goto \d+: flow (.*) is stalled at (\d+) ns$/;
-// What a line of an answer means, with names for its numbers: of a node, a link, a stall or an event that the session shows.
+const ASKS_STALLS = /^ *stal(l(s)?)? *$/, STALLED = /^goto \d+: flow (.*) is stalled at/, IN_NS = /\b(\d+) ?ns\b/g;
+// What a line of an answer means: its times in seconds, or names for its numbers, of a node, a link or an event that the session shows.
 function meaningOf(facts, line) {
-  const stalled = STALLED.exec(line);
-  if (stalled) return `${seconds(+stalled[2])}: ${stalled[1]} stands still`;
+  const times = [...line.matchAll(IN_NS)].map(([, ns]) => seconds(+ns)).join(', '), stalled = STALLED.exec(line);
+  if (times) return stalled ? `${times}: ${stalled[1]} stands still` : times;
   const [kind, first, second, , , what, name, packet] = line.split(' ');
   if (kind === 'node' && facts.nodes[first]) return `${second} ${facts.nodes[first].name}`;
   if (kind === 'link' && facts.links[first]) return `link ${facts.links[first].name}`;
