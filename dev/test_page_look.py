@@ -1240,6 +1240,17 @@ def test_what_scrolls_shows_that_there_is_more(sized, tmp_path):
         shades.append(float(imread(tmp_path / 'words.png')[int(bottom) - 2, int(right) - 30, :3].mean()))
         look(browser, f'words_{scrolled}')
     assert shades[0] < .75 and shades[1] > .99, shades
+    if not isinstance(browser, browsers.Chromium):
+        return
+    try:        # in the dark there is no bright bar, and in neither does it lie behind a whole line
+        scheme(browser, 'dark')
+        browser.value('document.getElementById("words").scrollTop = 0')
+        settle(browser)
+        browser.picture(tmp_path / 'words.png')
+        column = imread(tmp_path / 'words.png')[int(bottom) - 9:int(bottom), int(right) - 30, :3].mean(axis=1)
+        assert column[0] < column.max() < .28, column
+    finally:
+        scheme(browser, 'light')
 
 
 def test_on_a_phone_all_of_a_lesson_is_in_view(chromium):
