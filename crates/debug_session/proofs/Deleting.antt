@@ -1,8 +1,8 @@
 -- What a session at a prompt answers where a breakpoint is set, or deleted, and where nothing but a text is asked for.
 use Rattle.std.proofs.Common.{◌≡◌, ◌+◌, ◌++◌, ◌∷◌, ◌∙◌, ℕ, List, get_or, refl, sym, ap, subst, Result, Ok, Err, MatchResult}
 use Rattle.std.proofs.Math.Seq.{get_or-append_seam}
-use Rattle.debugger.specs.declared.breaks.Break.{Break}
-use Rattle.debugger.specs.Breaks.{IsTakenOut}
+use Rattle.breakpoints.specs.declared.breaks.Break.{Break}
+use Rattle.breakpoints.specs.Breaks.{IsTakenOut}
 use Rattle.debugger.specs.Debugging.{Debugging}
 use Rattle.debug_session.specs.declared.command.Typed.{Typed}
 use Rattle.debug_session.specs.declared.naming.Naming.{Naming}

@@ -4,9 +4,9 @@ use Rattle.std.proofs.lemmas.Bool.{cases_lt}
 use Rattle.std.specs.List.{Contains}
 use Rattle.std.specs.Result.{is_ok}
 use Rattle.std.proofs.lemmas.Bool.{false≢true}
-use Rattle.debugger.specs.declared.breaks.Break.{Break}
-use Rattle.debugger.specs.declared.breaks.BreakFault.{BreakFault}
-use Rattle.debugger.specs.declared.breaks.BreakFault.TheVariants.{TooMany, NoMemory}
+use Rattle.breakpoints.specs.declared.breaks.Break.{Break}
+use Rattle.breakpoints.specs.declared.breaks.BreakFault.{BreakFault}
+use Rattle.breakpoints.specs.declared.breaks.BreakFault.TheVariants.{TooMany, NoMemory}
 use Rattle.debugger.specs.Debugging.{Debugging}
 use Rattle.debug_session.specs.declared.command.Command.TheVariants.{SetBreak}
 use Rattle.debug_session.specs.Answers.{session_state, Obeys, break_line}

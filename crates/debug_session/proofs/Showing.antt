@@ -2,7 +2,7 @@
 use Rattle.std.proofs.Common.{◌≡◌, ◌∙◌, ℕ, List, [], ◌++◌, Option, Some, Result, Ok, Err, MatchResult, refl, sym, ap, subst, append-nil}
 use Rattle.net_machine.specs.Run.{Reached}
 use Rattle.debugger.specs.Debugging.{Debugging}
-use Rattle.debugger.specs.Seen.{read_left_in}
+use Rattle.breakpoints.specs.Seen.{read_left_in}
 use Rattle.debug_session.specs.declared.command.Move.{Move}
 use Rattle.debug_session.specs.declared.command.Typed.TheVariants.{Go}
 use Rattle.debug_session.specs.declared.display.DisplayItem.{DisplayItem}

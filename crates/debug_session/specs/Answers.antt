@@ -4,7 +4,7 @@ use Rattle.table_run.specs.State.{State as NetState}
 use Rattle.net_machine.specs.Run.{Reached}
 use Rattle.trace_text.specs.Words.{line_of_words}
 use Rattle.trace_text.specs.Dump.{dump_bytes}
-use Rattle.debugger.specs.declared.breaks.Break.{Break}
+use Rattle.breakpoints.specs.declared.breaks.Break.{Break}
 use Rattle.debugger.specs.Moves.{Passes, StepGoesTo, RunGoesTo, ReverseGoesTo, UntilGoesTo}
 use Rattle.debugger.specs.Debugging.{Debugging}
 use Rattle.debug_session.specs.declared.command.Command.{Command}

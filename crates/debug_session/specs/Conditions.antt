@@ -1,18 +1,18 @@
 -- A breakpoint, as it is typed at a prompt: a stall, or conditions, each of another sort.
 use Rattle.std.specs.Prelude.{ℕ, zero, suc, Bool, false, if◌then◌else◌, List, [], ◌∷◌, codes, Option, None, Some, is_some, option_map, Result, Ok, Err}
 use Rattle.std.specs.Str.{bytes_eq}
-use Rattle.debugger.specs.declared.breaks.Break.{Break}
-use Rattle.debugger.specs.declared.breaks.Condition.{Condition}
-use Rattle.debugger.specs.declared.breaks.Condition.TheVariants as condition
-use Rattle.debugger.specs.declared.breaks.EventKind.TheVariants.{Start}
-use Rattle.debugger.specs.declared.breaks.StallOf.TheVariants.{Any, Flow as OneFlow}
-use Rattle.debugger.specs.declared.values.Owner.{Owner}
-use Rattle.debugger.specs.declared.values.Owner.TheVariants as owner
-use Rattle.debugger.specs.declared.values.Test.TheVariants.{Is}
-use Rattle.debugger.specs.declared.values.Value.{Value as AnyValue}
-use Rattle.debugger.specs.declared.values.ValueCondition.TheVariants as on
-use Rattle.debugger.specs.Values.{asked_of, owner_of}
-use Rattle.debugger.specs.Breaks.{asking, asks_nothing}
+use Rattle.breakpoints.specs.declared.breaks.Break.{Break}
+use Rattle.breakpoints.specs.declared.breaks.Condition.{Condition}
+use Rattle.breakpoints.specs.declared.breaks.Condition.TheVariants as condition
+use Rattle.breakpoints.specs.declared.breaks.EventKind.TheVariants.{Start}
+use Rattle.breakpoints.specs.declared.breaks.StallOf.TheVariants.{Any, Flow as OneFlow}
+use Rattle.breakpoints.specs.declared.values.Owner.{Owner}
+use Rattle.breakpoints.specs.declared.values.Owner.TheVariants as owner
+use Rattle.breakpoints.specs.declared.values.Test.TheVariants.{Is}
+use Rattle.breakpoints.specs.declared.values.Value.{Value as AnyValue}
+use Rattle.breakpoints.specs.declared.values.ValueCondition.TheVariants as on
+use Rattle.breakpoints.specs.Values.{asked_of, owner_of}
+use Rattle.breakpoints.specs.Breaks.{asking, asks_nothing}
 use Rattle.debug_session.specs.declared.conditions.Sort.{Sort}
 use Rattle.debug_session.specs.declared.conditions.Sort.TheVariants.{Node, Flow, Kind, Drop, Link, Byte, Value, Change}
 use Rattle.debug_session.specs.declared.naming.Naming.{Naming}

@@ -1,9 +1,9 @@
 -- What is typed behind `display` and `undisplay`.
 use Rattle.std.specs.Prelude.{List, [], ◌∷◌, Option, None, Some, Result, Ok, Err}
-use Rattle.debugger.specs.declared.values.Owner.{Owner}
-use Rattle.debugger.specs.declared.values.Owner.TheVariants as owner
-use Rattle.debugger.specs.declared.values.Value.{Value as AnyValue}
-use Rattle.debugger.specs.Values.{owner_of}
+use Rattle.breakpoints.specs.declared.values.Owner.{Owner}
+use Rattle.breakpoints.specs.declared.values.Owner.TheVariants as owner
+use Rattle.breakpoints.specs.declared.values.Value.{Value as AnyValue}
+use Rattle.breakpoints.specs.Values.{owner_of}
 use Rattle.debug_session.specs.declared.conditions.Sort.{Sort}
 use Rattle.debug_session.specs.declared.conditions.Sort.TheVariants.{Node, Flow, Kind, Drop, Link, Byte, Value, Change}
 use Rattle.debug_session.specs.declared.display.DisplayCommand.{DisplayCommand}

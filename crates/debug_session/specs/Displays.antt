@@ -4,14 +4,14 @@ use Rattle.std.specs.List.{remove, flat_map}
 use Rattle.std.specs.Str.{bytes_eq}
 use Rattle.flow_waits.specs.declared.names.ScenarioNames.{ScenarioNames}
 use Rattle.flow_waits.specs.Names.{named}
-use Rattle.debugger.specs.declared.values.Owner.{Owner}
-use Rattle.debugger.specs.declared.values.Owner.TheVariants as owner
-use Rattle.debugger.specs.declared.values.Reading.{Reading}
-use Rattle.debugger.specs.declared.values.Reading.TheVariants.{Number, Phase as InPhase, Nothing}
-use Rattle.debugger.specs.declared.values.Value.{Value}
-use Rattle.debugger.specs.declared.values.Value.TheVariants.{Cwnd, Flight, Ssthresh, Una, Nxt, Rto, Dups, Phase, Next, Queue, Wait, Count}
-use Rattle.debugger.specs.declared.values.ValueOf.{ValueOf}
-use Rattle.debugger.specs.Values.{owner_of}
+use Rattle.breakpoints.specs.declared.values.Owner.{Owner}
+use Rattle.breakpoints.specs.declared.values.Owner.TheVariants as owner
+use Rattle.breakpoints.specs.declared.values.Reading.{Reading}
+use Rattle.breakpoints.specs.declared.values.Reading.TheVariants.{Number, Phase as InPhase, Nothing}
+use Rattle.breakpoints.specs.declared.values.Value.{Value}
+use Rattle.breakpoints.specs.declared.values.Value.TheVariants.{Cwnd, Flight, Ssthresh, Una, Nxt, Rto, Dups, Phase, Next, Queue, Wait, Count}
+use Rattle.breakpoints.specs.declared.values.ValueOf.{ValueOf}
+use Rattle.breakpoints.specs.Values.{owner_of}
 use Rattle.debug_session.specs.declared.display.DisplayCommand.{DisplayCommand}
 use Rattle.debug_session.specs.declared.display.DisplayCommand.TheVariants.{All, Add, TakeAway}
 use Rattle.debug_session.specs.declared.display.DisplayItem.{DisplayItem}

@@ -2,11 +2,11 @@
 use Rattle.std.specs.Prelude.{ℕ, ◌&&◌, nat_lt, if◌then◌else◌, List, [], ◌∷◌, codes, Option, None, Some, ok_or, Result, Ok, Err}
 use Rattle.std.specs.Str.{bytes_eq}
 use Rattle.scenario_asm.specs.Numbers.{is_numeral, number}
-use Rattle.debugger.specs.declared.breaks.EventKind.{EventKind}
-use Rattle.debugger.specs.declared.breaks.EventKind.TheVariants.{Start, Rto, DelAck, Free, Data, Ack}
-use Rattle.debugger.specs.declared.breaks.Condition.{Condition}
-use Rattle.debugger.specs.declared.breaks.Condition.TheVariants.{Node, Flow, Kind, Drop}
-use Rattle.debugger.specs.Breaks.{asking, asks_nothing}
+use Rattle.breakpoints.specs.declared.breaks.EventKind.{EventKind}
+use Rattle.breakpoints.specs.declared.breaks.EventKind.TheVariants.{Start, Rto, DelAck, Free, Data, Ack}
+use Rattle.breakpoints.specs.declared.breaks.Condition.{Condition}
+use Rattle.breakpoints.specs.declared.breaks.Condition.TheVariants.{Node, Flow, Kind, Drop}
+use Rattle.breakpoints.specs.Breaks.{asking, asks_nothing}
 use Rattle.debug_session.specs.declared.command.Command.{Command}
 use Rattle.debug_session.specs.declared.command.Command.TheVariants.{Go, State, SetBreak, Clear}
 use Rattle.debug_session.specs.declared.command.Limits.{Limits}

@@ -1,13 +1,13 @@
 -- Breakpoints by their numbers, and how they are told at a prompt.
 use Rattle.std.specs.Prelude.{◌≡◌, ◌<◌, ◌≤◌, ◌+◌, ℕ, Bool, if◌then◌else◌, List, [], ◌∷◌, ◌++◌, length, Contains, codes, decimal, Option, None, Some}
 use Rattle.flow_waits.specs.Names.{NameList, named}
-use Rattle.debugger.specs.declared.breaks.EventKind.{EventKind}
-use Rattle.debugger.specs.declared.breaks.EventKind.TheVariants.{Start, Rto, DelAck, Free, Data, Ack}
-use Rattle.debugger.specs.declared.breaks.Break.{Break}
-use Rattle.debugger.specs.declared.breaks.StallOf.{StallOf}
-use Rattle.debugger.specs.declared.breaks.StallOf.TheVariants.{Any, Flow}
-use Rattle.debugger.specs.declared.values.Reading.{Reading}
-use Rattle.debugger.specs.declared.values.Reading.TheVariants.{Nothing}
+use Rattle.breakpoints.specs.declared.breaks.EventKind.{EventKind}
+use Rattle.breakpoints.specs.declared.breaks.EventKind.TheVariants.{Start, Rto, DelAck, Free, Data, Ack}
+use Rattle.breakpoints.specs.declared.breaks.Break.{Break}
+use Rattle.breakpoints.specs.declared.breaks.StallOf.{StallOf}
+use Rattle.breakpoints.specs.declared.breaks.StallOf.TheVariants.{Any, Flow}
+use Rattle.breakpoints.specs.declared.values.Reading.{Reading}
+use Rattle.breakpoints.specs.declared.values.Reading.TheVariants.{Nothing}
 use Rattle.debug_session.specs.declared.naming.Naming.{Naming}
 use Rattle.debug_session.specs.ValueTexts.{values_text, was_text}
 

@@ -1,10 +1,10 @@
 -- The parts of a breakpoint that are still to be read, and what is read of them.
 use Rattle.std.specs.Prelude.{◌≡◌, ◌||◌, Bool, if◌then◌else◌, List, [], ◌∷◌, Option, None, Some, is_none, Result, Ok, Err, MatchResult}
-use Rattle.debugger.specs.declared.values.Phase.TheVariants.{SlowStart}
-use Rattle.debugger.specs.declared.values.Sign.TheVariants.{Less}
-use Rattle.debugger.specs.declared.values.Test.{Test}
-use Rattle.debugger.specs.declared.values.Test.TheVariants.{Within, Is}
-use Rattle.debugger.specs.declared.values.Value.{Value}
+use Rattle.breakpoints.specs.declared.values.Phase.TheVariants.{SlowStart}
+use Rattle.breakpoints.specs.declared.values.Sign.TheVariants.{Less}
+use Rattle.breakpoints.specs.declared.values.Test.{Test}
+use Rattle.breakpoints.specs.declared.values.Test.TheVariants.{Within, Is}
+use Rattle.breakpoints.specs.declared.values.Value.{Value}
 use Rattle.debug_session.specs.declared.refusal.Refusal.{Refusal}
 use Rattle.debug_session.specs.declared.refusal.Refusal.TheVariants.{B1, B2}
 use Rattle.debug_session.specs.declared.refusal.Refused.{Refused}

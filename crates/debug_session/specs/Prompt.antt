@@ -4,7 +4,7 @@ use Rattle.std.specs.List.{list_all}
 use Rattle.table_run.specs.State.{State}
 use Rattle.net_machine.specs.Run.{Reached}
 use Rattle.flow_waits.specs.declared.names.ScenarioNames.{ScenarioNames}
-use Rattle.debugger.specs.Seen.{read_in}
+use Rattle.breakpoints.specs.Seen.{read_in}
 use Rattle.debug_session.specs.declared.command.Request.{Request}
 use Rattle.debug_session.specs.declared.command.Request.TheVariants.{Command, Display}
 use Rattle.debug_session.specs.declared.command.Move.{Move}

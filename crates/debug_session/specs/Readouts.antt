@@ -1,9 +1,9 @@
 -- What displays read, for the contracts of private steps.
 use Rattle.std.specs.Prelude.{◌≡◌, ℕ, List, ◌++◌, Option, None, Some}
 use Rattle.flow_waits.specs.declared.names.ScenarioNames.{ScenarioNames}
-use Rattle.debugger.specs.declared.values.Reading.{Reading}
-use Rattle.debugger.specs.declared.values.ValueOf.{ValueOf}
-use Rattle.debugger.specs.Seen.{read_in, read_left_in}
+use Rattle.breakpoints.specs.declared.values.Reading.{Reading}
+use Rattle.breakpoints.specs.declared.values.ValueOf.{ValueOf}
+use Rattle.breakpoints.specs.Seen.{read_in, read_left_in}
 use Rattle.debugger.specs.Debugging.{Debugging}
 use Rattle.debug_session.specs.declared.display.DisplayItem.{DisplayItem}
 use Rattle.debug_session.specs.declared.readout.Readout.{Readout}

@@ -2,7 +2,7 @@
 use Rattle.std.specs.Prelude.{◌≡◌, ◌-◌, List, [], ℕ, ◌++◌, min, nat_lt, if◌then◌else◌, Option, None, Some}
 use Rattle.table_run.specs.State.{State as NetState}
 use Rattle.net_machine.specs.Run.{Reached}
-use Rattle.debugger.specs.declared.breaks.Hit.{Hit}
+use Rattle.breakpoints.specs.declared.breaks.Hit.{Hit}
 use Rattle.debugger.specs.declared.passed.LastEvent.{LastEvent}
 use Rattle.debugger.specs.declared.passed.LineOrder.TheVariants.{Rising, Falling}
 use Rattle.debugger.specs.declared.passed.Stretch.{Stretch}

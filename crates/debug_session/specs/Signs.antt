@@ -2,8 +2,8 @@
 use Rattle.std.specs.Prelude.{ℕ, ◌+◌, ◌==◌, ◌&&◌, ◌||◌, Bool, false, not, if◌then◌else◌, List, [], ◌∷◌, ◌++◌, codes, Option, None, Some}
 use Rattle.std.specs.List.{flat_map, position_or_len}
 use Rattle.std.specs.Str.{bytes_eq}
-use Rattle.debugger.specs.declared.values.Sign.{Sign}
-use Rattle.debugger.specs.declared.values.Sign.TheVariants.{Less, AtMost, Greater, AtLeast, Equal}
+use Rattle.breakpoints.specs.declared.values.Sign.{Sign}
+use Rattle.breakpoints.specs.declared.values.Sign.TheVariants.{Less, AtMost, Greater, AtLeast, Equal}
 use Rattle.debug_session.specs.Grammar.{Word}
 
 -- `<`, `=` or `>`

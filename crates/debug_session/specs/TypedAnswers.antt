@@ -3,8 +3,8 @@ use Rattle.std.specs.Prelude.{◌≡◌, ◌<◌, ◌+◌, ◌-◌, ◌⊎◌, �
 use Rattle.table_run.specs.State.{State as NetState}
 use Rattle.trace_text.specs.DumpParts.{part_bytes}
 use Rattle.debug_session.specs.Missing.{why_text}
-use Rattle.debugger.specs.declared.breaks.Break.{Break}
-use Rattle.debugger.specs.Breaks.{IsTakenOut}
+use Rattle.breakpoints.specs.declared.breaks.Break.{Break}
+use Rattle.breakpoints.specs.Breaks.{IsTakenOut}
 use Rattle.debug_session.specs.declared.command.Command.TheVariants as command
 use Rattle.debug_session.specs.declared.command.Typed.{Typed}
 use Rattle.debug_session.specs.declared.command.Typed.TheVariants.{Go, State, SetBreak, Delete, Clear, Breaks, Show}

@@ -6,9 +6,9 @@ use Rattle.table_run.specs.State.{State as NetState, due}
 use Rattle.net_machine.specs.Run.{Reached}
 use Rattle.flow_waits.specs.declared.names.ScenarioNames.{ScenarioNames}
 use Rattle.flow_waits.specs.Names.{named}
-use Rattle.debugger.specs.declared.breaks.Break.{Break}
-use Rattle.debugger.specs.declared.breaks.Hit.{Hit}
-use Rattle.debugger.specs.Breaks.{flow_of, IsFirstHit}
+use Rattle.breakpoints.specs.declared.breaks.Break.{Break}
+use Rattle.breakpoints.specs.declared.breaks.Hit.{Hit}
+use Rattle.breakpoints.specs.Breaks.{flow_of, IsFirstHit}
 use Rattle.debugger.specs.LastEvents.{freed_link}
 use Rattle.debugger.specs.Moves.{Passes, GivesAt}
 use Rattle.debugger.specs.Passed.{lines_between, texts_between}

@@ -1,13 +1,13 @@
 -- The names of the values that a breakpoint can have a condition on, and of what they are compared with.
 use Rattle.std.specs.Prelude.{ℕ, Bool, true, false, not, ◌&&◌, if◌then◌else◌, List, [], ◌∷◌, codes, Option, None, Some}
 use Rattle.std.specs.Str.{bytes_eq}
-use Rattle.debugger.specs.declared.values.Owner.{Owner}
-use Rattle.debugger.specs.declared.values.Owner.TheVariants as owner
-use Rattle.debugger.specs.declared.values.Phase.{Phase}
-use Rattle.debugger.specs.declared.values.Phase.TheVariants.{SlowStart, CongestionAvoidance, FastRecovery}
-use Rattle.debugger.specs.declared.values.Value.{Value}
-use Rattle.debugger.specs.declared.values.Value.TheVariants.{Cwnd, Flight, Ssthresh, Una, Nxt, Rto, Dups, Phase as PhaseValue, Next, Queue, Wait, Count, Time}
-use Rattle.debugger.specs.Values.{owner_of}
+use Rattle.breakpoints.specs.declared.values.Owner.{Owner}
+use Rattle.breakpoints.specs.declared.values.Owner.TheVariants as owner
+use Rattle.breakpoints.specs.declared.values.Phase.{Phase}
+use Rattle.breakpoints.specs.declared.values.Phase.TheVariants.{SlowStart, CongestionAvoidance, FastRecovery}
+use Rattle.breakpoints.specs.declared.values.Value.{Value}
+use Rattle.breakpoints.specs.declared.values.Value.TheVariants.{Cwnd, Flight, Ssthresh, Una, Nxt, Rto, Dups, Phase as PhaseValue, Next, Queue, Wait, Count, Time}
+use Rattle.breakpoints.specs.Values.{owner_of}
 use Rattle.debug_session.specs.Grammar.{Word, number_below}
 use Rattle.debug_session.specs.Times.{moment_in}
 

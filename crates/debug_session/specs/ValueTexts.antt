@@ -1,17 +1,17 @@
 -- Conditions on values, as they are told at a prompt.
 use Rattle.std.specs.Prelude.{ℕ, Bool, true, false, if◌then◌else◌, List, [], ◌++◌, codes, decimal, Option, None, Some}
 use Rattle.std.specs.List.{flat_map}
-use Rattle.debugger.specs.declared.values.Asked.{Asked}
-use Rattle.debugger.specs.declared.values.Owner.{Owner}
-use Rattle.debugger.specs.declared.values.Owner.TheVariants as owner
-use Rattle.debugger.specs.declared.values.Reading.{Reading}
-use Rattle.debugger.specs.declared.values.Reading.TheVariants.{Number, Phase as InPhase, Nothing}
-use Rattle.debugger.specs.declared.values.Test.{Test}
-use Rattle.debugger.specs.declared.values.Test.TheVariants.{Within, Is}
-use Rattle.debugger.specs.declared.values.Value.{Value}
-use Rattle.debugger.specs.declared.values.ValueOf.{ValueOf}
-use Rattle.debugger.specs.declared.values.Values.{Values}
-use Rattle.debugger.specs.Values.{asked_of, owner_of}
+use Rattle.breakpoints.specs.declared.values.Asked.{Asked}
+use Rattle.breakpoints.specs.declared.values.Owner.{Owner}
+use Rattle.breakpoints.specs.declared.values.Owner.TheVariants as owner
+use Rattle.breakpoints.specs.declared.values.Reading.{Reading}
+use Rattle.breakpoints.specs.declared.values.Reading.TheVariants.{Number, Phase as InPhase, Nothing}
+use Rattle.breakpoints.specs.declared.values.Test.{Test}
+use Rattle.breakpoints.specs.declared.values.Test.TheVariants.{Within, Is}
+use Rattle.breakpoints.specs.declared.values.Value.{Value}
+use Rattle.breakpoints.specs.declared.values.ValueOf.{ValueOf}
+use Rattle.breakpoints.specs.declared.values.Values.{Values}
+use Rattle.breakpoints.specs.Values.{asked_of, owner_of}
 use Rattle.flow_waits.specs.Names.{part_name}
 use Rattle.debug_session.specs.declared.naming.Naming.{Naming}
 use Rattle.debug_session.specs.Signs.{sign_text}

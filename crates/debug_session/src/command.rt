@@ -4,7 +4,7 @@ ghost use Rattle.debug_session.specs.Sessions.{limits_of};
 
 use crate::display::DisplayCommand;
 use crate::memo::Extent;
-use debugger::Break;
+use breakpoints::Break;
 use scenario_image::Scenario;
 use sim_time::Time;
 use trace_text::DumpPart;

@@ -1,6 +1,6 @@
 //! A breakpoint, as it is typed at a prompt.
 ghost use Rattle.std.specs.Prelude.{◌≡◌};
-ghost use Rattle.debugger.specs.Breaks.{asks_nothing};
+ghost use Rattle.breakpoints.specs.Breaks.{asks_nothing};
 ghost use Rattle.debug_session.specs.Input.{words_in};
 ghost use Rattle.debug_session.specs.Signs.{parts_in};
 ghost use Rattle.debug_session.specs.Refusals.{by_code};
@@ -12,7 +12,9 @@ use crate::naming::{Naming, PartSort};
 use crate::parts::Parts;
 use crate::refusal::{Expected, Refusal, Refused};
 use crate::value_names::value_named;
-use debugger::{Asked, Break, Condition, Owner, StallOf, Value, ValueCondition, ValueOf, Values};
+use breakpoints::{
+    Asked, Break, Condition, Owner, StallOf, Value, ValueCondition, ValueOf, Values,
+};
 
 /// One more than the greatest byte that can be asked for: a flow has at most so many.
 const BYTES: u64 = 9_000_000_000_001;

@@ -1,6 +1,6 @@
 //! What is displayed after each move.
 ghost use Rattle.std.specs.Prelude.{◌≡◌, ◌<◌, ◌↔◌, IsTrue, MatchOption, Contains, length, slice_index_or};
-ghost use Rattle.debugger.specs.Values.{owner_of};
+ghost use Rattle.breakpoints.specs.Values.{owner_of};
 ghost use Rattle.debug_session.specs.Input.{words_in};
 ghost use Rattle.debug_session.specs.DisplayGrammar.{sort_of_owner, value_asked, item_asked, display_asked};
 ghost use Rattle.debug_session.specs.Numbered.{IsNumber};
@@ -10,7 +10,7 @@ use crate::conditions::{Sort, sort_named};
 use crate::cut::next_word;
 use crate::naming::{Naming, PartSort};
 use crate::refusal::{Refusal, Refused};
-use debugger::{Owner, Value, ValueOf};
+use breakpoints::{Owner, Value, ValueOf};
 
 /// The most displays that there are at one time.
 pub(crate) const MOST_DISPLAYS: usize = 64;

@@ -10,7 +10,7 @@ use crate::names_reported::{append_behind, append_number};
 use crate::readout::Readout;
 use crate::value_names::{phase_word, value_name, value_unit};
 use crate::value_texts::append_reading;
-use debugger::{Owner, Reading, Value, ValueOf};
+use breakpoints::{Owner, Reading, Value, ValueOf};
 use flow_waits::ScenarioNames;
 use std::alloc::AllocError;
 

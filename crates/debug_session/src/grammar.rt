@@ -10,7 +10,7 @@ ghost use Rattle.debug_session.specs.Grammar.{number_below, one_number, no_word_
 use crate::command::{Command, Limits, Move};
 use crate::cut::next_word;
 use crate::refusal::Refusal;
-use debugger::{Break, Condition, EventKind};
+use breakpoints::{Break, Condition, EventKind};
 
 /// One more than the greatest number of events or nanoseconds that can be asked for.
 pub(crate) const AMOUNTS: u64 = 1_000_000_000_000_001;

@@ -5,7 +5,7 @@ ghost use Rattle.debug_session.specs.Numbered.{byte_text, part_text, kind_text, 
 use crate::names_reported::{append_behind, append_number};
 use crate::naming::Naming;
 use crate::value_texts::{append_values, append_was};
-use debugger::{Break, EventKind, Reading, StallOf, is_among};
+use breakpoints::{Break, EventKind, Reading, StallOf, is_among};
 use flow_waits::PartNames;
 use std::alloc::AllocError;
 

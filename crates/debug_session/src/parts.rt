@@ -12,7 +12,7 @@ use crate::naming::{Naming, PartSort};
 use crate::refusal::{Expected, Misnamed, Refusal, Refused};
 use crate::signs::{next_part, sign_named};
 use crate::value_names::{bound_named, is_phase, is_time, may_change, phase_named, value_named};
-use debugger::{Bound, EventKind, Phase, Sign, Test, Value};
+use breakpoints::{Bound, EventKind, Phase, Sign, Test, Value};
 use std::marker::Model;
 
 /// The parts that are still to be read, and what was wrong of those before.

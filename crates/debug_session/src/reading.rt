@@ -15,7 +15,7 @@ use crate::moment::moment_in;
 use crate::name::CommandName;
 use crate::naming::{Naming, PartSort};
 use crate::refusal::{Refusal, Refused};
-use debugger::breaks::MOST_BREAKS;
+use breakpoints::breaks::MOST_BREAKS;
 use trace_text::DumpPart;
 
 /// How many lines are shown where no number is given.

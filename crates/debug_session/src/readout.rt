@@ -2,7 +2,8 @@
 ghost use Rattle.std.specs.Prelude.{◌≡◌};
 ghost use Rattle.debug_session.specs.Readouts.{now_of, was_of};
 
-use debugger::{Debugger, Reading, ValueOf};
+use breakpoints::{Reading, ValueOf};
+use debugger::Debugger;
 use sim_time::Time;
 
 /// The state that a debugger shows, and the one before it that a display compares it with.

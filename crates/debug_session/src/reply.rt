@@ -8,7 +8,8 @@ use crate::grammar::read_line;
 use crate::moves::make;
 use crate::refusal::Refusal;
 use crate::said::Said;
-use debugger::{Break, BreakFault, Debugger};
+use breakpoints::{Break, BreakFault};
+use debugger::Debugger;
 use window_engine::{Gate, Hands};
 
 /// Takes the last move back, where what it came to could not be told.

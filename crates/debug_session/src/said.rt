@@ -3,7 +3,7 @@ ghost use Rattle.std.specs.Prelude.{◌≡◌, ◌<◌, ◌≤◌, ◌+◌, ◌+
 ghost use Rattle.trace_text.specs.Dump.{dump_bytes};
 ghost use Rattle.debugger.specs.Moves.{HasPosition};
 ghost use Rattle.debug_session.specs.Answers.{answer_of, answer_text, session_state, break_line, clear_line};
-ghost use Rattle.debugger.specs.Seen.{read_left_in};
+ghost use Rattle.breakpoints.specs.Seen.{read_left_in};
 ghost use Rattle.debug_session.specs.Displays.{present_line, display_listing, displays_from, undisplayed_line};
 ghost use Rattle.debug_session.specs.Readouts.{now_of, was_of, present, TellsBehind};
 ghost use Rattle.debug_session.specs.Numbered.{set_line, deleted_line, listing};
@@ -20,7 +20,8 @@ use crate::refusal::Refusal;
 use crate::report::Report;
 use crate::shown::append_shown;
 use crate::typed_move::{append_move, present_time};
-use debugger::{Break, Debugger, Reading};
+use breakpoints::{Break, Reading};
+use debugger::Debugger;
 use flow_waits::ScenarioNames;
 use itoa::write_digits;
 use sim_time::Time;

@@ -6,7 +6,7 @@ ghost use Rattle.debug_session.specs.Signs.{is_sign, parts_of_word, parts_from, 
 
 use crate::cut::next_word;
 use crate::grammar::is;
-use debugger::Sign;
+use breakpoints::Sign;
 
 /// Whether a byte is `<`, `=` or `>`.
 fn is_sign(byte: u8) -> bool

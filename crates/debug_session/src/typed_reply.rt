@@ -14,8 +14,9 @@ use crate::refusal::Refusal;
 use crate::reply::or_undone;
 use crate::said::Said;
 use crate::typed_move::present_time;
-use debugger::breaks::MOST_BREAKS;
-use debugger::{Break, Debugger};
+use breakpoints::Break;
+use breakpoints::breaks::MOST_BREAKS;
+use debugger::Debugger;
 use window_engine::{Gate, Hands};
 
 /// Sets a breakpoint, and tells its number: one that is set already keeps it.

@@ -4,7 +4,7 @@ ghost use Rattle.debug_session.specs.ValueNames.{all_values, value_among, value_
 
 use crate::grammar::{AMOUNTS, is, number_below};
 use crate::moment::moment_in;
-use debugger::{Owner, Phase, VALUES, Value};
+use breakpoints::{Owner, Phase, VALUES, Value};
 
 /// All values, by their indices.
 static ALL_VALUES: [Value; VALUES] = [

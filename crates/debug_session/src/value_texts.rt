@@ -7,7 +7,7 @@ ghost use Rattle.debug_session.specs.ValueTexts.{reading_text, test_text, of_tex
 use crate::names_reported::append_number;
 use crate::naming::Naming;
 use crate::value_names::{all_values, phase_word, value_name, value_unit};
-use debugger::{Asked, Owner, Reading, Sign, Test, Value, ValueOf, Values};
+use breakpoints::{Asked, Owner, Reading, Sign, Test, Value, ValueOf, Values};
 use std::alloc::AllocError;
 
 // A sign.

@@ -10,13 +10,13 @@ use Rattle.debugger.specs.declared.aim.Aim.TheVariants.{Hit, Moment}
 use Rattle.debugger.specs.Moves.{Passes, HasPosition, EndsAt, StopsBy, StopsAt, RunsTo, RunGoesTo}
 use Rattle.node_core.specs.TraceLine.{TraceLine}
 use Rattle.node_core.specs.declared.line.After.{After}
-use Rattle.debugger.specs.declared.breaks.Break.{Break}
-use Rattle.debugger.specs.declared.breaks.StallOf.{StallOf}
-use Rattle.debugger.specs.declared.values.Value.TheVariants.{Queue, Wait, Count, Rto, Dups}
-use Rattle.debugger.specs.declared.values.Values.{Values}
-use Rattle.debugger.specs.Breaks.{Stalls, IsHit, asks_unshown, AsksUnshown}
-use Rattle.debugger.specs.Values.{MeetsKept, asked_of, asks_kept}
-use Rattle.debugger.specs.Seen.{MeetsStates, asks_states}
+use Rattle.breakpoints.specs.declared.breaks.Break.{Break}
+use Rattle.breakpoints.specs.declared.breaks.StallOf.{StallOf}
+use Rattle.breakpoints.specs.declared.values.Value.TheVariants.{Queue, Wait, Count, Rto, Dups}
+use Rattle.breakpoints.specs.declared.values.Values.{Values}
+use Rattle.breakpoints.specs.Breaks.{Stalls, IsHit, asks_unshown, AsksUnshown}
+use Rattle.breakpoints.specs.Values.{MeetsKept, asked_of, asks_kept}
+use Rattle.breakpoints.specs.Seen.{MeetsStates, asks_states}
 use Rattle.debugger.specs.Courses.{HasNone}
 use Rattle.debugger.specs.Aims.{IsMet, LineHit, EndsIn, GoesTo}
 use Rattle.debugger.proofs.Walks.{NoneBy, none_by_yet, run_ended, SomeBefore, some_before_yet, until_ended}

@@ -4,9 +4,9 @@ use Rattle.std.proofs.lemmas.Bool.{cases_lt}
 use Rattle.node_core.specs.TraceLine.{TraceLine}
 use Rattle.table_run.specs.State.{State}
 use Rattle.net_machine.specs.Run.{Reached, Stepped}
-use Rattle.debugger.specs.declared.breaks.Break.{Break}
+use Rattle.breakpoints.specs.declared.breaks.Break.{Break}
 use Rattle.debugger.specs.Backwards.{NoneStops, IsLastStop, FindsLast}
-use Rattle.debugger.specs.Breaks.{IsHit}
+use Rattle.breakpoints.specs.Breaks.{IsHit}
 use Rattle.debugger.specs.Moves.{Passes, StopsAt, ReverseGoesTo}
 use Rattle.debugger.proofs.Walks.{gives_next, none_by_yet, none_by_next}
 

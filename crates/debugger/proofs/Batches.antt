@@ -13,8 +13,8 @@ use Rattle.window_core.specs.Batches.{BatchValue}
 use Rattle.window_core.specs.Full.{HasTooMany}
 use Rattle.window_core.specs.Merged.{line_in}
 use Rattle.window_engine.specs.Engines.{GoesOn}
-use Rattle.debugger.specs.declared.breaks.Break.{Break}
-use Rattle.debugger.specs.Breaks.{IsLineHit}
+use Rattle.breakpoints.specs.declared.breaks.Break.{Break}
+use Rattle.breakpoints.specs.Breaks.{IsLineHit}
 use Rattle.debugger.specs.Moves.{Passes, HasPosition, RunsTo, UntilGoesTo, IsTooLong}
 use Rattle.debugger.specs.Aims.{LineHit}
 use Rattle.debugger.specs.declared.course.WindowedNet.{WindowedNet}

@@ -8,18 +8,12 @@ pub mod Batches
 pub mod Aims
 pub mod Moments
 pub mod Alone
-pub mod TakenOut
 pub mod Between
 pub mod Found
 pub mod DropsFound
 pub mod StallsFound
 pub mod LastEvents
 mod Backward
-mod Judged
-mod NodeShown
-mod Elsewhere
-mod States
-mod Sent
 mod UnderWay
 mod Counting
 mod Passing

@@ -37,9 +37,9 @@ use Rattle.flow_waits.proofs.Waiting.{is_of, Holds, Departs, AfterTake, waits, l
 use Rattle.flow_waits.proofs.Pending.{leaving_pends}
 use Rattle.flow_waits.proofs.Found.{moving, some_found}
 use Rattle.std.specs.Prelude.{IfSome, IsNone}
-use Rattle.debugger.specs.declared.breaks.StallOf.{StallOf}
-use Rattle.debugger.specs.declared.breaks.StallOf.TheVariants.{Any as AnyFlow, Flow as OneFlow}
-use Rattle.debugger.specs.Breaks.{is_drop, Stalls}
+use Rattle.breakpoints.specs.declared.breaks.StallOf.{StallOf}
+use Rattle.breakpoints.specs.declared.breaks.StallOf.TheVariants.{Any as AnyFlow, Flow as OneFlow}
+use Rattle.breakpoints.specs.Breaks.{is_drop, Stalls}
 use Rattle.debugger.specs.UnderWay.{AreUnderWay, is_known, is_at_router, is_passed_on, leaves_moving}
 use Rattle.debugger.proofs.UnderWay.{known_moves}
 

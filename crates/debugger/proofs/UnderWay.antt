@@ -28,9 +28,9 @@ use Rattle.table_run.proofs.Runs.{of_step}
 use Rattle.net_machine.specs.Run.{Reached, IsRun, Stepped}
 use Rattle.flow_waits.specs.Stalled.{is_arrival_of, is_stalled}
 use Rattle.flow_waits.proofs.Found.{arrival_on, moving}
-use Rattle.debugger.specs.Breaks.{is_sent_of}
+use Rattle.breakpoints.specs.Breaks.{is_sent_of}
 use Rattle.debugger.specs.UnderWay.{ArrivesUnder, KeysAreApart, HasUnderWay, AreUnderWay, one_less, one_more_packet, after_event, sent_flow, after_sending, counts_after, is_known}
-use Rattle.debugger.proofs.Sent.{row_leaves}
+use Rattle.breakpoints.proofs.Sent.{row_leaves}
 
 -- a key is another or the same
 key_cases : (q k : Key) → (q ≡ k) ⊎ (q ≢ k)

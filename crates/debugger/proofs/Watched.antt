@@ -12,9 +12,9 @@ use Rattle.net_watch.specs.declared.run_end.RunEnd.{RunEnd}
 use Rattle.net_watch.specs.declared.run_end.RunEnd.TheVariants.{Stopped, Held, Done}
 use Rattle.net_watch.specs.RunsOn.{RunsOn}
 use Rattle.net_watch.specs.Watched.{IsStepFault, IsRunEnd, goes_on}
-use Rattle.debugger.specs.declared.breaks.Break.{Break}
+use Rattle.breakpoints.specs.declared.breaks.Break.{Break}
 use Rattle.debugger.specs.Backwards.{FindsLast}
-use Rattle.debugger.specs.Breaks.{IsHit}
+use Rattle.breakpoints.specs.Breaks.{IsHit}
 use Rattle.debugger.specs.Moves.{Passes, HasPosition, StepGoesTo, RunGoesTo, IsTooLong}
 use Rattle.debugger.specs.Stops.{HasSought}
 use Rattle.debugger.proofs.Backward.{found_here, found_before}

@@ -5,8 +5,8 @@ use Rattle.table_run.specs.State.{State}
 use Rattle.window_core.specs.Batches.{BatchValue}
 use Rattle.debugger.specs.declared.aim.Aim.{Aim}
 use Rattle.debugger.specs.declared.aim.Aim.TheVariants.{Hit, Moment}
-use Rattle.debugger.specs.declared.breaks.Break.{Break}
-use Rattle.debugger.specs.Breaks.{IsLineHit}
+use Rattle.breakpoints.specs.declared.breaks.Break.{Break}
+use Rattle.breakpoints.specs.Breaks.{IsLineHit}
 use Rattle.debugger.specs.declared.course.WindowedNet.{WindowedNet}
 use Rattle.debugger.specs.Courses.{IsOnWindows, IsFirstIndex, HasNone}
 use Rattle.debugger.specs.Moves.{Passes, HasPosition, RunsTo, UntilGoesTo}

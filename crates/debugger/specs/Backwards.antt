@@ -1,7 +1,7 @@
 -- Which line of a stretch of the run is the last that a breakpoint matches.
 use Rattle.std.specs.Prelude.{◌<◌, ◌≤◌, ℕ, List, Option, None, Some}
 use Rattle.table_run.specs.State.{State}
-use Rattle.debugger.specs.declared.breaks.Break.{Break}
+use Rattle.breakpoints.specs.declared.breaks.Break.{Break}
 use Rattle.debugger.specs.Moves.{StopsAt}
 
 -- no line from past one position up to another matches

@@ -4,8 +4,8 @@ use Rattle.std.specs.Coded.{Coded, code_by, coded×, coded_ℕ, coded_list, code
 use Rattle.table_run.specs.State.{State}
 use Rattle.net_machine.specs.Run.{Reached}
 use Rattle.net_machine.specs.Codes.{state_code, reached_code}
-use Rattle.debugger.specs.contracts.breaks.Break as break_contract
-use Rattle.debugger.specs.declared.breaks.Break.{Break}
+use Rattle.breakpoints.specs.contracts.breaks.Break as break_contract
+use Rattle.breakpoints.specs.declared.breaks.Break.{Break}
 use Rattle.debugger.specs.Moves.{Passes}
 
 -- the state that the run starts from, the state shown with its position, the one that the last move left, the breakpoints, and how many workers run windows

@@ -14,7 +14,7 @@ use Rattle.debugger.specs.declared.drops.DropsOf.{DropsOf}
 use Rattle.debugger.specs.declared.drops.DropsOf.TheVariants.{Segment, AcksAbove}
 use Rattle.debugger.specs.declared.drops.PastDrop.{PastDrop}
 use Rattle.debugger.specs.Passed.{lines_of_steps}
-use Rattle.debugger.specs.Seen.{next_in}
+use Rattle.breakpoints.specs.Seen.{next_in}
 
 -- a packet of the flow: the segment that begins with the byte, or an acknowledgement of a later one
 abbrev pub is_asked_among : DropsOf → Kind → ℕ → ℕ → Bool

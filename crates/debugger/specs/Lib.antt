@@ -1,6 +1,3 @@
-pub mod Values
-pub mod Seen
-pub mod Breaks
 pub mod Faults
 pub mod Moves
 pub mod Passed

@@ -7,8 +7,8 @@ use Rattle.node_core.specs.TraceLine.{TraceLine}
 use Rattle.table_run.specs.State.{State, due, step, run}
 use Rattle.table_run.specs.Sound.{EachEvent}
 use Rattle.net_machine.specs.Run.{Reached}
-use Rattle.debugger.specs.declared.breaks.Break.{Break}
-use Rattle.debugger.specs.Breaks.{IsHit}
+use Rattle.breakpoints.specs.declared.breaks.Break.{Break}
+use Rattle.breakpoints.specs.Breaks.{IsHit}
 
 -- the run comes to this state after so many steps
 pub record Passes (start : State) (at : Reached) : Type 0 where

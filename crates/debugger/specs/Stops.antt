@@ -2,7 +2,7 @@
 use Rattle.std.specs.Prelude.{◌≡◌, ℕ, Bool, true, false, List, Option, None, refl}
 use Rattle.std.proofs.Common.{sym, subst, arith}
 use Rattle.table_run.specs.State.{State}
-use Rattle.debugger.specs.declared.breaks.Break.{Break}
+use Rattle.breakpoints.specs.declared.breaks.Break.{Break}
 use Rattle.debugger.specs.Moves.{RunGoesTo}
 use Rattle.debugger.specs.Backwards.{FindsLast}
 

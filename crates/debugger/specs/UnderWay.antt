@@ -12,7 +12,7 @@ use Rattle.node_core.specs.declared.line.After.{After}
 use Rattle.node_core.specs.declared.line.After.TheVariants.{AtSender, AtReceiver, AtRouter}
 use Rattle.node_core.specs.TraceLine.{TraceLine}
 use Rattle.table_run.specs.State.{State}
-use Rattle.debugger.specs.Breaks.{is_drop}
+use Rattle.breakpoints.specs.Breaks.{is_drop}
 
 -- a packet of a flow is pending to arrive under a key
 abbrev pub ArrivesUnder : ℕ → State → Key → Type 0

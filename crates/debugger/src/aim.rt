@@ -4,7 +4,7 @@ ghost use Rattle.node_core.specs.TraceLine.{shown};
 ghost use Rattle.debugger.specs.Aims.{IsMet, EndsIn};
 ghost use Rattle.debugger.specs.Courses.{Finds};
 
-use crate::breaks::Breaks;
+use breakpoints::breaks::Breaks;
 use node_core::Line;
 use sim_time::Time;
 use window_core::Batch;

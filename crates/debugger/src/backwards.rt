@@ -3,14 +3,14 @@ ghost use Rattle.std.specs.Prelude.{◌≡◌, ◌≢◌, ◌+◌, ◌<◌, ◌�
 ghost use Rattle.debugger.specs.Backwards.{FindsLast, IsSearched};
 ghost use Rattle.debugger.specs.Moves.{Passes, HasPosition, ReverseGoesTo, IsTooLong};
 
-use crate::breaks::Breaks;
 use crate::checkpoints::Checkpoints;
 use crate::fault::MoveFault;
 use crate::reached::net_at;
-use crate::seen::see_all;
 use crate::to_stop::Stops;
 use crate::under_way::counts_of;
 use crate::walk::reach_watched;
+use breakpoints::breaks::Breaks;
+use breakpoints::seen::see_all;
 use net_machine::Net;
 use node_core::Line;
 

@@ -5,9 +5,9 @@ ghost use Rattle.debugger.specs.Drops.{missing_between, missing_in, is_asked_for
 
 use crate::checkpoints::Checkpoints;
 use crate::fault::MoveFault;
-use crate::seen::{fields_in, next_in};
 use crate::walk::reach_watched;
 use aqm::DropReason;
+use breakpoints::seen::{fields_in, next_in};
 use net_machine::{Due, Net};
 use net_watch::Watch;
 use node_core::Line;

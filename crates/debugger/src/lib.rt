@@ -3,7 +3,6 @@
 
 mod aim;
 mod backwards;
-pub mod breaks;
 pub mod checkpoints;
 mod course;
 pub mod drops;
@@ -11,21 +10,14 @@ mod fault;
 pub mod moves;
 mod passed;
 pub mod reached;
-pub mod seen;
 pub mod stalls;
 mod to_stop;
 mod under_way;
-pub mod values;
 pub mod walk;
 mod window_settings;
 
-pub use breaks::{Break, BreakFault, Breaks, Condition, EventKind, Hit, StallOf, is_among};
 pub use drops::{DropsOf, PastDrop};
 pub use fault::MoveFault;
 pub use moves::Debugger;
 pub use passed::{LastEvent, LineOrder, Stretch};
-pub use seen::{Seen, SeenLink, SeenValue};
 pub use stalls::StallAt;
-pub use values::{
-    Asked, Bound, Owner, Phase, Reading, Sign, Test, VALUES, Value, ValueCondition, ValueOf, Values,
-};

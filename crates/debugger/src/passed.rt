@@ -4,18 +4,18 @@ ghost use Rattle.std.specs.List.{concat};
 ghost use Rattle.node_core.specs.TraceLine.{shown};
 ghost use Rattle.net_machine.specs.Run.{Reached, IsRun, Stepped};
 ghost use Rattle.trace_text.specs.Line.{line_bytes};
-ghost use Rattle.debugger.specs.Breaks.{IsFirstHit};
-ghost use Rattle.debugger.specs.Seen.{AreSeen};
+ghost use Rattle.breakpoints.specs.Breaks.{IsFirstHit};
+ghost use Rattle.breakpoints.specs.Seen.{AreSeen};
 ghost use Rattle.debugger.specs.LastEvents.{freed_link, IsOfLine, IsLastEvent};
 ghost use Rattle.debugger.specs.Moves.{Passes, HasPosition};
 ghost use Rattle.debugger.specs.Passed.{beside, stretch_texts};
 
-use crate::breaks::{Breaks, Hit, flow_of};
 use crate::checkpoints::Checkpoints;
 use crate::fault::MoveFault;
 use crate::reached::net_at;
-use crate::seen::{Seen, see_again, see_all};
 use crate::walk::reach_watched;
+use breakpoints::breaks::{Breaks, Hit, flow_of};
+use breakpoints::seen::{Seen, see_again, see_all};
 use net_machine::{Due, Net};
 use net_watch::{Watch, run_by_two};
 use node_core::{Event, Line};
@@ -265,7 +265,7 @@ impl Watch for OneEvent<'_> {
     ghost use Rattle.net_machine.specs.Run.{IsRun};
     ghost use Rattle.debugger.specs.Moves.{Passes};
     ghost use Rattle.debugger.specs.LastEvents.{IsReportedOf};
-    ghost use Rattle.debugger.specs.Seen.{AreSeen};
+    ghost use Rattle.breakpoints.specs.Seen.{AreSeen};
 
     type Note = ();
 

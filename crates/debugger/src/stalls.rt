@@ -6,10 +6,10 @@ ghost use Rattle.debugger.specs.Moves.{Passes};
 ghost use Rattle.debugger.specs.Stalls.{stall_by, stalls_by, IsAllStalls};
 ghost use Rattle.debugger.specs.UnderWay.{AreUnderWay};
 
-use crate::breaks::sends_own;
 use crate::checkpoints::Checkpoints;
 use crate::fault::MoveFault;
 use crate::under_way::{count_on, counts_of, leaves_moving};
+use breakpoints::breaks::sends_own;
 use flow_waits::becomes_stalled;
 use net_machine::{Due, Net};
 use net_watch::{Watch, run_by_two};

@@ -2,16 +2,16 @@
 ghost use Rattle.std.specs.Prelude.{◌≡◌, ◌≢◌, ◌↔◌, Some, IsTrue, IfOk, IfErr, OnOk, length};
 ghost use Rattle.node_core.specs.TraceLine.{shown};
 ghost use Rattle.net_machine.specs.Run.{Reached, IsRun, Stepped};
-ghost use Rattle.debugger.specs.Breaks.{IsHit};
-ghost use Rattle.debugger.specs.Seen.{AreSeen};
+ghost use Rattle.breakpoints.specs.Breaks.{IsHit};
+ghost use Rattle.breakpoints.specs.Seen.{AreSeen};
 ghost use Rattle.debugger.specs.UnderWay.{AreUnderWay};
 ghost use Rattle.debugger.specs.Moves.{Passes, RunGoesTo, IsTooLong};
 
-use crate::breaks::Breaks;
 use crate::checkpoints::Checkpoints;
 use crate::fault::MoveFault;
-use crate::seen::{Seen, see_again, see_all};
 use crate::under_way::{count_on, counts_of, leaves_moving};
+use breakpoints::breaks::Breaks;
+use breakpoints::seen::{Seen, see_again, see_all};
 use net_machine::{Due, Net};
 use net_watch::{Watch, run_by_two};
 use node_core::Line;
@@ -63,7 +63,7 @@ impl Watch for Stops<'_> {
     ghost use Rattle.debugger.specs.Moves.{Passes};
     ghost use Rattle.debugger.specs.Stops.{HasSought, none_sought};
     ghost use Rattle.debugger.specs.UnderWay.{AreUnderWay};
-    ghost use Rattle.debugger.specs.Seen.{AreSeen};
+    ghost use Rattle.breakpoints.specs.Seen.{AreSeen};
 
     type Note = ();
 

@@ -3,10 +3,10 @@
 ghost use Rattle.std.specs.Prelude.{◌≡◌, ℕ, slice_index_or, slice_set};
 ghost use Rattle.std.specs.List.{list_any};
 ghost use Rattle.node_core.specs.TraceLine.{shown};
-ghost use Rattle.debugger.specs.Breaks.{is_drop};
+ghost use Rattle.breakpoints.specs.Breaks.{is_drop};
 ghost use Rattle.debugger.specs.UnderWay.{one_less, one_more_packet, after_event, sent_flow, after_sending, arriving_flow, all_counted, counts_after, AreUnderWay, is_known, is_at_router, is_passed_on, leaves_moving};
 
-use crate::breaks::has_drop;
+use breakpoints::breaks::has_drop;
 use net_machine::Net;
 use node_core::{After, Event, Line};
 use port::Act;

@@ -3,7 +3,8 @@
 //! once more.
 
 use crate::engines::{run_to, window};
-use debugger::{Break, Condition, Debugger, EventKind, MoveFault};
+use breakpoints::{Break, Condition, EventKind};
+use debugger::{Debugger, MoveFault};
 use scenario_asm::assemble;
 use scenario_image::Scenario;
 use std::alloc::Global;

@@ -1,5 +1,5 @@
 use Rattle.std.proofs.Common.{◌≡◌, ◌-◌, ◌∙◌, suc, Ok, Err, ap, sym, subst, arith, rules}
-use Rattle.debugger.specs.Breaks.{asks_nothing}
+use Rattle.breakpoints.specs.Breaks.{asks_nothing}
 use Rattle.debug_session.specs.Conditions.{one_more, conditions}
 use Rattle.debug_session.specs.Parts.{ReadsAs}
 use Rattle.debug_session.proofs.Gathering.{none_more, one_refused, last_read, next_read}

@@ -1,6 +1,6 @@
 -- What was read and what is left is all.
 use Rattle.std.proofs.Common.{◌≡◌}
-use Rattle.debugger.specs.Breaks.{asks_nothing}
+use Rattle.breakpoints.specs.Breaks.{asks_nothing}
 use Rattle.debug_session.specs.Conditions.{conditions}
 use Rattle.debug_session.proofs.conditions.conditions.Given as goal
 

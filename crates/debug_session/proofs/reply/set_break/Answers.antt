@@ -1,6 +1,6 @@
 use Rattle.std.proofs.Common.{ap, sym, ◌∙◌}
 use Rattle.std.specs.List.{Contains}
-use Rattle.debugger.specs.declared.breaks.BreakFault.TheVariants.{TooMany}
+use Rattle.breakpoints.specs.declared.breaks.BreakFault.TheVariants.{TooMany}
 use Rattle.debugger.specs.Debugging.{Debugging}
 use Rattle.debug_session.specs.Answers.{session_state}
 use Rattle.debug_session.proofs.Setting.{decided, has_room, is_full, set_done, ok_no_err, err_no_ok, many_no_memory, fault_of}

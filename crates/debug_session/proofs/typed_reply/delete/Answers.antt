@@ -1,5 +1,5 @@
 use Rattle.std.proofs.Common.{◌≡◌, ◌<◌, List, length, get_or, refl, sym, ap, subst}
-use Rattle.debugger.specs.declared.breaks.Break.{Break}
+use Rattle.breakpoints.specs.declared.breaks.Break.{Break}
 use Rattle.debugger.specs.Debugging.{Debugging}
 use Rattle.debug_session.specs.Numbered.{HasNumber}
 use Rattle.debug_session.proofs.Deleting.{taken_away}

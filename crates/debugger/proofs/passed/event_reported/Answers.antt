@@ -1,7 +1,7 @@
 use Rattle.std.proofs.Common.{sym, subst}
 use Rattle.std.proofs.lemmas.Result.{IfOk-at_ok}
 use Rattle.node_core.specs.TraceLine.{shown}
-use Rattle.debugger.specs.Breaks.{IsFirstHit}
+use Rattle.breakpoints.specs.Breaks.{IsFirstHit}
 use Rattle.debugger.proofs.passed.event_reported.Goals as goal
 
 pub first_hit-requires : goal.first_hit-requires

@@ -1,9 +1,9 @@
 use Rattle.std.proofs.Common.{◌≡◌, ◌∙◌, ◌++◌, true, sym, ap, append-nil, true≢false}
 use Rattle.node_core.specs.TraceLine.{shown}
 use Rattle.flow_waits.proofs.Found.{some_found}
-use Rattle.debugger.specs.Breaks.{sends_own}
+use Rattle.breakpoints.specs.Breaks.{sends_own}
 use Rattle.debugger.proofs.Passing.{none_becomes_stalled}
-use Rattle.debugger.proofs.Sent.{none_stalls}
+use Rattle.breakpoints.proofs.Sent.{none_stalls}
 use Rattle.debugger.proofs.StallsFound.{none_below}
 use Rattle.debugger.proofs.stalls.push_stalls.Goals as goal
 

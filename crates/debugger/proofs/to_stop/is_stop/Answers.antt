@@ -1,8 +1,8 @@
 use Rattle.std.proofs.Common.{◌∙◌, sym, true≢false}
 use Rattle.std.specs.Prelude.{IsTrue, IsNone}
 use Rattle.node_core.specs.TraceLine.{shown}
-use Rattle.debugger.specs.declared.breaks.Break.{Break}
-use Rattle.debugger.specs.Breaks.{Matches, IsHit, IsMayHit}
+use Rattle.breakpoints.specs.declared.breaks.Break.{Break}
+use Rattle.breakpoints.specs.Breaks.{Matches, IsHit, IsMayHit}
 use Rattle.debugger.proofs.Passing.{none_becomes_stalled, asks_none}
 use Rattle.debugger.proofs.to_stop.is_stop.Goals as goal
 

@@ -1,7 +1,7 @@
 use Rattle.std.proofs.Common.{◌∙◌, ◌++◌, ℕ, ap}
 use Rattle.std.proofs.lemmas.Result.{MatchResult-weaker}
 use Rattle.debugger.specs.Debugging.{Debugging}
-use Rattle.debugger.specs.Seen.{read_left_in}
+use Rattle.breakpoints.specs.Seen.{read_left_in}
 use Rattle.debug_session.specs.Displays.{displays_from}
 use Rattle.debug_session.specs.Readouts.{present}
 use Rattle.debug_session.proofs.said.Said.say_behind.Goals as goal

@@ -1,5 +1,5 @@
 use Rattle.std.proofs.Common.{◌<◌, length, ap, sym, subst}
-use Rattle.debugger.specs.Breaks.{IsTakenOut}
+use Rattle.breakpoints.specs.Breaks.{IsTakenOut}
 use Rattle.debugger.specs.Debugging.{Debugging}
 use Rattle.debugger.proofs.moves.Debugger.delete_break.Goals as goal
 

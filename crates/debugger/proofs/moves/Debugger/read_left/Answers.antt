@@ -1,6 +1,6 @@
 use Rattle.std.proofs.Common.{ap, ◌∙◌}
 use Rattle.debugger.specs.Debugging.{Debugging}
-use Rattle.debugger.specs.Seen.{read_left_in}
+use Rattle.breakpoints.specs.Seen.{read_left_in}
 use Rattle.debugger.proofs.moves.Debugger.read_left.Goals as goal
 
 pub returns : goal.returns

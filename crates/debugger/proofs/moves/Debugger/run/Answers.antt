@@ -4,7 +4,7 @@ use Rattle.table_run.specs.State.{State}
 use Rattle.debugger.specs.declared.fault.MoveFault.{MoveFault}
 use Rattle.debugger.specs.declared.fault.MoveFault.TheVariants.{CountFull, NoWorker}
 use Rattle.debugger.specs.Moves.{Passes, RunsTo, RunGoesTo, IsTooLong}
-use Rattle.debugger.specs.Breaks.{AsksUnshown}
+use Rattle.breakpoints.specs.Breaks.{AsksUnshown}
 use Rattle.debugger.specs.Aims.{LineHit}
 use Rattle.debugger.specs.Debugging.{Debugging, HasMoved}
 use Rattle.debugger.proofs.Aims.{by_lines}

@@ -1,11 +1,11 @@
 use Rattle.std.proofs.Common.{List, IfOk, refl, sym, ◌∙◌, subst, arith}
 use Rattle.node_core.specs.TraceLine.{shown}
-use Rattle.debugger.specs.declared.breaks.Break.{Break}
+use Rattle.breakpoints.specs.declared.breaks.Break.{Break}
 use Rattle.debugger.specs.declared.passed.LastEvent.{LastEvent}
-use Rattle.debugger.specs.Breaks.{IsFirstHit}
-use Rattle.debugger.specs.Seen.{AreSeen}
+use Rattle.breakpoints.specs.Breaks.{IsFirstHit}
+use Rattle.breakpoints.specs.Seen.{AreSeen}
 use Rattle.debugger.proofs.LastEvents.{last_event}
-use Rattle.debugger.proofs.States.{as_many}
+use Rattle.breakpoints.proofs.States.{as_many}
 use Rattle.debugger.proofs.Watched.{passes_on}
 use Rattle.debugger.proofs.passed.OneEventWatch.see.Goals as goal
 

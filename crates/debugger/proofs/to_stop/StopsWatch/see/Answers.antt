@@ -1,10 +1,10 @@
 use Rattle.std.proofs.Common.{List, ◌∙◌, sym, subst, arith}
 use Rattle.node_core.specs.TraceLine.{shown}
-use Rattle.debugger.specs.declared.breaks.Break.{Break}
-use Rattle.debugger.specs.Breaks.{IsHit}
-use Rattle.debugger.specs.Seen.{AreSeen}
-use Rattle.debugger.proofs.States.{as_many}
-use Rattle.debugger.proofs.Judged.{was_found, was_not}
+use Rattle.breakpoints.specs.declared.breaks.Break.{Break}
+use Rattle.breakpoints.specs.Breaks.{IsHit}
+use Rattle.breakpoints.specs.Seen.{AreSeen}
+use Rattle.breakpoints.proofs.States.{as_many}
+use Rattle.breakpoints.proofs.Judged.{was_found, was_not}
 use Rattle.debugger.proofs.UnderWay.{counted_next}
 use Rattle.debugger.proofs.Watched.{passes_on, sought_next, missed_next}
 use Rattle.debugger.proofs.to_stop.StopsWatch.see.Goals as goal

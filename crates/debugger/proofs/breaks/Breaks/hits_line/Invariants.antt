@@ -1,9 +1,0 @@
-use Rattle.std.proofs.Common.{ℕ, ◌<◌, get_or}
-use Rattle.node_core.specs.TraceLine.{shown}
-use Rattle.debugger.specs.declared.breaks.Break.{Break}
-use Rattle.debugger.specs.Breaks.{MeetsLine}
-use Rattle.debugger.proofs.breaks.Breaks.hits_line.Given as goal
-
--- the line meets the conditions of none so far
-abbrev pub invariant-loop-b : goal.invariant-loop-b
-invariant-loop-b l = (k : ℕ) (d : Break) → k < l.b-index → MeetsLine (get_or l.b-items k d) (shown l.line) → ⊥
