@@ -214,8 +214,6 @@ impl Watch for Checkpoints {
     ghost use Rattle.std.specs.Prelude.{◌≡◌, true, refl};
     ghost use Rattle.debugger.specs.Moves.{Passes};
 
-    type Note = ();
-
     ghost fits = { λ w at. Passes w at };
 
     ghost has = { λ began _ w _ goes_on. (goes_on ≡ true) × (w ≡ began) };
@@ -223,12 +221,12 @@ impl Watch for Checkpoints {
     ghost begins = { λ _ _. (refl, refl) };
 
     #[inline(always)]
-    fn ahead(&self, _at: &Net, _next: Option<Due>) -> Option<()> {
-        Some(())
+    fn ahead(&self, _at: &Net, _next: Option<Due>) -> bool {
+        true
     }
 
     #[inline(always)]
-    fn see(&mut self, _note: (), _before: &Snapshot<Net>, after: &Net, _line: &Line) -> bool {
+    fn see(&mut self, _before: &Snapshot<Net>, after: &Net, _line: &Line) -> bool {
         self.keep(after);
         true
     }

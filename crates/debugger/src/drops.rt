@@ -127,19 +127,17 @@ impl Watch for Drops<'_> {
     ghost use Rattle.debugger.specs.Found.{AreFound};
     ghost use Rattle.debugger.specs.Drops.{past_drops};
 
-    type Note = ();
-
     ghost fits = { λ _ _. ⊤ };
 
     ghost has = { λ began from w at goes_on. (w.out.ghost_name ≡ began.out.ghost_name) × (w.of ≡ began.of) × ((start : State) (before : List PastDrop) → Passes start from → began.out.now.items ≡ before ++ past_drops start began.of from.position → AreFound (past_drops start began.of at.position) before w.out.now.items began.refused w.refused goes_on) };
 
     ghost begins = { λ _ _. (refl, refl, λ _ _ _ are. (are, refl)) };
 
-    fn ahead(&self, _at: &Net, _next: Option<Due>) -> Option<()> {
-        Some(())
+    fn ahead(&self, _at: &Net, _next: Option<Due>) -> bool {
+        true
     }
 
-    fn see(&mut self, _note: (), _before: &Snapshot<Net>, after: &Net, line: &Line) -> bool {
+    fn see(&mut self, _before: &Snapshot<Net>, after: &Net, line: &Line) -> bool {
         match push_drops(self.of, after.position(), line.acts.as_slice(), self.out) {
             Ok(()) => true,
             Err(_) => {

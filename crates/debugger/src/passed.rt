@@ -125,19 +125,17 @@ impl Watch for Texts<'_> {
     ghost use Rattle.debugger.specs.Found.{AreFound};
     ghost use Rattle.debugger.specs.Passed.{ordered_texts, texts_between, AreReportedFrom};
 
-    type Note = ();
-
     ghost fits = { λ w _. w.start ≤ vec_len w.out.now };
 
     ghost has = { λ began from w at goes_on. (w.out.ghost_name ≡ began.out.ghost_name) × (w.start ≡ began.start) × (w.order ≡ began.order) × ((start : State) (m : ℕ) (before : List ℕ) → m ≤ from.position → Passes start from → began.start ≡ length before → AreReportedFrom start began.order m from.position before began.out.now.items → AreFound (concat (ordered_texts began.order (texts_between start m at.position))) before w.out.now.items began.refused w.refused goes_on) };
 
     ghost begins = { λ _ _. (refl, refl, refl, λ _ _ _ _ _ _ reported. (reported, refl)) };
 
-    fn ahead(&self, _at: &Net, _next: Option<Due>) -> Option<()> {
-        Some(())
+    fn ahead(&self, _at: &Net, _next: Option<Due>) -> bool {
+        true
     }
 
-    fn see(&mut self, _note: (), _before: &Snapshot<Net>, after: &Net, line: &Line) -> bool {
+    fn see(&mut self, _before: &Snapshot<Net>, after: &Net, line: &Line) -> bool {
         match put_line(self.out, self.start, self.order, after.position(), line) {
             Ok(()) => true,
             Err(_) => {
@@ -267,19 +265,17 @@ impl Watch for OneEvent<'_> {
     ghost use Rattle.debugger.specs.LastEvents.{IsReportedOf};
     ghost use Rattle.breakpoints.specs.Seen.{AreSeen};
 
-    type Note = ();
-
     ghost fits = { λ w at. IsRun at × AreSeen w.breaks.now at.state w.seen.items };
 
     ghost has = { λ began from w at goes_on. (w.breaks.now ≡ began.breaks.now) × ((start : State) → Passes start from → IfOk began.reported (λ _. ⊥) → IsReportedOf start began.breaks.now from.position at.position w.reported goes_on) };
 
     ghost begins = { λ _ _. (refl, λ _ _ none. (refl, none)) };
 
-    fn ahead(&self, _at: &Net, _next: Option<Due>) -> Option<()> {
-        Some(())
+    fn ahead(&self, _at: &Net, _next: Option<Due>) -> bool {
+        true
     }
 
-    fn see(&mut self, _note: (), before: &Snapshot<Net>, after: &Net, line: &Line) -> bool {
+    fn see(&mut self, before: &Snapshot<Net>, after: &Net, line: &Line) -> bool {
         let _count = after.position();
         let seen = self.seen.as_slice();
         self.reported = event_reported(after, line, self.breaks, seen);

@@ -121,19 +121,17 @@ impl Watch for AllStalls<'_> {
     ghost use Rattle.debugger.specs.Stalls.{stalls_upto};
     ghost use Rattle.debugger.specs.UnderWay.{AreUnderWay};
 
-    type Note = ();
-
     ghost fits = { λ w at. IsRun at × AreUnderWay w.counts.now.items at.state };
 
     ghost has = { λ began from w at goes_on. (w.out.ghost_name ≡ began.out.ghost_name) × ((start : State) (before : List StallAt) → Passes start from → began.out.now.items ≡ before ++ stalls_upto start from.position → AreFound (stalls_upto start at.position) before w.out.now.items began.refused w.refused goes_on) };
 
     ghost begins = { λ _ _. (refl, λ _ _ _ are. (are, refl)) };
 
-    fn ahead(&self, _at: &Net, _next: Option<Due>) -> Option<()> {
-        Some(())
+    fn ahead(&self, _at: &Net, _next: Option<Due>) -> bool {
+        true
     }
 
-    fn see(&mut self, _note: (), before: &Snapshot<Net>, after: &Net, line: &Line) -> bool {
+    fn see(&mut self, before: &Snapshot<Net>, after: &Net, line: &Line) -> bool {
         let _count = after.position();
         count_on(self.counts, line);
         match push_stalls(self.counts.as_slice(), before, after, line, self.out) {

@@ -65,19 +65,17 @@ impl Watch for Stops<'_> {
     ghost use Rattle.debugger.specs.UnderWay.{AreUnderWay};
     ghost use Rattle.breakpoints.specs.Seen.{AreSeen};
 
-    type Note = ();
-
     ghost fits = { λ w at. IsRun at × AreUnderWay w.counts.items at.state × AreSeen w.breaks.now at.state w.seen.items };
 
     ghost has = { λ began from w at goes_on. (w.breaks.now ≡ began.breaks.now) × (w.first ≡ began.first) × ((start : State) → Passes start from → began.found ≡ None → HasSought start began.breaks.now from.position at.position began.first w.found began.refused w.refused goes_on) };
 
     ghost begins = { λ w at. (refl, refl, λ start _ none. none_sought start w.breaks.now at.position w.first w.found w.refused none) };
 
-    fn ahead(&self, _at: &Net, _next: Option<Due>) -> Option<()> {
-        Some(())
+    fn ahead(&self, _at: &Net, _next: Option<Due>) -> bool {
+        true
     }
 
-    fn see(&mut self, _note: (), before: &Snapshot<Net>, after: &Net, line: &Line) -> bool {
+    fn see(&mut self, before: &Snapshot<Net>, after: &Net, line: &Line) -> bool {
         let position = after.position();
         count_on(&mut self.counts, line);
         let counts = self.counts.as_slice();

@@ -11,8 +11,6 @@ impl Watch for Figures {
     ghost use Rattle.figures.specs.Moments.{Base};
     ghost use Rattle.figures.specs.Figures.{AreOfRun, AreOfSomeRun};
 
-    type Note = ();
-
     ghost fits = { λ w at. AreOfSomeRun w at };
 
     ghost has = { λ began from w at goes_on. (goes_on ≡ true) × ((p : ScenarioParts) (b : Base) → AreOfRun p b began from → AreOfRun p b w at) };
@@ -20,12 +18,12 @@ impl Watch for Figures {
     ghost begins = { λ _ _. (refl, λ _ _ of. of) };
 
     #[inline(always)]
-    fn ahead(&self, _at: &Net, _next: Option<Due>) -> Option<()> {
-        Some(())
+    fn ahead(&self, _at: &Net, _next: Option<Due>) -> bool {
+        true
     }
 
     #[inline(always)]
-    fn see(&mut self, _note: (), _before: &Snapshot<Net>, after: &Net, line: &Line) -> bool {
+    fn see(&mut self, _before: &Snapshot<Net>, after: &Net, line: &Line) -> bool {
         let _count = after.position();
         self.after(after, line);
         true

@@ -16,26 +16,24 @@ impl Watch for Before {
     ghost use Rattle.std.specs.Prelude.{◌≡◌, true, refl};
     ghost use Rattle.net_watch.specs.RunsBefore.{RunsBefore, IsNextBefore, IsHeldAt, runs_none};
 
-    type Note = ();
-
     ghost has = { λ began from w at goes_on. (goes_on ≡ true) × ((w.moment ≡ began.moment) × RunsBefore began.moment from at) };
 
     ghost begins = { λ w at. (refl, (refl, runs_none w.moment at)) };
 
-    ghost notes = { λ w at _. IsNextBefore w.moment at.state };
+    ghost goes = { λ w at. IsNextBefore w.moment at.state };
 
     ghost halts = { λ w at. IsHeldAt w.moment at.state };
 
     #[inline(always)]
-    fn ahead(&self, _at: &Net, next: Option<Due>) -> Option<()> {
+    fn ahead(&self, _at: &Net, next: Option<Due>) -> bool {
         match next {
-            Some(due) if due.time >= self.moment => None,
-            _ => Some(()),
+            Some(due) => due.time < self.moment,
+            None => true,
         }
     }
 
     #[inline(always)]
-    fn see(&mut self, _note: (), _before: &Snapshot<Net>, _after: &Net, _line: &Line) -> bool {
+    fn see(&mut self, _before: &Snapshot<Net>, _after: &Net, _line: &Line) -> bool {
         true
     }
 }

@@ -17,37 +17,25 @@ impl<A: Watch, B: Watch> Watch for Both<A, B> {
     ghost use Rattle.std.specs.Prelude.{◌⊎◌, true, refl};
     ghost use Rattle.net_watch.specs.BothHave.{BothHave};
 
-    type Note = (A::Note, B::Note);
-
     ghost fits = { λ w at. A.fits w.first at × B.fits w.second at };
 
     ghost has = { λ began from w at goes_on. BothHave (A.has began.first from w.first at) (B.has began.second from w.second at) goes_on };
 
     ghost begins = { λ w at. record { first = true; second = true; first_has = A.begins w.first at; second_has = B.begins w.second at; both = refl } };
 
-    ghost notes = { λ w at note. A.notes w.first at note.0 × B.notes w.second at note.1 };
+    ghost goes = { λ w at. A.goes w.first at × B.goes w.second at };
 
     ghost halts = { λ w at. A.halts w.first at ⊎ B.halts w.second at };
 
     #[inline(always)]
-    fn ahead(&self, at: &Net, next: Option<Due>) -> Option<(A::Note, B::Note)> {
-        match (self.first.ahead(at, next), self.second.ahead(at, next)) {
-            (Some(first), Some(second)) => Some((first, second)),
-            _ => None,
-        }
+    fn ahead(&self, at: &Net, next: Option<Due>) -> bool {
+        self.first.ahead(at, next) && self.second.ahead(at, next)
     }
 
     #[inline(always)]
-    fn see(
-        &mut self,
-        note: (A::Note, B::Note),
-        before: &Snapshot<Net>,
-        after: &Net,
-        line: &Line,
-    ) -> bool {
-        let (first, second) = note;
-        let one = self.first.see(first, before, after, line);
-        let other = self.second.see(second, before, after, line);
+    fn see(&mut self, before: &Snapshot<Net>, after: &Net, line: &Line) -> bool {
+        let one = self.first.see(before, after, line);
+        let other = self.second.see(before, after, line);
         one && other
     }
 }

@@ -22,9 +22,9 @@ pub fn run_watched<W: Watch>(
 {
     loop {
         let next = net.next_due();
-        let Some(note) = watch.ahead(net, next) else {
+        if !watch.ahead(net, next) {
             return Ok(RunEnd::Held);
-        };
+        }
         let before = Snapshot::of(net);
         match net.run_due(next, line) {
             Ok(true) => {}
@@ -32,7 +32,7 @@ pub fn run_watched<W: Watch>(
             Err(fault) => return Err(fault),
         }
         let _count = net.position();
-        if !watch.see(note, &before, net, line) {
+        if !watch.see(&before, net, line) {
             return Ok(RunEnd::Stopped);
         }
     }

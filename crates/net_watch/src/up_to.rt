@@ -14,29 +14,23 @@ pub struct UpTo {
 impl Watch for UpTo {
     ghost use Rattle.std.specs.Prelude.{◌≡◌, ◌<◌, ◌≤◌, true, refl};
 
-    type Note = ();
-
     ghost fits = { λ w at. at.position ≤ w.position };
 
     ghost has = { λ began _ w _ goes_on. (goes_on ≡ true) × (w.position ≡ began.position) };
 
     ghost begins = { λ _ _. (refl, refl) };
 
-    ghost notes = { λ w at _. at.position < w.position };
+    ghost goes = { λ w at. at.position < w.position };
 
     ghost halts = { λ w at. at.position ≡ w.position };
 
     #[inline(always)]
-    fn ahead(&self, at: &Net, _next: Option<Due>) -> Option<()> {
-        if at.position() < self.position {
-            Some(())
-        } else {
-            None
-        }
+    fn ahead(&self, at: &Net, _next: Option<Due>) -> bool {
+        at.position() < self.position
     }
 
     #[inline(always)]
-    fn see(&mut self, _note: (), _before: &Snapshot<Net>, _after: &Net, _line: &Line) -> bool {
+    fn see(&mut self, _before: &Snapshot<Net>, _after: &Net, _line: &Line) -> bool {
         true
     }
 }

@@ -5,16 +5,13 @@ use std::snapshot::Snapshot;
 
 /// Who is asked before each event of a net and shown each that was run, and may end the run at either.
 pub trait Watch {
-    ghost use Rattle.std.specs.Prelude.{◌≡◌, Bool, true, Some, MatchOption};
+    ghost use Rattle.std.specs.Prelude.{◌≡◌, Bool, true, Some, MatchBool};
     ghost use Rattle.std.specs.Option.{option_map};
     ghost use Rattle.table_run.specs.State.{due};
     ghost use Rattle.net_machine.specs.Due.{due_of};
     ghost use Rattle.node_core.specs.TraceLine.{shown};
     ghost use Rattle.net_machine.specs.Run.{Reached, Stepped};
     ghost use Rattle.net_watch.specs.RunsOn.{RunsOn};
-
-    /// What it reads of the net before an event, and needs behind it.
-    type Note: Drop;
 
     // It can watch a net that stands here.
     ghost fits: { Self → Reached → Type 0 } = { λ _ _. Unit {0} };
@@ -23,22 +20,22 @@ pub trait Watch {
     // stands, where this was its last answer.
     ghost has: { Self → Reached → Self → Reached → Bool → Type 0 };
 
-    // This is what it notes of the net before an event.
-    ghost notes: { Self → Reached → Self.Note → Type 0 } = { λ _ _ _. Unit {0} };
+    // The run is to go on where the net stands.
+    ghost goes: { Self → Reached → Type 0 } = { λ _ _. Unit {0} };
 
     // The run is to end where the net stands.
     ghost halts: { Self → Reached → Type 0 } = { λ _ _. ⊥ };
 
-    /// Asked before each event, and told which is due: what it notes, or nothing, and then the run ends before the event.
-    fn ahead(&self, at: &Net, next: Option<Due>) -> Option<Self::Note>
+    /// Asked before each event, and told which is due: the answer is whether to run it.
+    fn ahead(&self, at: &Net, next: Option<Due>) -> bool
         requires fits { fits self.now at.now }
         requires next { next ≡ option_map due_of (due at.now.state) }
-        ensures { MatchOption result (halts self.now at.now) (λ note. notes self.now at.now note) };
+        ensures { MatchBool result (goes self.now at.now) (halts self.now at.now) };
 
     /// Shown each event: the answer is whether to go on.
-    fn see(&mut self, note: Self::Note, _before: &Snapshot<Net>, after: &Net, line: &Line) -> bool
+    fn see(&mut self, _before: &Snapshot<Net>, after: &Net, line: &Line) -> bool
         requires fits { fits self.old _before.now.value }
-        requires noted { notes self.old _before.now.value note }
+        requires goes { goes self.old _before.now.value }
         requires stepped { Stepped _before.now.value (Some (shown line.now)) after.now }
         ensures has { (began : Self) (from : Reached) → RunsOn from _before.now.value → has began from self.old _before.now.value true → has began from self.new after.now result }
         ensures fits { fits self.new after.now };

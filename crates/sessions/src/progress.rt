@@ -104,19 +104,17 @@ pub(crate) struct Telling<'a, N> {
 impl<N: Notes> Watch for Telling<'_, N> {
     ghost use Rattle.std.specs.Prelude.{◌≡◌, true, refl};
 
-    type Note = ();
-
     ghost has = { λ _ _ _ _ goes_on. goes_on ≡ true };
 
     ghost begins = { λ _ _. refl };
 
     #[inline(always)]
-    fn ahead(&self, _at: &Net, _next: Option<Due>) -> Option<()> {
-        Some(())
+    fn ahead(&self, _at: &Net, _next: Option<Due>) -> bool {
+        true
     }
 
     #[inline(always)]
-    fn see(&mut self, _note: (), _before: &Snapshot<Net>, after: &Net, line: &Line) -> bool {
+    fn see(&mut self, _before: &Snapshot<Net>, after: &Net, line: &Line) -> bool {
         self.progress
             .pass(line.key.time, after.position(), self.notes);
         true

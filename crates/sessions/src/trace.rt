@@ -107,19 +107,17 @@ impl<W: Sink> Watch for Tracing<'_, W> {
     ghost use Rattle.std.specs.Prelude.{◌≡◌, [], refl};
     ghost use Rattle.sessions.specs.Traced.{IsPut, none_put};
 
-    type Note = ();
-
     ghost has = { λ began from w at goes_on. (w.page.ghost_name ≡ began.page.ghost_name) × (w.writer.ghost_name ≡ began.writer.ghost_name) × (from.position ≡ 0 → began.page.now ≡ [] → IsPut from.state at w.page.now (W.contents began.writer.now) (W.contents w.writer.now) (W.failures began.writer.now) (W.failures w.writer.now) w.refused goes_on) };
 
     ghost begins = { λ w at. (refl, refl, λ initial empty. none_put at w.page.now (W.contents w.writer.now) (W.failures w.writer.now) w.refused initial empty) };
 
     #[inline(always)]
-    fn ahead(&self, _at: &Net, _next: Option<Due>) -> Option<()> {
-        Some(())
+    fn ahead(&self, _at: &Net, _next: Option<Due>) -> bool {
+        true
     }
 
     #[inline(always)]
-    fn see(&mut self, _note: (), _before: &Snapshot<Net>, after: &Net, line: &Line) -> bool {
+    fn see(&mut self, _before: &Snapshot<Net>, after: &Net, line: &Line) -> bool {
         match self.page.put_line(after.position(), line) {
             Ok(()) => {}
             Err(_) => {

@@ -75,36 +75,36 @@ impl Watch for Paging<'_> {
     ghost use Rattle.std.specs.Prelude.{◌≡◌, ◌≤◌, [], false, refl};
     ghost use Rattle.window_engine.specs.Singly.{CanStop, IsBefore, IsPaged, going_none};
 
-    type Note = ();
-
     ghost fits = { λ w at. (w.until ≤ at.state.end) × (w.sooner ≡ false → at.state.end ≤ w.until) };
 
     ghost has = { λ began from w at goes_on. (w.page.ghost_name ≡ began.page.ghost_name) × (w.until ≡ began.until) × (w.sooner ≡ began.sooner) × (began.page.now ≡ [] → began.refused ≡ false → IsPaged goes_on began.until w.last from at w.page.now w.refused) };
 
     ghost begins = { λ w at. (refl, refl, refl, λ empty none. (none, going_none w.until w.last at w.page.now empty)) };
 
-    ghost notes = { λ w at _. IsBefore w.until at.state };
+    ghost goes = { λ w at. IsBefore w.until at.state };
 
     ghost halts = { λ w at. CanStop w.until w.last at.state };
 
     #[inline(always)]
-    fn ahead(&self, at: &Net, next: Option<Due>) -> Option<()> {
+    fn ahead(&self, at: &Net, next: Option<Due>) -> bool {
         let many = at.position() >= self.enough;
         if !self.sooner && !many {
-            return Some(());
+            return true;
         }
-        let next = next?;
+        let Some(next) = next else {
+            return false;
+        };
         if next.time >= self.until {
-            return None;
+            return false;
         }
         if many && next.time > self.last {
-            return None;
+            return false;
         }
-        Some(())
+        true
     }
 
     #[inline(always)]
-    fn see(&mut self, _note: (), _before: &Snapshot<Net>, after: &Net, line: &Line) -> bool {
+    fn see(&mut self, _before: &Snapshot<Net>, after: &Net, line: &Line) -> bool {
         let position = after.position();
         match self.page.put_line(position, line) {
             Ok(()) => {

@@ -9,6 +9,6 @@ returns-clause-has c began from runs was = (
   refl,
   (
     was.1.0,
-    before_more began.moment from c.args._before.now.value c.args._after.now (shown c.args._line.now) was.1.1 (subst (λ (n : ℕ). IsNextBefore n c.args._before.now.value.state) was.1.0 c.requires.noted) c.requires.stepped,
+    before_more began.moment from c.args._before.now.value c.args._after.now (shown c.args._line.now) was.1.1 (subst (λ (n : ℕ). IsNextBefore n c.args._before.now.value.state) was.1.0 c.requires.goes) c.requires.stepped,
   ),
 )

@@ -6,7 +6,7 @@ use Rattle.window_engine.proofs.singly.PagingWatch.ahead.Goals as goal
 pub returns-then-next-self : goal.returns-then-next-self
 returns-then-next-self c =
     let s = c.args.at.now.state in
-    let k = key_by (due s) c.in_ok-next.next (sym c.in_ok-next.was ∙ c.requires.next) in
+    let k = key_by (due s) c.in-Some.next (sym c.in-Some.is ∙ c.requires.next) in
     let at = k.at in
     let late = c.if-next-self.true in
     stops_until s c.args.self.now.until c.args.self.now.last k.key k.is (omega (arith, at, late))
@@ -14,7 +14,7 @@ returns-then-next-self c =
 pub returns-then-next-self-2 : goal.returns-then-next-self-2
 returns-then-next-self-2 c =
     let s = c.args.at.now.state in
-    let k = key_by (due s) c.in_ok-next.next (sym c.in_ok-next.was ∙ c.requires.next) in
+    let k = key_by (due s) c.in-Some.next (sym c.in-Some.is ∙ c.requires.next) in
     let at = k.at in
     let later = c.if-next-self-2.true in
     stops_behind s c.args.self.now.until c.args.self.now.last k.key k.is (omega (arith, at, later))

@@ -12,7 +12,7 @@ returns-in-Ok-clause-has c began from runs was = (
   λ empty none.
       let so = was.3 empty none in
       let old = c.args._before.now.value in
-      let before = subst (λ u. IsBefore u old.state) was.1 c.requires.noted in (
+      let before = subst (λ u. IsBefore u old.state) was.1 c.requires.goes in (
         so.0,
         going_on began.until c.args.self.now.last c.max-self.result from old c.args.after.now (shown c.args.line.now) c.args.self.now.page.now c.put_line.new.self c.position-position.result so.1 before c.requires.stepped c.position-position.ensures.count c.in-Ok.ensures.ok c.max-self.ensures,
       ),
