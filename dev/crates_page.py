@@ -28,7 +28,8 @@ GROUPS = {
         'window_workers': 'src/workers.rt', 'window_engine': 'src/engine.rt'},
     'Scenarios': {'scenario_image': 'src/scenario.rt', 'scenario_asm': 'src/assembler.rt', 'explanations': 'src/texts.rt'},
     'Texts and figures': {'trace_text': 'src/line.rt', 'flow_waits': 'src/waits.rt', 'figures': 'src/figures.rt', 'figures_text': 'src/table.rt'},
-    'The debugger': {'breakpoints': 'src/breaks.rt', 'debugger': 'src/moves.rt', 'debug_session': 'src/typed_reply.rt'},
+    'The debugger': {'breakpoints': 'src/breaks.rt', 'debugger': 'src/moves.rt', 'prompt_words': 'src/reading.rt',
+        'debug_session': 'src/typed_reply.rt'},
     'The program': {'command_line': 'src/words.rt', 'sessions': 'src/session.rt', 'tcpsim': 'src/main.rt'},
     'Laws of every run': {'run_laws': 'src/laws.rt'},
     'Tests, by public calls alone': {

@@ -4,12 +4,13 @@ use Rattle.std.proofs.Math.Seq.{get_or-append_seam}
 use Rattle.breakpoints.specs.declared.breaks.Break.{Break}
 use Rattle.breakpoints.specs.Breaks.{IsTakenOut}
 use Rattle.debugger.specs.Debugging.{Debugging}
-use Rattle.debug_session.specs.declared.command.Typed.{Typed}
-use Rattle.debug_session.specs.declared.naming.Naming.{Naming}
-use Rattle.debug_session.specs.declared.refusal.Refusal.{Refusal}
-use Rattle.debug_session.specs.declared.refusal.Refusal.TheVariants.{M}
-use Rattle.debug_session.specs.Answers.{answer_of, session_state}
-use Rattle.debug_session.specs.Numbered.{deleted_line}
+use Rattle.prompt_words.specs.declared.command.Typed.{Typed}
+use Rattle.prompt_words.specs.declared.naming.Naming.{Naming}
+use Rattle.prompt_words.specs.declared.refusal.Refusal.{Refusal}
+use Rattle.prompt_words.specs.declared.refusal.Refusal.TheVariants.{M}
+use Rattle.prompt_words.specs.Refusals.{answer_of}
+use Rattle.debug_session.specs.Answers.{session_state}
+use Rattle.prompt_words.specs.Numbered.{deleted_line}
 use Rattle.debug_session.specs.TypedAnswers.{TypedIsRefused, TakesAway, DoesTyped, ObeysTyped}
 use Rattle.debug_session.proofs.Setting.{stands}
 

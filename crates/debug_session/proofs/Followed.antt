@@ -1,14 +1,14 @@
 -- What follows where a line that is typed was read.
 use Rattle.std.proofs.Common.{◌≡◌, [], List, ℕ, Bool, true, false, MatchBool, Option, Some, None, Ok, Err, refl, sym, subst}
 use Rattle.table_run.specs.State.{State}
-use Rattle.debug_session.specs.declared.command.Request.{Request}
-use Rattle.debug_session.specs.declared.command.Typed.{Typed}
-use Rattle.debug_session.specs.declared.naming.Naming.{Naming}
-use Rattle.debug_session.specs.declared.refusal.Refusal.{Refusal}
-use Rattle.debug_session.specs.declared.refusal.Refusal.TheVariants.{B2}
-use Rattle.debug_session.specs.Answers.{Answer}
-use Rattle.debug_session.specs.Prompt.{AtPrompt, Rests, ObeysAtPrompt, ObeysRequest, MovesAgain, FollowsTyped, AnswersTyped, TypedAnswers, is_long, is_quit}
-use Rattle.debug_session.specs.TypedGrammar.{TypedReading, typed_reading}
+use Rattle.prompt_words.specs.declared.command.Request.{Request}
+use Rattle.prompt_words.specs.declared.command.Typed.{Typed}
+use Rattle.prompt_words.specs.declared.naming.Naming.{Naming}
+use Rattle.prompt_words.specs.declared.refusal.Refusal.{Refusal}
+use Rattle.prompt_words.specs.declared.refusal.Refusal.TheVariants.{B2}
+use Rattle.prompt_words.specs.Refusals.{Answer}
+use Rattle.prompt_words.specs.TypedGrammar.{is_long, is_quit, TypedReading, typed_reading}
+use Rattle.debug_session.specs.Prompt.{AtPrompt, Rests, ObeysAtPrompt, ObeysRequest, MovesAgain, FollowsTyped, AnswersTyped, TypedAnswers}
 
 pub nothing_again : (naming : Naming) (start : State) (old : AtPrompt) (answer : Answer) → old.memo.last ≡ None → answer ≡ Ok [] → MovesAgain naming start old.memo.last old old answer
 nothing_again naming start old answer none reported = subst (λ (m : Option Typed). MovesAgain naming start m old old answer) (sym none) (record { same = refl; reported = reported })

@@ -1,11 +1,5 @@
-pub mod Words
-pub mod Parting
-pub mod Times
 pub mod Followed
-pub mod Gathering
-pub mod Listed
 pub mod Deleting
-pub mod Parted
 pub mod Moved
 pub mod TypedMoving
 pub mod Going

@@ -4,7 +4,7 @@ use Rattle.scenario_image.specs.declared.parts.ScenarioParts.{ScenarioParts}
 use Rattle.scenario_asm.specs.declared.fault.Fault.{Fault}
 use Rattle.scenario_asm.specs.Lines.{lines_of_text}
 use Rattle.scenario_asm.specs.Meaning.{AreRead, MeansScenario, MeansFault}
-use Rattle.debug_session.specs.Input.{text_lines}
+use Rattle.prompt_words.specs.Input.{text_lines}
 use Rattle.debug_session.specs.Sessions.{HasScenario, HasFault}
 
 -- texts of the same lines mean the same

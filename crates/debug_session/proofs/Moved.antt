@@ -4,11 +4,12 @@ use Rattle.debugger.specs.Moves.{Passes}
 use Rattle.debugger.specs.Debugging.{Debugging, HasMoved}
 use Rattle.table_run.specs.State.{State}
 use Rattle.trace_text.specs.Dump.{dump_bytes}
-use Rattle.debug_session.specs.declared.command.Command.TheVariants as command
-use Rattle.debug_session.specs.declared.command.Move.{Move}
-use Rattle.debug_session.specs.declared.refusal.Refusal.{Refusal}
-use Rattle.debug_session.specs.declared.refusal.Refusal.TheVariants.{M}
-use Rattle.debug_session.specs.Answers.{Answer, answer_of, session_state, SessionState, GoesTo, Shows, Obeys, IsRefused}
+use Rattle.prompt_words.specs.declared.command.Command.TheVariants as command
+use Rattle.prompt_words.specs.declared.command.Move.{Move}
+use Rattle.prompt_words.specs.declared.refusal.Refusal.{Refusal}
+use Rattle.prompt_words.specs.declared.refusal.Refusal.TheVariants.{M}
+use Rattle.prompt_words.specs.Refusals.{Answer, answer_of}
+use Rattle.debug_session.specs.Answers.{session_state, SessionState, GoesTo, Shows, Obeys, IsRefused}
 use Rattle.debug_session.specs.Reported.{GoesBack, CanBeUndone}
 
 -- the record of a change, field by field

@@ -3,11 +3,12 @@ use Rattle.std.proofs.Common.{◌≡◌, ◌∙◌, ℕ, List, ◌++◌, Option,
 use Rattle.scenario_image.specs.declared.parts.ScenarioParts.{ScenarioParts}
 use Rattle.table_run.specs.State.{State, initial}
 use Rattle.debugger.specs.Debugging.{Debugging, debugging_opened}
-use Rattle.debug_session.specs.declared.command.Limits.{Limits}
+use Rattle.prompt_words.specs.declared.command.Limits.{Limits}
 use Rattle.debug_session.specs.declared.session.DialogueFault.TheVariants.{OutputFailed}
 use Rattle.debug_session.specs.Taking.{Takes, IsBeginningOf}
 use Rattle.debug_session.specs.Answers.{session_state}
-use Rattle.debug_session.specs.Sessions.{Output, OutputStart, limits_of, IsEnding}
+use Rattle.prompt_words.specs.Namings.{limits_of}
+use Rattle.debug_session.specs.Sessions.{Output, OutputStart, IsEnding}
 
 -- so many workers run windows as there are
 pub opened_by : (d : Debugging) (s : State) (workers : ℕ) → d ≡ debugging_opened s workers → d ≡ debugging_opened s d.workers

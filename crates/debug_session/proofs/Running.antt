@@ -9,9 +9,10 @@ use Rattle.table_run.specs.State.{State}
 use Rattle.window_engine.specs.Puts.{TakesFirst}
 use Rattle.scenario_asm.specs.Lines.{lines_of_text}
 use Rattle.scenario_asm.proofs.Pieces.{pieces_first, pieces_none}
-use Rattle.debug_session.specs.declared.command.Limits.{Limits}
+use Rattle.prompt_words.specs.declared.command.Limits.{Limits}
 use Rattle.debug_session.specs.Taking.{Takes, IsBeginningOf}
-use Rattle.debug_session.specs.Answers.{SessionState, Answer, Answers, answer_text}
+use Rattle.prompt_words.specs.Refusals.{Answer, answer_text}
+use Rattle.debug_session.specs.Answers.{SessionState, Answers}
 use Rattle.debug_session.specs.Sessions.{Ran, Output, OutputStart}
 
 -- one line more is answered

@@ -1,14 +1,13 @@
 -- What a session answers where a breakpoint is asked for.
 use Rattle.std.proofs.Common.{◌≡◌, ◌<◌, ◌≤◌, ◌⊎◌, ◌++◌, ◌∷◌, [], ℕ, List, Bool, true, false, MatchBool, length, inl, inr, ⊎_elim, sym, ap, ◌∙◌, arith, length-append, Result, Ok, Err}
-use Rattle.std.proofs.lemmas.Bool.{cases_lt}
+use Rattle.std.proofs.lemmas.Bool.{cases_lt, false≢true}
 use Rattle.std.specs.List.{Contains}
 use Rattle.std.specs.Result.{is_ok}
-use Rattle.std.proofs.lemmas.Bool.{false≢true}
 use Rattle.breakpoints.specs.declared.breaks.Break.{Break}
 use Rattle.breakpoints.specs.declared.breaks.BreakFault.{BreakFault}
 use Rattle.breakpoints.specs.declared.breaks.BreakFault.TheVariants.{TooMany, NoMemory}
 use Rattle.debugger.specs.Debugging.{Debugging}
-use Rattle.debug_session.specs.declared.command.Command.TheVariants.{SetBreak}
+use Rattle.prompt_words.specs.declared.command.Command.TheVariants.{SetBreak}
 use Rattle.debug_session.specs.Answers.{session_state, Obeys, break_line}
 
 pub decided : (P : Type 0) (b : Bool) → MatchBool b P (¬ P) → P ⊎ (¬ P)

@@ -3,14 +3,15 @@ use Rattle.std.proofs.Common.{◌≡◌, ◌∙◌, ℕ, List, [], ◌++◌, Opt
 use Rattle.net_machine.specs.Run.{Reached}
 use Rattle.debugger.specs.Debugging.{Debugging}
 use Rattle.breakpoints.specs.Seen.{read_left_in}
-use Rattle.debug_session.specs.declared.command.Move.{Move}
-use Rattle.debug_session.specs.declared.command.Typed.TheVariants.{Go}
-use Rattle.debug_session.specs.declared.display.DisplayItem.{DisplayItem}
-use Rattle.debug_session.specs.declared.naming.Naming.{Naming}
-use Rattle.debug_session.specs.declared.refusal.Refusal.{Refusal}
-use Rattle.debug_session.specs.declared.refusal.Refusal.TheVariants.{M}
-use Rattle.debug_session.specs.Answers.{Answer, answer_of, session_state}
-use Rattle.debug_session.specs.Displays.{displays_from}
+use Rattle.prompt_words.specs.declared.command.Move.{Move}
+use Rattle.prompt_words.specs.declared.command.Typed.TheVariants.{Go}
+use Rattle.prompt_words.specs.declared.display.DisplayItem.{DisplayItem}
+use Rattle.prompt_words.specs.declared.naming.Naming.{Naming}
+use Rattle.prompt_words.specs.declared.refusal.Refusal.{Refusal}
+use Rattle.prompt_words.specs.declared.refusal.Refusal.TheVariants.{M}
+use Rattle.prompt_words.specs.Refusals.{Answer, answer_of}
+use Rattle.debug_session.specs.Answers.{session_state}
+use Rattle.prompt_words.specs.Displays.{displays_from}
 use Rattle.debug_session.specs.Prompt.{read_at, MovesShowing}
 use Rattle.debug_session.specs.Readouts.{TellsBehind}
 use Rattle.debug_session.specs.Reported.{CanBeUndone, GoesBack}

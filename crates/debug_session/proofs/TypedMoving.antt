@@ -19,16 +19,18 @@ use Rattle.debugger.specs.Moves.{Passes, HasPosition, GivesAt, EndsAt, StepGoesT
 use Rattle.debugger.specs.Passed.{lines_between, texts_between, stretch_texts}
 use Rattle.debugger.proofs.Between.{one_line, length_between, between_parts}
 use Rattle.debugger.proofs.Walks.{has_earlier, none_due, passes_next, step_done}
-use Rattle.debug_session.specs.declared.command.Move.{Move}
-use Rattle.debug_session.specs.declared.command.Typed.TheVariants.{Go}
-use Rattle.debug_session.specs.declared.memo.Extent.{Extent}
-use Rattle.debug_session.specs.declared.naming.Naming.{Naming}
-use Rattle.debug_session.specs.declared.refusal.Refusal.{Refusal}
-use Rattle.debug_session.specs.declared.refusal.Refusal.TheVariants.{M}
-use Rattle.debug_session.specs.declared.report.Report.{Report}
-use Rattle.debug_session.specs.Answers.{SessionState, answer_of, session_state, GoesTo}
+use Rattle.prompt_words.specs.declared.command.Move.{Move}
+use Rattle.prompt_words.specs.declared.command.Typed.TheVariants.{Go}
+use Rattle.prompt_words.specs.declared.memo.Extent.{Extent}
+use Rattle.prompt_words.specs.declared.naming.Naming.{Naming}
+use Rattle.prompt_words.specs.declared.refusal.Refusal.{Refusal}
+use Rattle.prompt_words.specs.declared.refusal.Refusal.TheVariants.{M}
+use Rattle.prompt_words.specs.declared.report.Report.{Report}
+use Rattle.prompt_words.specs.Refusals.{answer_of}
+use Rattle.debug_session.specs.Answers.{SessionState, session_state, GoesTo}
 use Rattle.debug_session.specs.Reported.{GoesBack, CanBeUndone, AddsPlace, AddsMove, passed_count, reported_hit, reported_origin, shown_stretch}
-use Rattle.debug_session.specs.TypedMoves.{lowest, passed, more_line, last_ten, passed_lines, last_time, place_line, where_line, origin_text, origin_line, hit_line, next_text, known_line, where_text, report_of, TellsPast, MovesPast}
+use Rattle.prompt_words.specs.Reports.{report_of}
+use Rattle.debug_session.specs.TypedMoves.{lowest, passed, more_line, last_ten, passed_lines, last_time, place_line, where_line, origin_text, origin_line, hit_line, next_text, known_line, where_text, TellsPast, MovesPast}
 use Rattle.debug_session.specs.TypedAnswers.{TypedIsRefused, ObeysTyped}
 use Rattle.debug_session.proofs.Moved.{start_of, breaks_of, start_again, state_again}
 

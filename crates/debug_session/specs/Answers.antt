@@ -1,5 +1,5 @@
 -- What a session answers to a line of commands, and where it stands afterwards.
-use Rattle.std.specs.Prelude.{◌≡◌, ◌<◌, ◌+◌, ◌-◌, ◌⊎◌, ℕ, List, [], ◌∷◌, ◌++◌, length, Contains, codes, decimal, Option, None, Some, Result, Ok, Err}
+use Rattle.std.specs.Prelude.{◌≡◌, ◌<◌, ◌+◌, ◌-◌, ◌⊎◌, ℕ, List, [], ◌∷◌, ◌++◌, length, Contains, codes, decimal, Option, None, Some, Ok, Err}
 use Rattle.table_run.specs.State.{State as NetState}
 use Rattle.net_machine.specs.Run.{Reached}
 use Rattle.trace_text.specs.Words.{line_of_words}
@@ -7,14 +7,15 @@ use Rattle.trace_text.specs.Dump.{dump_bytes}
 use Rattle.breakpoints.specs.declared.breaks.Break.{Break}
 use Rattle.debugger.specs.Moves.{Passes, StepGoesTo, RunGoesTo, ReverseGoesTo, UntilGoesTo}
 use Rattle.debugger.specs.Debugging.{Debugging}
-use Rattle.debug_session.specs.declared.command.Command.{Command}
-use Rattle.debug_session.specs.declared.command.Command.TheVariants.{Go, State, SetBreak, Clear}
-use Rattle.debug_session.specs.declared.command.Limits.{Limits}
-use Rattle.debug_session.specs.declared.command.Move.{Move}
-use Rattle.debug_session.specs.declared.command.Move.TheVariants.{Step, Back, Run, Reverse, Until, Goto, Moment}
-use Rattle.debug_session.specs.declared.refusal.Refusal.{Refusal}
-use Rattle.debug_session.specs.declared.refusal.Refusal.TheVariants.{B1, B2, B3, B4, B5, M}
-use Rattle.debug_session.specs.Grammar.{Reading, reading}
+use Rattle.prompt_words.specs.declared.command.Command.{Command}
+use Rattle.prompt_words.specs.declared.command.Command.TheVariants.{Go, State, SetBreak, Clear}
+use Rattle.prompt_words.specs.declared.command.Limits.{Limits}
+use Rattle.prompt_words.specs.declared.command.Move.{Move}
+use Rattle.prompt_words.specs.declared.command.Move.TheVariants.{Step, Back, Run, Reverse, Until, Goto, Moment}
+use Rattle.prompt_words.specs.declared.refusal.Refusal.{Refusal}
+use Rattle.prompt_words.specs.declared.refusal.Refusal.TheVariants.{B4, M}
+use Rattle.prompt_words.specs.Grammar.{Reading, reading}
+use Rattle.prompt_words.specs.Refusals.{Answer}
 
 -- the state that is shown with its position, and the breakpoints that are set
 pub record SessionState : Type 0 where
@@ -27,30 +28,6 @@ session_state d = record { shown = d.shown; breaks = d.breaks }
 -- no move made yet, and no breakpoint set
 abbrev pub opened_at : NetState → SessionState
 opened_at start = record { shown = record { state = start; position = 0 }; breaks = [] }
-
-abbrev pub refusal_code : Refusal → List ℕ
-refusal_code B1 = codes "B1"
-refusal_code B2 = codes "B2"
-refusal_code B3 = codes "B3"
-refusal_code B4 = codes "B4"
-refusal_code B5 = codes "B5"
-refusal_code M = codes "M"
-
-abbrev pub refusal_line : Refusal → List ℕ
-refusal_line refusal = line_of_words (codes "refused" ∷ refusal_code refusal ∷ [])
-
--- what is answered: a text, or why the command is refused
-abbrev pub Answer : Type 0
-Answer = Result (List ℕ) Refusal
-
-abbrev pub answer_of : Result (Unit {0}) Refusal → List ℕ → Answer
-answer_of (Ok done) said = Ok said
-answer_of (Err refusal) said = Err refusal
-
--- what is put out of it, where refusals are told among the answers
-abbrev pub answer_text : Answer → List ℕ
-answer_text (Ok said) = said
-answer_text (Err refusal) = refusal_line refusal
 
 -- so many breakpoints are set
 abbrev pub break_line : ℕ → List ℕ

@@ -1,30 +1,29 @@
 -- A session at a prompt: a line is answered before the next one is asked for.
-use Rattle.std.specs.Prelude.{◌≡◌, ◌⊎◌, ℕ, nat_lt, Bool, true, false, not, MatchBool, if◌then◌else◌, List, [], ◌∷◌, ◌++◌, length, map, codes, Option, None, Some, Ok, Err}
+use Rattle.std.specs.Prelude.{◌≡◌, ◌⊎◌, ℕ, Bool, true, not, MatchBool, List, [], ◌∷◌, ◌++◌, map, Option, None, Some, Ok, Err, max, ◌||◌, is_none}
 use Rattle.std.specs.List.{list_all}
-use Rattle.table_run.specs.State.{State}
+use Rattle.table_run.specs.State.{State, due}
 use Rattle.net_machine.specs.Run.{Reached}
-use Rattle.flow_waits.specs.declared.names.ScenarioNames.{ScenarioNames}
 use Rattle.breakpoints.specs.Seen.{read_in}
-use Rattle.debug_session.specs.declared.command.Request.{Request}
-use Rattle.debug_session.specs.declared.command.Request.TheVariants.{Command, Display}
-use Rattle.debug_session.specs.declared.command.Move.{Move}
-use Rattle.debug_session.specs.declared.command.Typed.{Typed as TypedCommand}
-use Rattle.debug_session.specs.declared.command.Typed.TheVariants.{Go}
+use Rattle.prompt_words.specs.declared.command.Request.{Request}
+use Rattle.prompt_words.specs.declared.command.Request.TheVariants.{Command, Display}
+use Rattle.prompt_words.specs.declared.command.Move.{Move}
+use Rattle.prompt_words.specs.declared.command.Typed.{Typed as TypedCommand}
+use Rattle.prompt_words.specs.declared.command.Typed.TheVariants.{Go}
 use Rattle.debug_session.specs.declared.dialogue.Dialogue.{Dialogue}
-use Rattle.debug_session.specs.declared.display.DisplayCommand.{DisplayCommand}
-use Rattle.debug_session.specs.declared.display.DisplayItem.{DisplayItem}
-use Rattle.debug_session.specs.declared.memo.Memo.{Memo}
-use Rattle.debug_session.specs.declared.naming.Naming.{Naming}
-use Rattle.debug_session.specs.declared.refusal.Refusal.TheVariants.{B2}
-use Rattle.debug_session.specs.Answers.{SessionState, Answer, session_state}
-use Rattle.debug_session.specs.Displays.{Reads, displays_from, ObeysDisplays}
-use Rattle.debug_session.specs.Input.{words_in}
-use Rattle.debug_session.specs.Memos.{known_after, knowing, no_memo}
-use Rattle.debug_session.specs.Entries.{begins}
+use Rattle.prompt_words.specs.declared.display.DisplayCommand.{DisplayCommand}
+use Rattle.prompt_words.specs.declared.display.DisplayItem.{DisplayItem}
+use Rattle.prompt_words.specs.declared.memo.Memo.{Memo}
+use Rattle.prompt_words.specs.declared.naming.Naming.{Naming}
+use Rattle.prompt_words.specs.declared.refusal.Refusal.TheVariants.{B2}
+use Rattle.prompt_words.specs.Refusals.{Answer}
+use Rattle.debug_session.specs.Answers.{SessionState, session_state}
+use Rattle.prompt_words.specs.Displays.{Reads, displays_from, ObeysDisplays}
+use Rattle.prompt_words.specs.Memos.{knowing, no_memo}
 use Rattle.debug_session.specs.Taking.{Takes}
 use Rattle.debug_session.specs.TypedAnswers.{DoesTyped, ObeysTyped, last_after}
-use Rattle.debug_session.specs.TypedGrammar.{TypedReading, typed_reading}
+use Rattle.prompt_words.specs.TypedGrammar.{TypedReading, typed_reading, is_long, is_quit}
 use Rattle.debug_session.specs.TypedMoves.{present_time}
+use Rattle.prompt_words.specs.declared.memo.Extent.{Extent}
 
 -- where a session at a prompt stands, with what it keeps in mind, and what it displays
 pub record AtPrompt : Type 0 where
@@ -44,19 +43,9 @@ pub record Rests (old new : AtPrompt) (answer said : Answer) : Type 0 where
   pub same : new ≡ old
   pub reported : answer ≡ said
 
--- more bytes than a line may have
-abbrev pub is_long : List ℕ → Bool
-is_long line = nat_lt 65536 (length line)
-
--- the one word is `quit`, or begins it, as no other name begins with q
-abbrev pub quits : List (List ℕ) → Bool
-quits [] = false
-quits (word ∷ []) = begins word (codes "quit")
-quits (first ∷ second ∷ more) = false
-
--- the line that ends a session
-abbrev pub is_quit : List ℕ → Bool
-is_quit line = if is_long line then false else quits (words_in line)
+-- the run is known to go on to where a session stands
+abbrev pub known_after : Extent → SessionState → Extent
+known_after known at = record { upto = max known.upto at.shown.position; ends = known.ends || is_none (due at.shown.state) }
 
 -- what is in mind once a command was read: a move is the last of `step`, `back`, `run`, `reverse`, `until` and `goto`; and the run goes on to where the session stood
 abbrev pub memo_after : TypedCommand → AtPrompt → Memo

@@ -5,9 +5,9 @@ use Rattle.breakpoints.specs.declared.values.Reading.{Reading}
 use Rattle.breakpoints.specs.declared.values.ValueOf.{ValueOf}
 use Rattle.breakpoints.specs.Seen.{read_in, read_left_in}
 use Rattle.debugger.specs.Debugging.{Debugging}
-use Rattle.debug_session.specs.declared.display.DisplayItem.{DisplayItem}
+use Rattle.prompt_words.specs.declared.display.DisplayItem.{DisplayItem}
 use Rattle.debug_session.specs.declared.readout.Readout.{Readout}
-use Rattle.debug_session.specs.Displays.{displays_from}
+use Rattle.prompt_words.specs.Displays.{displays_from}
 use Rattle.debug_session.specs.TypedMoves.{present_time}
 
 -- of the state that is shown

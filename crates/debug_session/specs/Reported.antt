@@ -7,8 +7,8 @@ use Rattle.debugger.specs.declared.passed.LastEvent.{LastEvent}
 use Rattle.debugger.specs.declared.passed.LineOrder.TheVariants.{Rising, Falling}
 use Rattle.debugger.specs.declared.passed.Stretch.{Stretch}
 use Rattle.debugger.specs.Debugging.{Debugging}
-use Rattle.debug_session.specs.declared.naming.Naming.{Naming}
-use Rattle.debug_session.specs.declared.report.Report.{Report}
+use Rattle.prompt_words.specs.declared.naming.Naming.{Naming}
+use Rattle.prompt_words.specs.declared.report.Report.{Report}
 use Rattle.debug_session.specs.Answers.{SessionState}
 use Rattle.debug_session.specs.TypedMoves.{origin_text, where_line, TellsMatch, TellsPast}
 

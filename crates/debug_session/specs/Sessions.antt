@@ -1,17 +1,19 @@
 -- A whole session: from its input to its output.
-use Rattle.std.specs.Prelude.{◌≡◌, ℕ, List, [], ◌∷◌, ◌++◌, length, take, Result, Ok, Err}
+use Rattle.std.specs.Prelude.{◌≡◌, ℕ, List, [], ◌∷◌, ◌++◌, take, Result, Ok, Err}
 use Rattle.scenario_image.specs.declared.parts.ScenarioParts.{ScenarioParts}
 use Rattle.scenario_asm.specs.declared.fault.Fault.{Fault}
 use Rattle.scenario_asm.specs.Lines.{lines_of_text}
 use Rattle.scenario_asm.specs.Meaning.{MeansScenario, MeansFault}
 use Rattle.table_run.specs.State.{State, initial}
-use Rattle.debug_session.specs.declared.command.Limits.{Limits}
+use Rattle.prompt_words.specs.declared.command.Limits.{Limits}
 use Rattle.debug_session.specs.declared.session.DialogueFault.{DialogueFault}
 use Rattle.debug_session.specs.declared.session.DialogueFault.TheVariants.{NoMemory, OutputFailed}
 use Rattle.window_engine.specs.Failures.{counted}
 use Rattle.debug_session.specs.Taking.{IsBeginningOf}
-use Rattle.debug_session.specs.Input.{text_lines, command_lines}
-use Rattle.debug_session.specs.Answers.{SessionState, Answer, opened_at, Stays, Answers, answer_text}
+use Rattle.prompt_words.specs.Input.{text_lines, command_lines}
+use Rattle.prompt_words.specs.Refusals.{Answer, answer_text}
+use Rattle.debug_session.specs.Answers.{SessionState, opened_at, Stays, Answers}
+use Rattle.prompt_words.specs.Namings.{limits_of}
 
 -- the lines are answered one after another, from where the session stands
 abbrev pub Ran : Limits → State → List (List ℕ) → SessionState → SessionState → List ℕ → Type 0
@@ -26,9 +28,6 @@ Output limits start lines old out = (new : SessionState) × Ran limits start lin
 -- so do the first of them
 abbrev pub OutputStart : Limits → State → List (List ℕ) → SessionState → List ℕ → Type 0
 OutputStart limits start lines old out = (count : ℕ) × Output limits start (take count lines) old out
-
-abbrev pub limits_of : ScenarioParts → Limits
-limits_of p = record { nodes = length p.nodes; links = length p.links; flows = length p.flows }
 
 -- a text of the input's text lines means this scenario
 abbrev pub HasScenario : List ℕ → ScenarioParts → Type 0

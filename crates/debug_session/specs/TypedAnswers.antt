@@ -5,20 +5,22 @@ use Rattle.trace_text.specs.DumpParts.{part_bytes}
 use Rattle.debug_session.specs.Missing.{why_text}
 use Rattle.breakpoints.specs.declared.breaks.Break.{Break}
 use Rattle.breakpoints.specs.Breaks.{IsTakenOut}
-use Rattle.debug_session.specs.declared.command.Command.TheVariants as command
-use Rattle.debug_session.specs.declared.command.Typed.{Typed}
-use Rattle.debug_session.specs.declared.command.Typed.TheVariants.{Go, State, SetBreak, Delete, Clear, Breaks, Show}
-use Rattle.debug_session.specs.declared.command.Shown.{Shown}
-use Rattle.debug_session.specs.declared.command.Shown.TheVariants.{Part, Why, Stalls, Lines, Where, Names, Help, HelpOn}
-use Rattle.debug_session.specs.declared.naming.Naming.{Naming}
-use Rattle.debug_session.specs.declared.refusal.Refusal.{Refusal}
-use Rattle.debug_session.specs.declared.refusal.Refusal.TheVariants.{B4, B5, M}
-use Rattle.debug_session.specs.Answers.{SessionState, Answer, GoesTo, Stays, Does}
-use Rattle.debug_session.specs.Entries.{help_text, help_on}
-use Rattle.debug_session.specs.NamesReported.{names_text}
+use Rattle.prompt_words.specs.declared.command.Command.TheVariants as command
+use Rattle.prompt_words.specs.declared.command.Typed.{Typed}
+use Rattle.prompt_words.specs.declared.command.Typed.TheVariants.{Go, State, SetBreak, Delete, Clear, Breaks, Show}
+use Rattle.prompt_words.specs.declared.command.Shown.{Shown}
+use Rattle.prompt_words.specs.declared.command.Shown.TheVariants.{Part, Why, Stalls, Lines, Where, Names, Help, HelpOn}
+use Rattle.prompt_words.specs.declared.naming.Naming.{Naming}
+use Rattle.prompt_words.specs.declared.refusal.Refusal.{Refusal}
+use Rattle.prompt_words.specs.declared.refusal.Refusal.TheVariants.{B4, B5, M}
+use Rattle.prompt_words.specs.Refusals.{Answer}
+use Rattle.debug_session.specs.Answers.{SessionState, GoesTo, Stays, Does}
+use Rattle.prompt_words.specs.Entries.{help_text, help_on}
+use Rattle.prompt_words.specs.NamesReported.{names_text}
 use Rattle.debug_session.specs.StallLists.{TellsStalls}
-use Rattle.debug_session.specs.Numbered.{IsNumber, HasNumber, set_line, deleted_line, listing}
-use Rattle.debug_session.specs.TypedMoves.{MovesPast, report_of, last_lines, where_text}
+use Rattle.prompt_words.specs.Numbered.{IsNumber, HasNumber, set_line, deleted_line, listing}
+use Rattle.prompt_words.specs.Reports.{report_of}
+use Rattle.debug_session.specs.TypedMoves.{MovesPast, last_lines, where_text}
 
 -- a breakpoint that is not set yet joins the others, as the last of them
 pub record JoinsLast (naming : Naming) (b : Break) (old new : SessionState) (out : List ℕ) : Type 0 where

@@ -12,13 +12,11 @@ use Rattle.breakpoints.specs.Breaks.{flow_of, IsFirstHit}
 use Rattle.debugger.specs.LastEvents.{freed_link}
 use Rattle.debugger.specs.Moves.{Passes, GivesAt}
 use Rattle.debugger.specs.Passed.{lines_between, texts_between}
-use Rattle.debug_session.specs.declared.command.Move.{Move}
-use Rattle.debug_session.specs.declared.command.Move.TheVariants.{Step, Back, Run, Reverse, Until, Goto, Moment}
-use Rattle.debug_session.specs.declared.memo.Extent.{Extent}
-use Rattle.debug_session.specs.declared.naming.Naming.{Naming}
-use Rattle.debug_session.specs.declared.report.Report.{Report}
+use Rattle.prompt_words.specs.declared.memo.Extent.{Extent}
+use Rattle.prompt_words.specs.declared.naming.Naming.{Naming}
+use Rattle.prompt_words.specs.declared.report.Report.{Report}
 use Rattle.debug_session.specs.Answers.{SessionState}
-use Rattle.debug_session.specs.Numbered.{part_text, stops_line}
+use Rattle.prompt_words.specs.Numbered.{part_text, stops_line}
 
 -- the position behind which the lines of a move backwards begin: where a breakpoint is told, its line is among them
 abbrev pub lowest : ℕ → ℕ → ℕ
@@ -112,28 +110,6 @@ pub record MovesPast (naming : Naming) (start : NetState) (report : Report) (goe
   pub on_run : Passes start new.shown
   pub breaks : new.breaks ≡ old.breaks
   pub reported : TellsPast naming start old.shown.position report new out
-
--- a breakpoint is told after a move forwards, and after no other
-abbrev pub onwards : ℕ → Report
-onwards m = record { bound = m; until = None }
-
--- so after `until`, which says where it does nothing
-abbrev pub until_report : ℕ → ℕ → Report
-until_report time m = record { bound = m; until = Some time }
-
--- a breakpoint is told wherever one can be
-abbrev pub back_to_break : Report
-back_to_break = record { bound = 0; until = None }
-
--- how a move from a position is told
-abbrev pub report_of : Move → ℕ → Report
-report_of (Step count) m = onwards m
-report_of (Back count) m = onwards m
-report_of Run m = onwards m
-report_of Reverse m = back_to_break
-report_of (Until time) m = until_report time m
-report_of (Goto target) m = onwards m
-report_of (Moment time) m = onwards m
 
 -- the line that the next event gives, where one is due
 abbrev pub next_text : NetState → Reached → List ℕ

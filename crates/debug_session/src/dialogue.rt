@@ -1,10 +1,9 @@
 //! A debugger that is told what to do line by line.
 ghost use Rattle.std.specs.Prelude.{◌≡◌, []};
-ghost use Rattle.debug_session.specs.Memos.{no_memo};
+ghost use Rattle.prompt_words.specs.Memos.{no_memo};
 
-use crate::display::DisplayItem;
-use crate::memo::Memo;
 use debugger::Debugger;
+use prompt_words::{DisplayItem, Memo};
 use std::alloc::Global;
 
 /// A debugger at a prompt.

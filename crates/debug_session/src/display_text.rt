@@ -1,17 +1,16 @@
 //! Displays, as they are told.
 ghost use Rattle.std.specs.Prelude.{◌≡◌, ◌+◌, ◌++◌, codes, OnOk};
 ghost use Rattle.std.specs.List.{flat_map};
-ghost use Rattle.debug_session.specs.Displays.{readable_text, is_same_reading, reading_before, value_shown, one_shown, more_of_flow, more_of_link, all_shown, item_text, item_shown, display_line, displays_from, undisplayed_line};
+ghost use Rattle.prompt_words.specs.Displays.{readable_text, is_same_reading, reading_before, value_shown, one_shown, more_of_flow, more_of_link, all_shown, item_text, item_shown, display_line, displays_from, undisplayed_line};
 ghost use Rattle.debug_session.specs.Readouts.{now_of, was_of};
 
-use crate::display::DisplayItem;
-use crate::grammar::is;
-use crate::names_reported::{append_behind, append_number};
 use crate::readout::Readout;
-use crate::value_names::{phase_word, value_name, value_unit};
-use crate::value_texts::append_reading;
 use breakpoints::{Owner, Reading, Value, ValueOf};
 use flow_waits::ScenarioNames;
+use prompt_words::{
+    DisplayItem, append_behind, append_number, append_reading, is, phase_word, value_name,
+    value_unit,
+};
 use std::alloc::AllocError;
 
 /// The values of a flow behind the first.

@@ -1,19 +1,18 @@
 //! Displays that are set, taken away and shown.
 ghost use Rattle.std.specs.Prelude.{◌≡◌};
-ghost use Rattle.debug_session.specs.Answers.{answer_of};
-ghost use Rattle.debug_session.specs.Displays.{Reads, ObeysDisplays};
+ghost use Rattle.prompt_words.specs.Refusals.{answer_of};
+ghost use Rattle.prompt_words.specs.Displays.{Reads, ObeysDisplays};
 ghost use Rattle.debug_session.specs.Prompt.{at_prompt, ObeysDisplay};
 ghost use Rattle.debug_session.specs.Readouts.{present};
 
 use crate::dialogue::Dialogue;
-use crate::display::{DisplayCommand, DisplayItem, MOST_DISPLAYS, number_of_display};
-use crate::naming::Naming;
-use crate::numbered::of_number;
-use crate::refusal::Refusal;
 use crate::said::Said;
 use crate::typed_move::present_time;
 use debugger::Debugger;
 use flow_waits::ScenarioNames;
+use prompt_words::{
+    DisplayCommand, DisplayItem, MOST_DISPLAYS, Naming, Refusal, number_of_display, of_number,
+};
 use sim_time::Time;
 
 /// Displays something, and tells its number: what is displayed already keeps it.

@@ -1,52 +1,23 @@
 //! A session of the debugger: commands come in, and each command's answer goes out.
 #![tactic(auto)]
 
-pub mod command;
-pub mod conditions;
-mod cut;
 pub mod dialogue;
-pub mod display;
 mod display_text;
 mod displaying;
-mod entries;
-mod grammar;
-pub mod input;
-pub mod memo;
 mod missing;
-mod moment;
 mod moves;
-pub mod name;
-mod names_reported;
-pub mod naming;
-mod numbered;
-mod parts;
 pub mod prompt;
-mod reading;
 mod readout;
-pub mod refusal;
 mod reply;
-pub mod report;
 pub mod said;
 pub mod session;
 mod shown;
-mod signs;
 mod stall_list;
 mod typed_move;
 mod typed_reply;
-mod value_names;
-mod value_texts;
 
-pub use command::{Command, Limits, Move, Request, Shown, Typed};
 pub use dialogue::Dialogue;
-pub use display::{DisplayCommand, DisplayItem};
-pub use grammar::{number_below, read_line};
-pub use input::split;
-pub use memo::{Extent, Memo};
-pub use moment::moment_in;
-pub use name::CommandName;
-pub use naming::{Naming, PartSort};
-pub use prompt::{MOST_LINE, answer_typed, is_quit};
-pub use refusal::{Expected, Misnamed, Refusal, Refused};
+pub use prompt::answer_typed;
 pub use reply::answer;
 pub use said::Said;
 pub use session::{DialogueFault, run_commands, run_session};

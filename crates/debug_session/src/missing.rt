@@ -4,10 +4,10 @@ ghost use Rattle.std.specs.List.{flat_map};
 ghost use Rattle.debug_session.specs.Missing.{head_words, byte_missing, missing_head, kind_of_drops, dropped_text, reason_text, drop_text, missing_line, missing_told, why_text};
 ghost use Rattle.debugger.specs.Drops.{past_drops};
 
-use crate::names_reported::append_number;
 use aqm::DropReason;
 use debugger::{Debugger, DropsOf, MoveFault, PastDrop};
 use flow_waits::ScenarioNames;
+use prompt_words::append_number;
 use std::alloc::AllocError;
 
 // Where something is missing.

@@ -3,11 +3,9 @@ ghost use Rattle.std.specs.Prelude.{◌≡◌, IfOk, OnErr};
 ghost use Rattle.debugger.specs.Debugging.{HasMoved};
 ghost use Rattle.debugger.specs.Moves.{StepGoesTo};
 ghost use Rattle.debug_session.specs.Answers.{session_state, GoesTo};
-ghost use Rattle.debug_session.specs.TypedMoves.{report_of};
 
-use crate::command::Move;
-use crate::report::Report;
 use debugger::{Debugger, MoveFault};
+use prompt_words::Move;
 use window_engine::{Gate, Hands};
 
 /// Moves to a position, or to the run's end where that comes first.
@@ -44,25 +42,5 @@ pub(crate) fn make<H: Hands>(
         Move::Until(time) => debugger.until(hands, gate, time),
         Move::Goto(target) => move_to(debugger, target),
         Move::Moment(time) => debugger.goto_moment(hands, gate, time),
-    }
-}
-
-/// How a move from a position is told.
-pub(crate) fn report_of(asked: Move, from: u64) -> Report
-    ensures { result ≡ report_of asked from }
-{
-    match asked {
-        Move::Reverse => Report {
-            bound: 0,
-            until: None,
-        },
-        Move::Until(time) => Report {
-            bound: from,
-            until: Some(time),
-        },
-        Move::Step(_) | Move::Back(_) | Move::Run | Move::Goto(_) | Move::Moment(_) => Report {
-            bound: from,
-            until: None,
-        },
     }
 }

@@ -1,50 +1,20 @@
 //! Lines that are typed at a prompt.
 ghost use Rattle.std.specs.Prelude.{◌≡◌, false};
-ghost use Rattle.debug_session.specs.Answers.{answer_of};
-ghost use Rattle.debug_session.specs.Input.{words_in};
+ghost use Rattle.debug_session.specs.Answers.{session_state};
+ghost use Rattle.prompt_words.specs.Refusals.{answer_of, by_code};
 ghost use Rattle.debug_session.specs.Prompt as prompt;
-ghost use Rattle.debug_session.specs.Refusals.{by_code};
 ghost use Rattle.debug_session.specs.TypedAnswers as answers;
+ghost use Rattle.prompt_words.specs.TypedGrammar.{is_quit};
 
-use crate::command::{Request, Typed};
 use crate::dialogue::Dialogue;
 use crate::displaying::obey_display;
-use crate::grammar::one_word;
-use crate::memo::{Memo, knowing};
-use crate::name::begins;
-use crate::naming::Naming;
-use crate::reading::{read_typed, with_code};
-use crate::refusal::{Refusal, Refused};
 use crate::said::Said;
 use crate::typed_reply::obey_typed;
+use debugger::Debugger;
+use prompt_words::{
+    Extent, Memo, Naming, Refusal, Refused, Request, Typed, is_long, knowing, read_typed, with_code,
+};
 use window_engine::{Gate, Hands};
-
-/// The most bytes of a line.
-pub const MOST_LINE: usize = 65_536;
-
-/// Whether a line has more bytes than a line may have.
-fn is_long(line: &[u8]) -> bool
-    ensures { result ≡ prompt.is_long line.now }
-{
-    line.len() > MOST_LINE
-}
-
-/// Whether the only word of a line is `quit`, or begins it.
-fn quits(line: &[u8]) -> bool
-    ensures { result ≡ prompt.quits (words_in line.now) }
-{
-    match one_word(line) {
-        Some(word) => begins(word, b"quit"),
-        None => false,
-    }
-}
-
-/// Whether a line ends a session at a prompt.
-pub fn is_quit(line: &[u8]) -> bool
-    ensures { result ≡ prompt.is_quit line.now }
-{
-    !is_long(line) && quits(line)
-}
 
 /// The last move, once a command was read.
 fn last_after(asked: Typed, last: Option<Typed>) -> Option<Typed>
@@ -56,13 +26,23 @@ fn last_after(asked: Typed, last: Option<Typed>) -> Option<Typed>
     }
 }
 
+/// How far the run is known to go, where it goes on to where a debugger stands.
+fn known_after(known: Extent, debugger: &Debugger) -> Extent
+    ensures { result ≡ prompt.known_after known (session_state debugger.now) }
+{
+    Extent {
+        upto: known.upto.max(debugger.position()),
+        ends: known.ends || debugger.is_at_end(),
+    }
+}
+
 /// What is in mind, once a command was read.
 fn memo_after(asked: Typed, dialogue: &Dialogue) -> Memo
     ensures { result ≡ prompt.memo_after asked (prompt.at_prompt dialogue.now) }
 {
     Memo {
         last: last_after(asked, dialogue.memo.last),
-        known: dialogue.memo.known.and(&dialogue.debugger),
+        known: known_after(dialogue.memo.known, &dialogue.debugger),
     }
 }
 
@@ -168,7 +148,7 @@ pub fn answer_typed<'a, H: Hands>(
     said: &mut Said,
 ) -> Result<(), Refused<'a>>
     requires ready { H.ready hands.now }
-    ensures answers { prompt.is_quit line.now ≡ false → prompt.TypedAnswers naming.now dialogue.old.debugger.start line.now (prompt.at_prompt dialogue.old) (prompt.at_prompt dialogue.new) (answer_of (by_code result) said.new) }
+    ensures answers { is_quit line.now ≡ false → prompt.TypedAnswers naming.now dialogue.old.debugger.start line.now (prompt.at_prompt dialogue.old) (prompt.at_prompt dialogue.new) (answer_of (by_code result) said.new) }
     ensures start { dialogue.new.debugger.start ≡ dialogue.old.debugger.start }
 {
     if is_long(line) {

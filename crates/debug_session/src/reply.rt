@@ -1,15 +1,14 @@
 //! A session's answer to a line of commands.
 ghost use Rattle.std.specs.Prelude.{◌≡◌, MatchResult};
-ghost use Rattle.debug_session.specs.Answers.{answer_of, session_state, Obeys, Answers};
+ghost use Rattle.prompt_words.specs.Refusals.{answer_of};
+ghost use Rattle.debug_session.specs.Answers.{session_state, Obeys, Answers};
 ghost use Rattle.debug_session.specs.Reported.{GoesBack};
 
-use crate::command::{Command, Limits};
-use crate::grammar::read_line;
 use crate::moves::make;
-use crate::refusal::Refusal;
 use crate::said::Said;
 use breakpoints::{Break, BreakFault};
 use debugger::Debugger;
+use prompt_words::{Command, Limits, Refusal, read_line};
 use window_engine::{Gate, Hands};
 
 /// Takes the last move back, where what it came to could not be told.

@@ -2,28 +2,24 @@
 ghost use Rattle.std.specs.Prelude.{◌≡◌, ◌<◌, ◌≤◌, ◌+◌, ◌++◌, [], OnOk, MatchResult, length, drop, decimal};
 ghost use Rattle.trace_text.specs.Dump.{dump_bytes};
 ghost use Rattle.debugger.specs.Moves.{HasPosition};
-ghost use Rattle.debug_session.specs.Answers.{answer_of, answer_text, session_state, break_line, clear_line};
+ghost use Rattle.prompt_words.specs.Refusals.{answer_of, answer_text};
+ghost use Rattle.debug_session.specs.Answers.{session_state, break_line, clear_line};
 ghost use Rattle.breakpoints.specs.Seen.{read_left_in};
-ghost use Rattle.debug_session.specs.Displays.{present_line, display_listing, displays_from, undisplayed_line};
+ghost use Rattle.prompt_words.specs.Displays.{present_line, display_listing, displays_from, undisplayed_line};
 ghost use Rattle.debug_session.specs.Readouts.{now_of, was_of, present, TellsBehind};
-ghost use Rattle.debug_session.specs.Numbered.{set_line, deleted_line, listing};
+ghost use Rattle.prompt_words.specs.Numbered.{set_line, deleted_line, listing};
 ghost use Rattle.debug_session.specs.TypedMoves.{TellsPast};
 ghost use Rattle.debug_session.specs.TypedAnswers.{Tells};
 
-use crate::command::Shown;
-use crate::display::DisplayItem;
 use crate::display_text::{append_display, append_displays, append_undisplayed};
-use crate::naming::Naming;
-use crate::numbered::{append_listing, append_numbered};
 use crate::readout::Readout;
-use crate::refusal::Refusal;
-use crate::report::Report;
 use crate::shown::append_shown;
 use crate::typed_move::{append_move, present_time};
 use breakpoints::{Break, Reading};
 use debugger::Debugger;
 use flow_waits::ScenarioNames;
 use itoa::write_digits;
+use prompt_words::{DisplayItem, Naming, Refusal, Report, Shown, append_listing, append_numbered};
 use sim_time::Time;
 use std::alloc::{AllocError, Global};
 use std::marker::Model;
@@ -221,8 +217,10 @@ impl Said {
     {
         self.dump.clear();
         self.is_short = false;
-        append_move(&mut self.dump, debugger, naming, from, report)?;
-        Ok(())
+        match append_move(&mut self.dump, debugger, naming, from, report) {
+            Ok(()) => Ok(()),
+            Err(_) => Err(Refusal::M),
+        }
     }
 
     /// Answers the dump of the state that is shown.
@@ -365,7 +363,9 @@ impl Said {
     {
         self.dump.clear();
         self.is_short = false;
-        append_shown(&mut self.dump, debugger, naming, what)?;
-        Ok(())
+        match append_shown(&mut self.dump, debugger, naming, what) {
+            Ok(()) => Ok(()),
+            Err(_) => Err(Refusal::M),
+        }
     }
 }

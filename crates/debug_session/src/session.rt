@@ -8,11 +8,11 @@ ghost use Rattle.debug_session.specs.Taking.{Takes, IsBeginningOf};
 ghost use Rattle.debug_session.specs.Answers.{session_state};
 ghost use Rattle.debug_session.specs.Sessions as sessions;
 
-use crate::command::Limits;
-use crate::cut::cut;
 use crate::reply::answer;
 use crate::said::Said;
 use debugger::Debugger;
+use prompt_words::Limits;
+use prompt_words::cut::cut;
 use scenario_image::Scenario;
 use std::alloc::Global;
 use window_core::Partition;

@@ -3,14 +3,11 @@ ghost use Rattle.std.specs.Prelude.{◌≡◌, [], OnOk};
 ghost use Rattle.debug_session.specs.Answers.{session_state};
 ghost use Rattle.debug_session.specs.TypedAnswers.{Tells};
 
-use crate::command::Shown;
-use crate::entries::{append_help, append_help_on};
 use crate::missing::append_why;
-use crate::names_reported::append_names;
-use crate::naming::Naming;
 use crate::stall_list::append_stalls;
 use crate::typed_move::{append_last, append_whereabouts};
 use debugger::{Debugger, MoveFault};
+use prompt_words::{Naming, Shown, append_help, append_help_on, append_names};
 
 /// Puts what is shown into an empty text. On a fault some of it may stand there.
 pub(crate) fn append_shown(

@@ -3,9 +3,9 @@ ghost use Rattle.std.specs.Prelude.{◌≡◌, ◌++◌, [], OnOk};
 ghost use Rattle.std.specs.List.{flat_map};
 ghost use Rattle.debug_session.specs.StallLists.{goto_text, since_text, stall_line, stalls_text, TellsStalls};
 
-use crate::names_reported::{append_behind, append_counted, append_number};
 use debugger::{Debugger, MoveFault, StallAt};
 use flow_waits::PartNames;
+use prompt_words::{append_behind, append_counted, append_number};
 use std::alloc::AllocError;
 
 // Appends what is typed to go to a position.

@@ -8,14 +8,12 @@ ghost use Rattle.debug_session.specs.Answers.{session_state};
 ghost use Rattle.debug_session.specs.Reported.{passed_count, shown_stretch, reported_hit, reported_origin, AddsPlace, AddsMove};
 ghost use Rattle.debug_session.specs.TypedMoves.{present_time, named_origin, lowest, passed, more_line, last_ten, idle_line, passed_lines, end_words, place_line, hit_line, next_text, known_line, where_text, last_lines};
 
-use crate::memo::Extent;
-use crate::names_reported::{append_counted, append_number};
-use crate::naming::Naming;
-use crate::numbered::{append_numbered, append_part};
-use crate::report::Report;
 use breakpoints::Hit;
 use debugger::{Debugger, LastEvent, LineOrder, MoveFault, Stretch};
 use flow_waits::ScenarioNames;
+use prompt_words::{
+    Extent, Naming, Report, append_counted, append_number, append_numbered, append_part,
+};
 use sim_time::Time;
 use std::alloc::AllocError;
 

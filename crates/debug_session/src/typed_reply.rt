@@ -1,22 +1,19 @@
 //! A session's answer to a command that is typed.
 ghost use Rattle.std.specs.Prelude.{◌≡◌, [], MatchBool, OnOk};
-ghost use Rattle.debug_session.specs.Answers.{answer_of, session_state};
+ghost use Rattle.prompt_words.specs.Refusals.{answer_of};
+ghost use Rattle.debug_session.specs.Answers.{session_state};
 ghost use Rattle.debug_session.specs.Prompt.{MovesShowing, ObeysShowing};
 ghost use Rattle.debug_session.specs.Reported.{CanBeUndone};
 ghost use Rattle.debug_session.specs.TypedAnswers.{ObeysTyped};
 
-use crate::command::{Move, Typed};
-use crate::display::DisplayItem;
-use crate::moves::{make, report_of};
-use crate::naming::Naming;
-use crate::numbered::{number_of, of_number};
-use crate::refusal::Refusal;
+use crate::moves::make;
 use crate::reply::or_undone;
 use crate::said::Said;
 use crate::typed_move::present_time;
 use breakpoints::Break;
 use breakpoints::breaks::MOST_BREAKS;
 use debugger::Debugger;
+use prompt_words::{DisplayItem, Move, Naming, Refusal, Typed, number_of, of_number, report_of};
 use window_engine::{Gate, Hands};
 
 /// Sets a breakpoint, and tells its number: one that is set already keeps it.

@@ -3,7 +3,7 @@ use Rattle.std.proofs.Common.{◌≡◌, ◌<◌, ◌≤◌, ℕ, Bool, true, fa
 use Rattle.std.specs.Prelude.{nat_lt, if◌then◌else◌, MatchOption}
 use Rattle.std.proofs.lemmas.Bool.{ltb-true, ltb-false}
 use Rattle.std.proofs.lemmas.List.Elements.{All-nil, All-cons, All-append, All-push, All-weaker}
-use Rattle.debug_session.specs.declared.name.CommandName.{CommandName}
+use Rattle.prompt_words.specs.declared.name.CommandName.{CommandName}
 use Rattle.sessions.specs.declared.nearest.Near.{Near}
 use Rattle.sessions.specs.Nearest.{edits_to, with_edits, nearer, IsNearest}
 

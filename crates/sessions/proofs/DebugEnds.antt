@@ -3,7 +3,7 @@ use Rattle.std.proofs.Common.{◌≡◌, ◌⊎◌, inl, inr, ℕ, ◌<◌, List
 use Rattle.scenario_image.specs.declared.parts.ScenarioParts.{ScenarioParts}
 use Rattle.scenario_asm.specs.Lines.{lines_of_text}
 use Rattle.scenario_asm.specs.Meaning.{MeansScenario}
-use Rattle.debug_session.specs.Input.{text_lines, command_lines}
+use Rattle.prompt_words.specs.Input.{text_lines, command_lines}
 use Rattle.debug_session.specs.Sessions.{Ended as CommandsEnded, IsEnding, failures_of}
 use Rattle.debug_session.specs.declared.session.DialogueFault.{DialogueFault as CommandsFault}
 use Rattle.debug_session.specs.declared.session.DialogueFault.TheVariants.{NoMemory as commands_NoMemory, OutputFailed}

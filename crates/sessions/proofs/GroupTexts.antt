@@ -13,7 +13,7 @@ use Rattle.clap.proofs.CutLemmas.{Lacks, slice_split-Lacks, slice_split-at}
 use Rattle.window_core.specs.Partition.{is_partition, alone}
 use Rattle.scenario_asm.specs.Numbers.{is_digit, is_numeral, number}
 use Rattle.scenario_asm.proofs.Decimals.{decimal_digits, decimal_numeral, number_decimal}
-use Rattle.debug_session.specs.Grammar.{number_below}
+use Rattle.prompt_words.specs.Grammar.{number_below}
 use Rattle.sessions.specs.Groups.{groups_text, Lists, MeansGroups, Names}
 
 numbers : IsNumeralModel (λ ds. list_all is_digit ds ≡ true) number

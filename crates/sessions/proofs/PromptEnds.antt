@@ -4,12 +4,12 @@ use Rattle.scenario_image.specs.declared.parts.ScenarioParts.{ScenarioParts}
 use Rattle.table_run.specs.State.{initial}
 use Rattle.debugger.specs.Debugging.{Debugging, debugging_opened}
 use Rattle.debug_session.specs.declared.dialogue.Dialogue.{Dialogue}
-use Rattle.debug_session.specs.declared.display.DisplayItem.{DisplayItem}
-use Rattle.debug_session.specs.declared.memo.Memo.{Memo}
-use Rattle.debug_session.specs.declared.naming.Naming.{Naming}
+use Rattle.prompt_words.specs.declared.display.DisplayItem.{DisplayItem}
+use Rattle.prompt_words.specs.declared.memo.Memo.{Memo}
+use Rattle.prompt_words.specs.declared.naming.Naming.{Naming}
 use Rattle.debug_session.specs.Answers.{session_state, opened_at}
-use Rattle.debug_session.specs.Memos.{no_memo}
-use Rattle.debug_session.specs.Sessions.{limits_of}
+use Rattle.prompt_words.specs.Memos.{no_memo}
+use Rattle.prompt_words.specs.Namings.{limits_of}
 use Rattle.debug_session.specs.Prompt.{Typing, Typed, at_prompt, unmoved}
 use Rattle.sessions.specs.declared.fault.SessionFault.{SessionFault}
 use Rattle.sessions.specs.declared.fault.SessionFault.TheVariants.{TooLong, Refused, RefusedImage, Groups, ReadFailed, CannotRead, WriteFailed, NoMemory}

@@ -6,11 +6,12 @@ use Rattle.std.proofs.lemmas.List.Folds.{list_all-append}
 use Rattle.std.proofs.KnownBytes.{Appends-nil, Appends-trans}
 use Rattle.std.specs.Io.KnownBytes.{Appends}
 use Rattle.table_run.specs.State.{State}
-use Rattle.debug_session.specs.declared.naming.Naming.{Naming}
-use Rattle.debug_session.specs.declared.refusal.Refusal.TheVariants.{B2}
-use Rattle.debug_session.specs.Answers.{Answer}
-use Rattle.debug_session.specs.Prompt.{Ask, AnswersTyped, AtPrompt, Rests, Typing, Typed, TypedAnswers, TypedRan, AreInTime, IsSoFar, IsTypedOut, is_long, is_quit, lines_in, none_quits, answer_out, quits}
-use Rattle.debug_session.specs.Input.{words_in}
+use Rattle.prompt_words.specs.declared.naming.Naming.{Naming}
+use Rattle.prompt_words.specs.declared.refusal.Refusal.TheVariants.{B2}
+use Rattle.prompt_words.specs.Refusals.{Answer}
+use Rattle.prompt_words.specs.TypedGrammar.{is_long, is_quit, quits}
+use Rattle.debug_session.specs.Prompt.{Ask, AnswersTyped, AtPrompt, Rests, Typing, Typed, TypedAnswers, TypedRan, AreInTime, IsSoFar, IsTypedOut, lines_in, none_quits, answer_out}
+use Rattle.prompt_words.specs.Input.{words_in}
 use Rattle.debug_session.specs.Taking.{Takes}
 use Rattle.sessions.specs.declared.fault.SessionFault.{SessionFault}
 use Rattle.sessions.specs.declared.fault.SessionFault.TheVariants.{ReadFailed, WriteFailed, NoMemory}

@@ -1,7 +1,7 @@
 -- What a debugging session comes to, by the bytes of its input: always a text, with commands behind it.
 use Rattle.std.specs.Prelude.{◌≡◌, ◌⊎◌, ◌<◌, ℕ, List, [], length, Option, Ok, Err}
 use Rattle.scenario_image.specs.declared.parts.ScenarioParts.{ScenarioParts}
-use Rattle.debug_session.specs.Input.{command_lines}
+use Rattle.prompt_words.specs.Input.{command_lines}
 use Rattle.debug_session.specs.Sessions.{Ended as CommandsEnded, HasFault, HasScenario, IsEnding}
 use Rattle.debug_session.specs.declared.session.DialogueFault.TheVariants.{OutputFailed}
 use Rattle.sessions.specs.declared.fault.SessionFault.TheVariants.{TooLong, Refused, Groups, ReadFailed, WriteFailed, NoMemory}

@@ -3,8 +3,8 @@ use Rattle.std.specs.Prelude.{◌≡◌, ◌≢◌, ℕ, List, [], Option, None,
 use Rattle.scenario_image.specs.declared.parts.ScenarioParts.{ScenarioParts}
 use Rattle.table_run.specs.State.{initial}
 use Rattle.debugger.specs.Debugging.{debugging_opened}
-use Rattle.debug_session.specs.Memos.{no_memo}
-use Rattle.debug_session.specs.Sessions.{limits_of}
+use Rattle.prompt_words.specs.Memos.{no_memo}
+use Rattle.prompt_words.specs.Namings.{limits_of}
 use Rattle.sessions.specs.declared.fault.SessionFault.{SessionFault}
 use Rattle.sessions.specs.declared.fault.SessionFault.TheVariants.{ReadFailed}
 use Rattle.sessions.specs.declared.prompt.Prompt.{Prompt}

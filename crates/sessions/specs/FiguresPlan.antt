@@ -2,7 +2,7 @@
 use Rattle.std.specs.Prelude.{◌<◌, ℕ, zero, suc, Bool, true, false, if◌then◌else◌, List, Option, None, Some, Result, Ok, Err}
 use Rattle.sim_time.specs.Moment.{IsMoment}
 use Rattle.command_line.specs.declared.subcommand.Counting.{Counting}
-use Rattle.debug_session.specs.Times.{moment_in}
+use Rattle.prompt_words.specs.Times.{moment_in}
 use Rattle.sessions.specs.declared.figures_fault.FiguresFault.{FiguresFault}
 use Rattle.sessions.specs.declared.figures_fault.FiguresFault.TheVariants.{NoMoment, NoStep}
 use Rattle.sessions.specs.declared.figures_plan.FiguresPlan.{FiguresPlan}

@@ -5,9 +5,9 @@ use Rattle.scenario_asm.specs.declared.statement.Statement.{Statement}
 use Rattle.scenario_asm.specs.Lines.{lines_of_text}
 use Rattle.scenario_asm.specs.Meaning.{AreRead, statements_of}
 use Rattle.scenario_asm.specs.Text.{node_name, link_name, flow_name}
-use Rattle.debug_session.specs.declared.command.Limits.{Limits}
-use Rattle.debug_session.specs.declared.naming.Naming.{Naming}
-use Rattle.debug_session.specs.Namings.{by_numbers}
+use Rattle.prompt_words.specs.declared.command.Limits.{Limits}
+use Rattle.prompt_words.specs.declared.naming.Naming.{Naming}
+use Rattle.prompt_words.specs.Namings.{by_numbers}
 use Rattle.sessions.specs.Input.{is_image}
 
 -- the names that statements declare, in the order of their numbers, which are below these

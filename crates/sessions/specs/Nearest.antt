@@ -2,8 +2,8 @@
 use Rattle.std.specs.Prelude.{◌≡◌, ◌<◌, ◌≤◌, ℕ, nat_eq, nat_lt, List, ◌∷◌, ◌++◌, if◌then◌else◌, codes, length, Option, None, Some}
 use Rattle.std.specs.List.{All}
 use Rattle.strsim.specs.Edits.{levenshtein_row}
-use Rattle.debug_session.specs.declared.name.CommandName.{CommandName}
-use Rattle.debug_session.specs.declared.name.CommandName.TheVariants.{Step, Back, Break, Breaks, Run, Reverse, Until, State, Lines, Delete, Clear, Help, Quit, Why, Goto, Where, Names, Display, Undisplay, Stalls}
+use Rattle.prompt_words.specs.declared.name.CommandName.{CommandName}
+use Rattle.prompt_words.specs.declared.name.CommandName.TheVariants.{Step, Back, Break, Breaks, Run, Reverse, Until, State, Lines, Delete, Clear, Help, Quit, Why, Goto, Where, Names, Display, Undisplay, Stalls}
 use Rattle.sessions.specs.declared.nearest.Near.{Near}
 
 -- how a name is spelled

@@ -2,9 +2,9 @@
 use Rattle.std.specs.Prelude.{◌≡◌, ◌<◌, ℕ, true, List, [], length, string_bytes, Option, Result, Ok, Err}
 use Rattle.scenario_image.specs.declared.parts.ScenarioParts.{ScenarioParts}
 use Rattle.table_run.specs.State.{State, initial}
-use Rattle.debug_session.specs.declared.naming.Naming.{Naming}
+use Rattle.prompt_words.specs.declared.naming.Naming.{Naming}
 use Rattle.debug_session.specs.Answers.{opened_at}
-use Rattle.debug_session.specs.Sessions.{limits_of}
+use Rattle.prompt_words.specs.Namings.{limits_of}
 use Rattle.debug_session.specs.Prompt.{Ask, AtPrompt, Typed, TypedOutput, AreInTime, IsSoFar, IsToEnd, lines_in, none_quits, unmoved}
 use Rattle.sessions.specs.declared.fault.SessionFault.{SessionFault}
 use Rattle.sessions.specs.declared.fault.SessionFault.TheVariants.{TooLong, Refused, RefusedImage, Groups, ReadFailed, CannotRead, WriteFailed, NoMemory}

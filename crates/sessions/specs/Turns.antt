@@ -2,9 +2,10 @@
 use Rattle.std.specs.Prelude.{◌≡◌, ℕ, true, false, List, [], ◌∷◌, Result, Ok, Err}
 use Rattle.std.specs.Io.KnownBytes.{Appends}
 use Rattle.table_run.specs.State.{State}
-use Rattle.debug_session.specs.declared.naming.Naming.{Naming}
-use Rattle.debug_session.specs.Answers.{Answer}
-use Rattle.debug_session.specs.Prompt.{Ask, AtPrompt, Typed, TypedAnswers, IsTypedOut, is_quit, answer_out}
+use Rattle.prompt_words.specs.declared.naming.Naming.{Naming}
+use Rattle.prompt_words.specs.Refusals.{Answer}
+use Rattle.prompt_words.specs.TypedGrammar.{is_quit}
+use Rattle.debug_session.specs.Prompt.{Ask, AtPrompt, Typed, TypedAnswers, IsTypedOut, answer_out}
 use Rattle.sessions.specs.declared.fault.SessionFault.{SessionFault}
 use Rattle.sessions.specs.declared.fault.SessionFault.TheVariants.{ReadFailed, WriteFailed}
 use Rattle.sessions.specs.declared.prompt.Turn.{Turn}

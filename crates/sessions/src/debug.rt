@@ -14,7 +14,7 @@ use crate::source::Source;
 use command_line::notes::Notes;
 use command_line::sharing::Sharing;
 use command_line::subcommand::Task;
-use debug_session::split;
+use prompt_words::split;
 use std::alloc::Global;
 use std::sync::Wait;
 use std::thread::Threads;

@@ -5,7 +5,7 @@ ghost use Rattle.sessions.specs.FiguresPlan.{moment_from, step_from, plan_with, 
 
 use crate::figures_fault::FiguresFault;
 use command_line::subcommand::{Counting, OptionalWord};
-use debug_session::moment_in;
+use prompt_words::moment_in;
 use sim_time::Time;
 
 /// Which figures of a run are written, from a moment on, and with rows for each step of so many nanoseconds.

@@ -7,7 +7,7 @@ ghost use Rattle.sessions.specs.Nodes.{HasGroups, LacksGroups};
 
 use crate::fault::SessionFault;
 use command_line::sharing::Sharing;
-use debug_session::number_below;
+use prompt_words::number_below;
 use scenario_image::Scenario;
 use std::alloc::{AllocError, Global};
 use window_core::Partition;

@@ -2,11 +2,11 @@
 ghost use Rattle.std.specs.Prelude.{◌≡◌, IfOk};
 ghost use Rattle.scenario_image.specs.declared.parts.ScenarioParts.{ScenarioParts};
 ghost use Rattle.scenario_asm.specs.Meaning.{MeansScenario};
-ghost use Rattle.debug_session.specs.Sessions.{limits_of};
+ghost use Rattle.prompt_words.specs.Namings.{limits_of};
 ghost use Rattle.sessions.specs.Input.{InputHasScenario, is_image};
 ghost use Rattle.sessions.specs.Namings.{IsTextNaming, IsNamingOf};
 
-use debug_session::{Limits, Naming};
+use prompt_words::{Limits, Naming};
 use scenario_asm::parts_of_text;
 use scenario_image::Scenario;
 use std::alloc::{AllocError, Global};

@@ -4,7 +4,7 @@ ghost use Rattle.sessions.specs.Nearest.{IsNearest, nearer, spelling, with_edits
 
 use command_line::notes::Notes;
 use command_line::reasons::shown_bytes;
-use debug_session::CommandName;
+use prompt_words::CommandName;
 use std::alloc::{AllocError, Global};
 use strsim::generic_levenshtein;
 

@@ -3,7 +3,7 @@
 use crate::nearest::{command_begun, first_word, tell_nearest};
 use command_line::notes::{Notes, Numbers};
 use command_line::reasons::{meaning_of, shown_bytes};
-use debug_session::{
+use prompt_words::{
     CommandName, Expected, MOST_LINE, Misnamed, Naming, PartSort, Refusal, Refused,
 };
 use std::alloc::{AllocError, Global};

@@ -1,6 +1,6 @@
 -- What was appended and what is left are all lines.
 use Rattle.std.proofs.Common.{◌≡◌, ◌+◌, ◌++◌, drop}
-use Rattle.debug_session.specs.Displays.{displays_from}
+use Rattle.prompt_words.specs.Displays.{displays_from}
 use Rattle.debug_session.specs.Readouts.{now_of, was_of}
 use Rattle.debug_session.proofs.display_text.append_displays.Given as goal
 

@@ -1,7 +1,7 @@
 -- What was appended and what is left is all.
 use Rattle.std.proofs.Common.{◌≡◌, ◌++◌, drop, codes}
 use Rattle.std.specs.List.{flat_map}
-use Rattle.debug_session.specs.Displays.{one_shown}
+use Rattle.prompt_words.specs.Displays.{one_shown}
 use Rattle.debug_session.specs.Readouts.{now_of, was_of}
 use Rattle.debug_session.proofs.display_text.append_more.Given as goal
 

@@ -1,9 +1,9 @@
 use Rattle.std.proofs.Common.{◌∙◌, List, refl, sym, ap, subst}
 use Rattle.std.proofs.lemmas.Result.{MatchResult-weaker}
-use Rattle.debug_session.specs.declared.display.DisplayCommand.{DisplayCommand}
-use Rattle.debug_session.specs.declared.display.DisplayCommand.TheVariants.{All}
-use Rattle.debug_session.specs.Answers.{answer_of}
-use Rattle.debug_session.specs.Displays.{display_listing, ObeysDisplays}
+use Rattle.prompt_words.specs.declared.display.DisplayCommand.{DisplayCommand}
+use Rattle.prompt_words.specs.declared.display.DisplayCommand.TheVariants.{All}
+use Rattle.prompt_words.specs.Refusals.{answer_of}
+use Rattle.prompt_words.specs.Displays.{display_listing, ObeysDisplays}
 use Rattle.debug_session.specs.Readouts.{present}
 use Rattle.debug_session.proofs.Displayed.{told}
 use Rattle.debug_session.proofs.displaying.change_displays.Goals as goal

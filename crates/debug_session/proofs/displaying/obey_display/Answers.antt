@@ -1,7 +1,8 @@
 use Rattle.std.proofs.Common.{ℕ, refl, ap, subst}
 use Rattle.debugger.specs.Debugging.{Debugging}
-use Rattle.debug_session.specs.Answers.{answer_of, session_state}
-use Rattle.debug_session.specs.Displays.{ObeysDisplays}
+use Rattle.prompt_words.specs.Refusals.{answer_of}
+use Rattle.debug_session.specs.Answers.{session_state}
+use Rattle.prompt_words.specs.Displays.{ObeysDisplays}
 use Rattle.debug_session.specs.Readouts.{present}
 use Rattle.debug_session.proofs.displaying.obey_display.Goals as goal
 

@@ -1,10 +1,10 @@
 use Rattle.std.proofs.Common.{◌∙◌, ◌+◌, List, length, inl, inr, refl, ap, arith, subst}
 use Rattle.std.proofs.lemmas.Result.{MatchResult-weaker}
 use Rattle.std.specs.List.{Contains}
-use Rattle.debug_session.specs.declared.display.DisplayCommand.TheVariants.{Add}
-use Rattle.debug_session.specs.declared.display.DisplayItem.{DisplayItem}
-use Rattle.debug_session.specs.Displays.{present_line}
-use Rattle.debug_session.specs.Numbered.{IsNumber}
+use Rattle.prompt_words.specs.declared.display.DisplayCommand.TheVariants.{Add}
+use Rattle.prompt_words.specs.declared.display.DisplayItem.{DisplayItem}
+use Rattle.prompt_words.specs.Displays.{present_line}
+use Rattle.prompt_words.specs.Numbered.{IsNumber}
 use Rattle.debug_session.specs.Readouts.{present}
 use Rattle.debug_session.proofs.Displayed.{told}
 use Rattle.debug_session.proofs.displaying.set_display.Goals as goal

@@ -1,6 +1,6 @@
 use Rattle.std.proofs.Common.{◌≡◌, ◌<◌, List, length, get_or, refl, ap, arith, subst}
-use Rattle.debug_session.specs.declared.display.DisplayItem.{DisplayItem}
-use Rattle.debug_session.specs.Numbered.{HasNumber}
+use Rattle.prompt_words.specs.declared.display.DisplayItem.{DisplayItem}
+use Rattle.prompt_words.specs.Numbered.{HasNumber}
 use Rattle.debug_session.proofs.displaying.undisplay.Goals as goal
 
 pub returns-in-None : goal.returns-in-None

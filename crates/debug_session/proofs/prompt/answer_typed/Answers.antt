@@ -1,7 +1,6 @@
 use Rattle.std.proofs.Common.{◌∙◌, Err, refl, sym, ap}
-use Rattle.debug_session.specs.Answers.{answer_of}
+use Rattle.prompt_words.specs.Refusals.{answer_of, by_code}
 use Rattle.debug_session.specs.Prompt.{at_prompt}
-use Rattle.debug_session.specs.Refusals.{by_code}
 use Rattle.debug_session.proofs.Followed.{long_refused, short_followed}
 use Rattle.debug_session.proofs.prompt.answer_typed.Goals as goal
 

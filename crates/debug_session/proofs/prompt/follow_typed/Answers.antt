@@ -1,8 +1,7 @@
 use Rattle.std.proofs.Common.{Result, Err, refl, sym, subst, ap, Some, ◌∙◌}
-use Rattle.debug_session.specs.declared.refusal.Refusal.{Refusal}
-use Rattle.debug_session.specs.Answers.{answer_of}
+use Rattle.prompt_words.specs.declared.refusal.Refusal.{Refusal}
+use Rattle.prompt_words.specs.Refusals.{answer_of, by_code}
 use Rattle.debug_session.specs.Prompt.{MovesAgain, ObeysRequest, at_prompt}
-use Rattle.debug_session.specs.Refusals.{by_code}
 use Rattle.debug_session.proofs.Followed.{is_again, is_obeyed, is_refused}
 use Rattle.debug_session.proofs.prompt.follow_typed.Goals as goal
 

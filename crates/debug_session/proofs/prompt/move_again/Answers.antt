@@ -1,5 +1,5 @@
 use Rattle.std.proofs.Common.{Ok, refl, ap}
-use Rattle.debug_session.specs.Answers.{answer_of}
+use Rattle.prompt_words.specs.Refusals.{answer_of}
 use Rattle.debug_session.specs.Prompt.{at_prompt}
 use Rattle.debug_session.proofs.Followed.{nothing_again, done_again}
 use Rattle.debug_session.proofs.prompt.move_again.Goals as goal

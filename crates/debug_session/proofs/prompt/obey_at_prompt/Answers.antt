@@ -1,8 +1,9 @@
 use Rattle.std.proofs.Common.{List, refl, subst}
-use Rattle.debug_session.specs.declared.command.Typed.{Typed}
-use Rattle.debug_session.specs.declared.display.DisplayItem.{DisplayItem}
-use Rattle.debug_session.specs.Memos.{knowing}
-use Rattle.debug_session.specs.Answers.{answer_of, session_state}
+use Rattle.prompt_words.specs.declared.command.Typed.{Typed}
+use Rattle.prompt_words.specs.declared.display.DisplayItem.{DisplayItem}
+use Rattle.prompt_words.specs.Memos.{knowing}
+use Rattle.prompt_words.specs.Refusals.{answer_of}
+use Rattle.debug_session.specs.Answers.{session_state}
 use Rattle.debug_session.specs.Prompt.{ObeysShowing}
 use Rattle.debug_session.proofs.prompt.obey_at_prompt.Goals as goal
 

@@ -1,6 +1,6 @@
 use Rattle.std.proofs.Common.{sym, subst}
-use Rattle.debug_session.specs.declared.command.Request.{Request}
-use Rattle.debug_session.specs.Answers.{answer_of}
+use Rattle.prompt_words.specs.declared.command.Request.{Request}
+use Rattle.prompt_words.specs.Refusals.{answer_of}
 use Rattle.debug_session.specs.Prompt.{ObeysRequest, at_prompt}
 use Rattle.debug_session.proofs.prompt.obey_request.Goals as goal
 

@@ -1,6 +1,7 @@
 use Rattle.std.proofs.Common.{Option, Some, Ok, Err, refl, sym, subst, ◌∙◌, ap}
-use Rattle.debug_session.specs.Grammar.{Reading}
-use Rattle.debug_session.specs.Answers.{answer_of, session_state, Follows}
+use Rattle.prompt_words.specs.Grammar.{Reading}
+use Rattle.prompt_words.specs.Refusals.{answer_of}
+use Rattle.debug_session.specs.Answers.{session_state, Follows}
 use Rattle.debug_session.proofs.reply.answer.Goals as goal
 
 pub returns-in-None-clause-answers : goal.returns-in-None-clause-answers

@@ -1,8 +1,9 @@
 use Rattle.std.proofs.Common.{Ok, Err, refl, sym, ap, subst}
 use Rattle.debugger.specs.Debugging.{Debugging}
-use Rattle.debug_session.specs.declared.command.Command.{Command}
-use Rattle.debug_session.specs.declared.refusal.Refusal.TheVariants.{M}
-use Rattle.debug_session.specs.Answers.{answer_of, session_state, Obeys}
+use Rattle.prompt_words.specs.declared.command.Command.{Command}
+use Rattle.prompt_words.specs.declared.refusal.Refusal.TheVariants.{M}
+use Rattle.prompt_words.specs.Refusals.{answer_of}
+use Rattle.debug_session.specs.Answers.{session_state, Obeys}
 use Rattle.debug_session.proofs.Moved.{moved_shown, state_shown}
 use Rattle.debug_session.proofs.reply.obey.Goals as goal
 

@@ -1,5 +1,5 @@
 use Rattle.std.proofs.Common.{◌≡◌, Result, MatchResult, refl, sym, subst}
-use Rattle.debug_session.specs.declared.refusal.Refusal.{Refusal}
+use Rattle.prompt_words.specs.declared.refusal.Refusal.{Refusal}
 use Rattle.debug_session.specs.Reported.{GoesBack}
 use Rattle.debug_session.proofs.reply.or_undone.Goals as goal
 

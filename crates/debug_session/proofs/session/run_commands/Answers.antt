@@ -4,8 +4,9 @@ use Rattle.std.specs.Io.KnownBytes.{Appends}
 use Rattle.table_run.specs.State.{State}
 use Rattle.window_engine.specs.Failures.{counted}
 use Rattle.debug_session.specs.Taking.{Takes, IsBeginningOf}
-use Rattle.debug_session.specs.Answers.{answer_of, session_state, Answers}
-use Rattle.debug_session.proofs.Words.{after_shorter}
+use Rattle.prompt_words.specs.Refusals.{answer_of}
+use Rattle.debug_session.specs.Answers.{session_state, Answers}
+use Rattle.prompt_words.proofs.Words.{after_shorter}
 use Rattle.debug_session.proofs.Running.{first_taken, none_yet, one_more, one_failed, all_answered}
 use Rattle.debug_session.proofs.session.run_commands.Goals as goal
 

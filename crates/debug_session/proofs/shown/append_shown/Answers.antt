@@ -1,5 +1,5 @@
 use Rattle.std.proofs.Common.{◌≡◌, ◌++◌, OnOk, sym, subst}
-use Rattle.debug_session.specs.declared.command.Shown.{Shown}
+use Rattle.prompt_words.specs.declared.command.Shown.{Shown}
 use Rattle.debug_session.specs.Answers.{session_state}
 use Rattle.debug_session.specs.Missing.{why_text}
 use Rattle.debug_session.specs.TypedAnswers.{Tells}

@@ -1,9 +1,9 @@
 use Rattle.std.proofs.Common.{◌≡◌, ◌<◌, List, length, get_or, refl, sym, ap, subst}
 use Rattle.breakpoints.specs.declared.breaks.Break.{Break}
 use Rattle.debugger.specs.Debugging.{Debugging}
-use Rattle.debug_session.specs.Numbered.{HasNumber}
+use Rattle.prompt_words.specs.Numbered.{HasNumber}
 use Rattle.debug_session.proofs.Deleting.{taken_away}
-use Rattle.debug_session.proofs.Listed.{has_one}
+use Rattle.prompt_words.proofs.Listed.{has_one}
 use Rattle.debug_session.proofs.typed_reply.delete.Goals as goal
 
 pub returns-in-None-clause-obeyed : goal.returns-in-None-clause-obeyed

@@ -1,6 +1,6 @@
 use Rattle.std.proofs.Common.{◌≡◌, ◌∙◌, Ok, Err, ap, subst}
 use Rattle.debugger.specs.Debugging.{Debugging}
-use Rattle.debug_session.specs.declared.command.Typed.TheVariants.{Go}
+use Rattle.prompt_words.specs.declared.command.Typed.TheVariants.{Go}
 use Rattle.debug_session.specs.Answers.{session_state}
 use Rattle.debug_session.specs.Reported.{CanBeUndone}
 use Rattle.debug_session.specs.TypedAnswers.{DoesTyped, ObeysTyped}

@@ -2,10 +2,11 @@ use Rattle.std.proofs.Common.{◌<◌, ◌∙◌, List, length, Ok, refl, sym, s
 use Rattle.std.proofs.lemmas.Result.{MatchResult-weaker}
 use Rattle.breakpoints.specs.declared.breaks.Break.{Break}
 use Rattle.debugger.specs.Debugging.{Debugging}
-use Rattle.debug_session.specs.declared.command.Typed.{Typed}
-use Rattle.debug_session.specs.declared.command.Typed.TheVariants.{State, Breaks, Show}
-use Rattle.debug_session.specs.Answers.{answer_of, session_state}
-use Rattle.debug_session.specs.Numbered.{listing}
+use Rattle.prompt_words.specs.declared.command.Typed.{Typed}
+use Rattle.prompt_words.specs.declared.command.Typed.TheVariants.{State, Breaks, Show}
+use Rattle.prompt_words.specs.Refusals.{answer_of}
+use Rattle.debug_session.specs.Answers.{session_state}
+use Rattle.prompt_words.specs.Numbered.{listing}
 use Rattle.debug_session.specs.Prompt.{ObeysShowing}
 use Rattle.debug_session.proofs.Deleting.{told}
 use Rattle.debug_session.proofs.typed_reply.obey_typed.Goals as goal

@@ -3,11 +3,11 @@ use Rattle.std.proofs.lemmas.Result.{MatchResult-weaker}
 use Rattle.std.specs.List.{Contains}
 use Rattle.breakpoints.specs.declared.breaks.Break.{Break}
 use Rattle.debugger.specs.Debugging.{Debugging}
-use Rattle.debug_session.specs.declared.command.Typed.TheVariants.{SetBreak}
+use Rattle.prompt_words.specs.declared.command.Typed.TheVariants.{SetBreak}
 use Rattle.debug_session.specs.Answers.{session_state}
-use Rattle.debug_session.specs.Numbered.{IsNumber, set_line}
+use Rattle.prompt_words.specs.Numbered.{IsNumber, set_line}
 use Rattle.debug_session.proofs.Deleting.{told}
-use Rattle.debug_session.proofs.Listed.{is_there}
+use Rattle.prompt_words.proofs.Listed.{is_there}
 use Rattle.debug_session.proofs.Setting.{stands}
 use Rattle.debug_session.proofs.typed_reply.set_numbered.Goals as goal
 

@@ -2,7 +2,7 @@ use Rattle.std.proofs.Common.{◌≡◌, ◌∙◌, arith, Option, Ok, Err, refl
 use Rattle.std.proofs.lemmas.Bool.{false≢true}
 use Rattle.std.specs.Option.{IsSome}
 use Rattle.table_run.specs.State.{State}
-use Rattle.debug_session.specs.declared.naming.Naming.{Naming}
+use Rattle.prompt_words.specs.declared.naming.Naming.{Naming}
 use Rattle.debug_session.specs.Prompt.{at_prompt}
 use Rattle.sessions.specs.declared.prompt.Turn.{Turn}
 use Rattle.sessions.specs.Ended.{SessionEnded, reads_after, writes_after}

@@ -1,6 +1,6 @@
 use Rattle.std.proofs.Common.{◌≡◌, Result, Err, IfErr, sym, subst, rules}
-use Rattle.debug_session.specs.Sessions.{limits_of}
-use Rattle.debug_session.specs.declared.naming.Naming.{Naming}
+use Rattle.prompt_words.specs.Namings.{limits_of}
+use Rattle.prompt_words.specs.declared.naming.Naming.{Naming}
 use Rattle.sessions.specs.declared.fault.SessionFault.{SessionFault}
 use Rattle.sessions.specs.declared.fault.SessionFault.TheVariants.{NoMemory}
 use Rattle.sessions.specs.declared.prompt.Prompt.{Prompt}

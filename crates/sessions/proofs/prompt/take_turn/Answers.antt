@@ -1,7 +1,7 @@
 use Rattle.std.proofs.Common.{◌≡◌, ◌<◌, ◌∙◌, true, false, refl, sym, subst, take, length, arith, Result, Err, rules}
-use Rattle.debug_session.specs.Answers.{answer_of}
-use Rattle.debug_session.specs.Prompt.{at_prompt, is_quit}
-use Rattle.debug_session.specs.Refusals.{by_code}
+use Rattle.prompt_words.specs.Refusals.{answer_of, by_code}
+use Rattle.prompt_words.specs.TypedGrammar.{is_quit}
+use Rattle.debug_session.specs.Prompt.{at_prompt}
 use Rattle.sessions.specs.declared.fault.SessionFault.{SessionFault}
 use Rattle.sessions.specs.declared.fault.SessionFault.TheVariants.{WriteFailed}
 use Rattle.sessions.specs.declared.prompt.Turn.{Turn}

@@ -2,7 +2,7 @@ use Rattle.std.proofs.Common.{◌∙◌, ◌++◌, ℕ, ap}
 use Rattle.std.proofs.lemmas.Result.{MatchResult-weaker}
 use Rattle.debugger.specs.Debugging.{Debugging}
 use Rattle.breakpoints.specs.Seen.{read_left_in}
-use Rattle.debug_session.specs.Displays.{displays_from}
+use Rattle.prompt_words.specs.Displays.{displays_from}
 use Rattle.debug_session.specs.Readouts.{present}
 use Rattle.debug_session.proofs.said.Said.say_behind.Goals as goal
 

@@ -1,7 +1,0 @@
--- None so far is the one.
-use Rattle.std.proofs.Common.{◌≡◌, ℕ, ◌<◌, get_or}
-use Rattle.debug_session.specs.declared.display.DisplayItem.{DisplayItem}
-use Rattle.debug_session.proofs.display.number_of_display.Given as goal
-
-abbrev pub invariant-loop-index : goal.invariant-loop-index
-invariant-loop-index l = (k : ℕ) (d : DisplayItem) → k < l.index → get_or l.displays k d ≡ l.item → ⊥

@@ -1,7 +1,0 @@
--- Such a number has at most 20 digits.
-use Rattle.std.proofs.Common.{rules}
-use Rattle.std.proofs.lemmas.Fmt.{length-decimal-le}
-use Rattle.debug_session.proofs.names_reported.append_number.Goals as goal
-
-pub write_digits-start-requires : goal.write_digits-start-requires
-write_digits-start-requires c = search (rules, length-decimal-le 20)
