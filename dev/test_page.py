@@ -604,6 +604,47 @@ def test_a_lesson_that_is_chosen_ends_the_run_before(browser):
     assert run(browser).startswith('done in') and browser.value('page.record.count') == 5
 
 
+# Has the trace of the next run begin only when its figures are counted, and answers what stands there then.
+LATE_TRACE = """new Promise(done => {
+  const {engine} = simulator;
+  let counted;
+  engine.start = function (words, ...more) {
+    const made = Engine.prototype.start.call(this, words, ...more), {begun} = made.pieces;
+    if (words[0] === 'figures') counted = made.ended;
+    if (words[0] !== 'run') return made;
+    delete engine.start;
+    made.pieces.begun = counted.then(() => new Promise(late => setTimeout(late, 100))).then(() => { done([byId('nothing').textContent, simulator.view, byId('figures-table').textContent]); return begun; });
+    return made;
+  };
+  simulator.openLesson(15);
+  OPENED
+})"""
+
+
+@pytest.mark.parametrize('tab', ['net', 'figures'])
+def test_a_run_that_comes_is_no_table_alone(browser, tab):
+    """Where the figures are counted before the trace begins, nothing says that the run has these only, nor has a share without a trace."""
+    choose(browser, 'lesson 1')
+    told = browser.json(LATE_TRACE.replace('OPENED', f'simulator.showTab("{tab}")'))
+    assert told == ['running', tab, '']
+    browser.wait('window.page && document.getElementById("stop").disabled')
+    browser.value('simulator.showTab("figures")')
+    assert ' % of pq' in text_of(browser, '#figures-table')
+    browser.value('simulator.showTab("net")')
+
+
+def test_a_line_that_is_clicked_before_the_run_is_there_is_shown(browser):
+    """As soon as it is there, and meanwhile the page says so; the next run moves from its begin."""
+    choose(browser, 'lesson 1')
+    before = browser.value('document.documentElement.dataset.run')
+    browser.json(LATE_TRACE.replace('OPENED', """document.querySelector('#lesson [data-event="1819"]').click()"""))
+    assert text_of(browser, '#said') == 'running: event 1,819 is shown as soon as the run is there'
+    browser.wait(f'document.documentElement.dataset.run !== "{before}"')
+    assert browser.json('[page.record.at, page.playing]') == [1819, False]
+    browser.value('simulator.start({plays: true}).then(() => 0)')
+    assert browser.value('page.record.at') < 1819
+
+
 def test_long_runs_are_asked_about(browser):
     choose(browser, 'example bufferbloat')
     browser.value('simulator.mostKept = 1000')

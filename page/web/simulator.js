@@ -248,10 +248,13 @@ class Simulator {
   }
   // The run of an example whose trace the page has.
   async showCarried() {
-    const title = this.title, mine = this.run = {text: this.examples[title], title}, packed = byId(`trace-${title}`).textContent;
+    const title = this.title, mine = this.run = {text: this.examples[title], title, comes: true}, packed = byId(`trace-${title}`).textContent;
     const record = new Record(factsOf(this.examples[title], title));
     await fill(record, unpacked(packed), () => {}, () => this.run === mine);
-    if (this.run === mine) await this.showRun(record, title);
+    if (this.run !== mine) return;
+    await this.showRun(record, title);
+    mine.comes = false;
+    if (this.run === mine && this.sought) this.goTo(this.sought);
   }
 
   // Says above the net if it is of another text than the editor's.
@@ -264,18 +267,23 @@ class Simulator {
     this.endExploring();
     this.stop();
     this.clear();
-    const mine = this.run = {text, title, begun: performance.now()};
+    const mine = this.run = {text, title, begun: performance.now(), comes: trace};
     const wanted = () => this.run === mine;
     this.enable(true);
     this.say(byId('nothing').textContent = trace ? 'running' : 'counting');
     const figures = this.countFigures(input, mine);
     const said = trace ? await this.keepTrace(input, mine, most, wanted) : '';
     if (!wanted()) return;
+    mine.comes = false;
+    this.drawSoon(mine);
     if (said === null) { this.ask(mine); return; }
-    if (plays && this.page && !isCalm()) this.page.play(true);
+    const {sought} = this;
+    this.sought = null;
+    if (sought) this.goTo(sought); else if (plays && this.page && !isCalm()) this.page.play(true);
     const counted = await figures;
     if (!wanted()) return;
     this.enable(false);
+    if (mine.csv && !mine.record) this.showTableOnly();
     if (counted.why || counted.status) this.say(byId('nothing').textContent = said || this.reason(counted));
     else this.say(said || `done in ${((performance.now() - mine.begun) / 1000).toFixed(2)} s`);
     document.documentElement.dataset.run = +(document.documentElement.dataset.run || 0) + 1;
@@ -293,16 +301,15 @@ class Simulator {
     this.shelf.told();
     this.drawSoon(mine);
     byId('save-figures').disabled = false;
-    if (!mine.record) this.showTableOnly();
     return counted;
   }
   showTableOnly() {
     byId('nothing').textContent = 'This run has a table of figures only: no trace of it was kept, so it has no net and no curves. Press ▶ run to see them.';
     this.showTab('figures');
   }
-  // Draws what is known of the run by now, once it is seen.
+  // Draws the figures once they are seen, and the trace is there, if one comes.
   drawSoon(run = this.undrawn) {
-    const {csv, text, title, record} = this.run || {}, seen = this.view === 'figures' && run && run === this.run && csv;
+    const {csv, text, title, record, comes} = this.run || {}, seen = this.view === 'figures' && run && run === this.run && csv && !comes;
     this.undrawn = seen ? null : run;
     if (seen) drawFigures(byId('figures-table'), csv, factsOf(text, title), this.page && this.page.record === record ? record : null);
   }
@@ -332,7 +339,6 @@ class Simulator {
     if (ended.why === 'long') { mine.record = null; return null; }
     if (record.count) await this.showRun(record, mine.title);
     if (!wanted()) return '';
-    this.drawSoon(mine);
     return ended.why || ended.status ? `${this.reason(ended)}: what is shown ends at ${seconds(record.times[record.count])}` : '';
   }
   // A run that has more events than are kept unasked.
@@ -357,12 +363,12 @@ class Simulator {
   }
   // Ends what runs, of which nothing is shown: the scenario is another.
   endRun() {
-    this.wanted = null;
+    this.wanted = this.sought = null;
     if (this.compare) this.compare.isAnother = true;
     this.endExploring();
     if (byId('stop').disabled) return;
     this.stop();
-    this.run = {...this.run};
+    this.run = {...this.run, comes: false};
   }
   // Ends what runs; what was read of the trace is shown.
   stop() {
@@ -385,7 +391,7 @@ class Simulator {
       if (performance.now() - this.exploring.begun > LATE) this.exploring.end();
       return;
     }
-    if (!byId('stop').disabled) { this.stop(); this.run = {...this.run}; }
+    if (!byId('stop').disabled) { this.stop(); this.run = {...this.run, comes: false}; }
     while (this.again) {
       this.again = false;
       await this.exploreOnce();
@@ -518,15 +524,20 @@ ${dataOf('licenses').join('\n\n')}`;
     this.goTo(event);
     this.page.say(`${this.page.facts.flows[flow].name}: ${to === undefined ? 'the retransmission timer ends' : `no new acknowledgement for ${seconds(to - from)}`}`);
   }
-  // A trace line that a lesson names, in the example of which it speaks.
+  // Whether the run of the scenario has still to come, and will.
+  get isComing() { return !!this.run && !!this.run.comes || !this.engine && document.documentElement.dataset.ready !== 'without'; }
+  // A trace line that a lesson names, in the example of which it speaks: at once, or as soon as the run that comes is there.
   async goToLine(event, of) {
-    if (this.title !== of) await this.openExample(of);
-    if (this.title === of) this.goTo(event);
+    const opened = this.title !== of && this.openExample(of);
+    this.sought = this.isComing ? event : null;
+    if (opened) await opened; else this.goTo(event);
   }
   async goFromLesson(event, of) {
-    if (!this.page && this.title === of) { this.say('run the scenario first: then a trace line that the lesson names leads to its event'); return; }
+    if (!this.page && this.title === of && !this.isComing) { this.say('run the scenario first: then a trace line that the lesson names leads to its event'); return; }
     this.showTab('net');
-    await this.goToLine(event, of);
+    const goes = this.goToLine(event, of);
+    if (!this.page) this.say(`running: event ${number(event)} is shown as soon as the run is there`);
+    await goes;
     byId('net-room').scrollIntoView({block: 'nearest'});
   }
   // Where all stands below each other, what it shows is brought into view, below what stays above it.
