@@ -12,6 +12,7 @@ import pytest
 sys.path.insert(0, os.path.dirname(os.path.abspath(__file__)))
 import browsers
 import page_lessons
+from clone import TOP
 from page_use import choose, element, look, pick, run, text_of
 
 pytest_plugins = 'page_fixtures'
@@ -735,6 +736,28 @@ def test_a_lesson_speaks_of_what_the_page_shows():
                 continue
             assert not re.search('panels? to the right|received in order|crosses above shows?', part), (lesson.number, part)
             assert not re.search('panels? of the queues?', part) or 'lengths' in panels, (lesson.number, part)
+
+
+def test_lesson_13_says_when_its_flows_lose():
+    """Each in turn, as its claim has it: three of each within half a second of the other's, and at 12 s one alone."""
+    text = page_lessons.lessons()[12].text
+    with open(f'{TOP}/examples/two_flows_share_fairly.trace', encoding='ascii') as file:
+        drops = [(int(line.split()[1]) / 1e9, line.split()[6]) for line in file if ' drop=' in line]
+    between = {flow: [time for time, of in drops if of == flow and 4 < time < 11] for flow in '01'}
+    assert all(len(it) == 3 for it in between.values()) and all(.05 < abs(one - two) < .5 for one, two in zip(*between.values()))
+    assert [flow for time, flow in drops if 11 < time < 13] == ['0']
+    assert 'each is halved in turn' in text and 'From 4 to 11 s each flow loses three segments, one within half a second of the other\'s; at 12 s fa loses alone' in text
+
+
+def test_a_lesson_names_no_sign_that_its_run_has_not():
+    """A plus sign is a packet that the scenario loses by its number, and a cross one for which a queue has no place."""
+    for lesson in page_lessons.lessons():
+        drops = ''
+        for name in lesson.examples:
+            with open(f'{TOP}/examples/{name}.trace', encoding='ascii') as file:
+                drops += file.read()
+        assert not re.search('plus sign', lesson.text) or ' drop=lost' in drops, lesson.number
+        assert not re.search('cross(es)? ', lesson.text) or ' drop=full' in drops, lesson.number
 
 
 def test_the_tutorial_says_of_each_lesson_that_it_is_in_the_page():
