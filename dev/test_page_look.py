@@ -3,6 +3,7 @@
 python3 -m pytest dev/test_page_look.py. In light and dark, at 1400, 1024 and 390 pixels.
 """
 import json
+import math
 import os
 import re
 import subprocess
@@ -499,6 +500,23 @@ def test_how_many_a_mark_is_lies_over_rings(sized):
     settle(browser)
     order = browser.json('[...document.querySelectorAll("#sequence .marks > *")].map(e => e.getAttribute("class"))')
     assert {'again', 'many'} <= {*order} and 'again' not in order[order.index('many'):], order
+    (count, *hidden), = browser.json('''[...document.querySelectorAll("#sequence .many")].map(e => { const words = e.getBoundingClientRect(), rings = [...document.querySelectorAll("#sequence .marks .again")];
+      return [rings.length, ...rings.map(ring => ring.getBoundingClientRect()).filter(ring => ring.left < words.right && ring.right > words.left && ring.top < words.bottom && ring.bottom > words.top)]; })''')
+    assert count == 3 and not hidden
+    look(browser, 'three_rings')
+
+
+def test_a_timeout_among_two_flows_says_whose_it_is(sized):
+    """Every second dash of its line has its flow's colour, as in lesson 15; of a flow alone it has none."""
+    browser = sized
+    choose(browser, 'lesson 15')
+    settle(browser)
+    colours = browser.json('[...document.querySelectorAll("#windows .marks .timeout-of")].map(e => e.style.stroke)')
+    whose = browser.json('page.record.timeouts.map(event => `var(--flow-${page.record.line(event).split(" ")[6]})`)')
+    assert sorted(colours) == sorted(whose) == ['var(--flow-0)'] * 3 + ['var(--flow-1)']
+    look(browser, 'timeouts_of_two_flows')
+    browser.value('page.panels.choose([["windows", "fa"]])')
+    assert browser.json('["timeout", "timeout-of"].map(kind => document.querySelectorAll(`#windows .marks .${kind}`).length)') == [3, 0]
 
 
 @pytest.mark.parametrize('width, panels', [(1400, ['windows', 'lengths', 'progress']), (1024, ['windows', 'lengths'])])
@@ -1338,6 +1356,13 @@ def test_colours_are_those_of_pictures():
         assert contrast(color, looks.ink_on(color)) >= 4.5, color
 
 
+def test_a_drop_has_no_flows_colour():
+    """Its words in the net and in the trace are 30 apart in CIELAB from each flow's colour, and from a timeout's 20."""
+    for scheme, flows in enumerate((looks.FLOWS, looks.FLOWS_IN_THE_DARK)):
+        drop, timeout = (lab(looks.PAGE[name][scheme]) for name in ('drop', 'timeout'))
+        assert min(math.dist(drop, lab(color)) for color in flows) > 30 and math.dist(drop, timeout) > 20
+
+
 def luminance(color):
     parts = [int(color[at:at + 2], 16) / 255 for at in (1, 3, 5)]
     red, green, blue = (part / 12.92 if part <= .03928 else ((part + .055) / 1.055) ** 2.4 for part in parts)
@@ -1352,3 +1377,11 @@ def contrast(one, other):
 def lightness(color):
     """That of CIELAB."""
     return 116 * luminance(color) ** (1 / 3) - 16
+
+
+def lab(color):
+    """A colour in CIELAB, of the white point D65."""
+    red, green, blue = (luminance('#' + 3 * color[at:at + 2]) for at in (1, 3, 5))
+    x, y, z = (part ** (1 / 3) if part > .008856 else 7.787 * part + 16 / 116 for part in (
+        .4339 * red + .3762 * green + .1899 * blue, .2126 * red + .7152 * green + .0722 * blue, .0177 * red + .1095 * green + .8728 * blue))
+    return 116 * y - 16, 500 * (x - y), 200 * (y - z)

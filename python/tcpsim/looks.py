@@ -28,7 +28,7 @@ PAGE = {
     'edge': ('#76818d', '#7d8894'), 'shade': ('#76818d', '#3f4a55'), 'ink': ('#15191e', '#e8ecf0'), 'quiet': ('#55606b', '#a7b1bc'), 'accent': ('#0a5fb4', '#7bb8f5'),
     'on-accent': ('#ffffff', '#08131f'), 'soft': ('#e3effb', '#1b3350'), 'good': ('#1b6e3c', '#7ed6a0'), 'good-soft': ('#e4f4ea', '#16301f'),
     'bad': ('#a61b1b', '#ff9d97'), 'bad-soft': ('#fdeaea', '#3a1a1a'), 'present': ('#fff3b0', '#4b4210'), 'node': ('#333b44', '#98a3ae'),
-    'wire': ('#8a8a8a', '#77818b'), 'drop': (RED, '#FF8A4C'), 'drop-ink': ('#A84300', '#FF9F6B'), 'again': (ORANGE, ORANGE), 'codel': (PURPLE, '#E3A0C6'),
+    'wire': ('#8a8a8a', '#77818b'), 'drop': ('#B5002A', '#FF8FA3'), 'again': (ORANGE, ORANGE), 'codel': (PURPLE, '#E3A0C6'),
     'lost': ('#000000', '#ffffff'), 'recovery': (SKY, SKY), 'timeout': (TIMEOUT, '#FF5C9E'), 'stall': ('#000000', '#ffffff'),
     'keyword': ('#6A3D9A', '#c9a6f5'), 'type': ('#00684a', '#74d3ac'), 'number': ('#8a4b00', '#f0b672'), 'name': ('#0050a0', '#8cc0fa')}
 

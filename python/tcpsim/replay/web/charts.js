@@ -13,6 +13,7 @@ const NEAR = 1.25, EDGE = 3;            // what is thin counts for the scale up 
 const MOST_OF_NAME = 0.2;               // of a chart's width, that a lane's name may have
 const OWN_SCALE = 3;                    // a lane with values smaller than the others' by this has an axis of its own
 const MARK = 1 / 3, KEY_SIGN = 18;      // half of a mark's width, in heights of letters; what the key's signs have beside them
+const ROWS_OF_WORD = [0, -1.1, 1.1, -2.2, 2.2];     // where words of a mark are, in steps that a ring takes
 const DIGIT = 0.62, APART = 3;           // a letter's width, as a part of its height; pixels between two marks
 const SIGNS = {full: 'm-4-4l8 8m0-8l-8 8', codel: 'm-4-4h8l-4 8z', lost: 'm-5 0h10m-5-5v10', timeout: '', before: 'm-6 0h5m3 0h5', above: 'm0 5v-10m-4 4l4-4 4 4'};
 const BAND_ROW = 1.3, THIN_ROW = 4;        // the height of a strip of bands, as a part of that of letters; and in pixels where curves need the room
@@ -272,10 +273,15 @@ class Chart {
         row.pop();
       }
     }
-    const made = [...rows.values()].flat();
-    // Words lie over rings, not below them.
-    for (const one of [...made].sort((one, two) => !!one.word - !!two.word)) this.drawMark(one, from, to);
+    const made = [...rows.values()].flat(), rings = made.filter(({kind}) => kind === 'again');
+    for (const one of [...made].sort((one, two) => !!one.word - !!two.word)) this.drawMark({...one, says: this.wordAt(one, rings)}, from, to);
     return made;
+  }
+  // The height of a mark's words: its own, or above or below it, so that they hide no ring.
+  wordAt({x, at, begin, until, word}, rings) {
+    const {half, letters} = this, apart = letters / 2 + half + 2;
+    const isFree = y => rings.every(ring => ring.x + half + 1 < begin || ring.x - half - 1 > until || Math.abs(ring.at - y) > apart);
+    return (word && ROWS_OF_WORD.map(row => at + row * apart).find(isFree)) || at;
   }
   // How many a mark is, its words, and from where to where it reaches with these, which have no room beyond the edge.
   reach(one) {
@@ -284,16 +290,18 @@ class Chart {
     const wide = word ? 1 + word.length * DIGIT * this.letters : 0, isLeft = x + half + wide > this.wide;
     return {...one, count, word, isLeft, begin: x - (isSign ? half : 0) - (isLeft ? wide : 0), until: x + (kind === 'again' ? 1 : half + (isSign || word ? APART : 0) + (isLeft ? 0 : wide))};
   }
-  drawMark({kind, x, at, strip, colour, name, count, word, isLeft}, from, to) {
+  drawMark({kind, x, at, says, strip, whose, of, colour, name, count, word, isLeft}, from, to) {
     const path = this.marks.append(kind === 'again' ? 'circle' : 'path').attr('class', kind).style('stroke', colour || null);
     if (kind === 'timeout') path.attr('d', `M${x} ${from}V${to}`);
     else if (kind === 'again') path.attr('cx', x).attr('cy', at).attr('r', this.half + 1).attr('fill', 'none');
     else for (const each of [this.marks.insert('path', 'path:last-child').attr('class', 'halo'), path]) this.sign(each, kind, x, at);
+    // Among the curves of several flows every second dash has its flow's colour.
+    if (kind === 'timeout' && whose && of.size === 1) this.marks.append('path').attr('class', 'timeout-of').attr('d', `M${x} ${from}V${to}`).style('stroke', whose.colour);
     // In a strip words may lie over it.
     if (kind === 'timeout' && strip) this.bands.append('path').attr('class', kind).attr('d', `M${x} ${strip.top}v${strip.tall}`);
     path.append('title').text(count > 1 ? `${name}, and ${number(count - 1)} more` : name);
     if (!word) return;
-    this.marks.append('text').attr('class', 'many').attr('x', x + (isLeft ? -1 : 1) * (this.half + 1)).attr('text-anchor', isLeft ? 'end' : 'start').attr('y', at + 0.35 * this.letters).text(word);
+    this.marks.append('text').attr('class', 'many').attr('x', x + (isLeft ? -1 : 1) * (this.half + 1)).attr('text-anchor', isLeft ? 'end' : 'start').attr('y', says + 0.35 * this.letters).text(word);
   }
   // A sign at a place, as large as letters are.
   sign(path, kind, x, at) { path.attr('d', `M0 0${SIGNS[kind] || SIGNS.full}`).attr('transform', `translate(${x},${at})scale(${this.half / 4})`).attr('vector-effect', 'non-scaling-stroke'); }
