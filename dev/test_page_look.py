@@ -748,6 +748,18 @@ def test_an_axis_of_delays_says_seconds(sized):
     assert '2 s' in labels and not any('k' in one for one in labels), labels
 
 
+def test_the_delays_have_codels_target(sized):
+    """In lesson 11 as a dotted line, as in the picture, with its number in the key; drop-tail has none."""
+    browser = sized
+    for lesson, key in (11, ['target 20 ms']), (10, []):
+        choose(browser, f'lesson {lesson}')
+        settle(browser)
+        assert [it for it in browser.json('[...document.querySelectorAll("#delays .key")].map(e => e.textContent)') if 'target' in it] == key
+        lines = browser.json('(({lanes: [{y}], curves}) => [...curves.node().querySelectorAll(".level")].map(e => Math.abs(+e.getAttribute("d").split(/[ H]/)[1] - y(2e7)) < 1))(page.panels.charts.delays)')
+        assert lines == [True] * len(key), lines
+        look(browser, f'target_{lesson}')
+
+
 def test_a_lesson_picture_in_the_dark(chromium):
     """Its paper is dark, as the page's."""
     try:

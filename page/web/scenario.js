@@ -20,7 +20,7 @@ function factsOf(text, title) {
       facts.links.push({name, from: node.get(from), to: node.get(to), rate: +rate, delay: +delay, queue, own: false, limit: +limit,
         port: port.length});
       port.push(facts.links.length - 1);
-      facts.targets.push(+target);       // of CoDel
+      facts.targets.push(queue === 'codel' ? +target : 0);
     },
     flow: ([name, sender, receiver, mss, segments, start, rwnd, delack, , window]) => {
       facts.flows.push({name, sender: node.get(sender), receiver: node.get(receiver), mss: +mss, segments: +segments,

@@ -36,6 +36,7 @@ def about(scenario: Scenario) -> dict:
         'links': [{'name': link.name, 'from': link.source, 'to': link.to, 'rate': link.rate, 'delay': link.delay,
                    'queue': link.queue, 'own': number in scenario.own, 'limit': link.capacity, 'port': scenario.leaves[link.source].index(number)}
                   for number, link in enumerate(scenario.links)],
+        'targets': [link.target for link in scenario.links],        # of CoDel, else 0
         'flows': [{'name': flow.name, 'sender': flow.sender, 'receiver': flow.receiver, 'mss': flow.mss,
                    'segments': flow.segments, 'start': flow.start, 'rwnd': flow.rwnd, 'delack': flow.delack}
                   for flow in scenario.flows],

@@ -15,7 +15,7 @@ const OWN_SCALE = 3;                    // a lane with values smaller than the o
 const MARK = 1 / 3, KEY_SIGN = 18;      // half of a mark's width, in heights of letters; what the key's signs have beside them
 const ROWS_OF_WORD = [0, -1.1, 1.1, -2.2, 2.2];     // where words of a mark are, in steps that a ring takes
 const DIGIT = 0.62, APART = 3;           // a letter's width, as a part of its height; pixels between two marks
-const SIGNS = {full: 'm-4-4l8 8m0-8l-8 8', codel: 'm-4-4h8l-4 8z', lost: 'm-5 0h10m-5-5v10', timeout: '', before: 'm-6 0h5m3 0h5', above: 'm0 5v-10m-4 4l4-4 4 4'};
+const SIGNS = {full: 'm-4-4l8 8m0-8l-8 8', codel: 'm-4-4h8l-4 8z', lost: 'm-5 0h10m-5-5v10', timeout: '', level: 'm-6 0h13', before: 'm-6 0h5m3 0h5', above: 'm0 5v-10m-4 4l4-4 4 4'};
 const BAND_ROW = 1.3, THIN_ROW = 4;        // the height of a strip of bands, as a part of that of letters; and in pixels where curves need the room
 const ROW_OF_KEY = 1.25, LEAST_OF_CURVES = 3.2; // in heights of letters: a row of the key, and what it leaves for curves
 const valueText = value => value < 1 ? String(value) : d3.format('s')(value);
@@ -164,7 +164,7 @@ class Chart {
   within(time) { return this.x(Math.min(this.x.domain()[1], Math.max(this.x.domain()[0], time))); }
 
   // Each lane is {name, colour, series, bands, marks}. Of `series` each is {curve, colour, dash, thin, name}, or {dots, ..} with points,
-  // or {area, ..} with [time, from, to] of each column; one with `behind` counts for the scale, and is drawn once it is of a run before; of `bands` a span that is shaded, {kind, from, to, name, whose}, in a strip above the
+  // or {level, ..}, a value, or {area, ..} with [time, from, to] of each column; one with `behind` counts for the scale, and is drawn once it is of a run before; of `bands` a span that is shaded, {kind, from, to, name, whose}, in a strip above the
   // curves where it says `whose` it is, {name, mark, colour}; of `marks` a moment, {kind, time, value, name, whose, colour, link}. `key` has [kind, words, colour] of bands, marks and flows. Lanes that have no room are one, in which the
   // first is before the others.
   show(lanes, key = []) {
@@ -235,10 +235,11 @@ class Chart {
       if (at === undefined) word.remove(); else { word.attr('x', at + APART); taken.push([at, at + wide]); }
     }
   }
-  curveOf({curve, dots, area, colour, dash, thin, before, behind, name}, y, line, from) {
-    if (behind) return;
+  curveOf({curve, dots, area, level, colour, dash, thin, before, behind, name}, y, line, from) {
+    if (behind || level !== undefined && y(level) < from) return;
     const path = this.curves.append('path');
-    if (area)
+    if (level !== undefined) path.attr('class', 'level').attr('d', `M${this.x.range()[0]} ${y(level)}H${this.x.range()[1]}`);
+    else if (area)
       path.attr('class', 'area').style('fill', colour).attr('d', area.map(([x, low, high]) => `M${x} ${y(low).toFixed(1)}V${y(high).toFixed(1)}h1.02V${y(low).toFixed(1)}z`).join(''));
     else if (dots)
       path.attr('class', 'dots').attr('stroke', colour).attr('stroke-width', thin ? 1.5 : 3).attr('d', this.dotted(dots, y, from));

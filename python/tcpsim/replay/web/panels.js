@@ -103,14 +103,14 @@ function stacked(record, l, x) {
 // The key's words of what lanes have, of drops with how many there are; and which ssthresh has no room on the axis.
 const KEYS = [...Object.entries(LOOKS.marks), ...Object.entries(LOOKS.drops), ['before', 'before the last change']];
 function keyOf(lanes, {facts}) {
-  const there = new Map(), scales = scalesOf(lanes), above = new Set();
+  const there = new Map(), scales = scalesOf(lanes), above = new Set(), levels = new Set();
   lanes.forEach(({series, bands = [], marks = []}, k) => {
     for (const {kind} of [...bands, ...marks]) there.set(kind, (there.get(kind) || 0) + 1);
-    for (const {thin, before, other, curve} of series)
-      if (before) there.set('before'); else if (thin && curve && !other && greatestOf(curve.values) > scales[k]) above.add(valueText(greatestOf(curve.values)));
+    for (const {thin, before, other, curve, level} of series)
+      if (level <= scales[k]) levels.add(waitText(level)); else if (before) there.set('before'); else if (thin && curve && !other && greatestOf(curve.values) > scales[k]) above.add(valueText(greatestOf(curve.values)));
   });
   const flows = new Set(lanes.flatMap(({series}) => series.filter(({flow}) => flow !== undefined).map(({flow}) => flow)));
-  return [...KEYS.filter(([kind]) => there.has(kind)).map(([kind, words]) => [kind, LOOKS.drops[kind] ? `${number(there.get(kind))} ${words}` : words]), ...(above.size ? [['above', `ssthresh ${[...above].join(', ')}`]] : []), ...[...flows].sort((a, b) => b - a).map(f => ['flow', facts.flows[f].name, colourOf(f)])];
+  return [...KEYS.filter(([kind]) => there.has(kind)).map(([kind, words]) => [kind, LOOKS.drops[kind] ? `${number(there.get(kind))} ${words}` : words]), ...(above.size ? [['above', `ssthresh ${[...above].join(', ')}`]] : []), ...(levels.size ? [['level', `target ${[...levels].join(', ')}`]] : []), ...[...flows].sort((a, b) => b - a).map(f => ['flow', facts.flows[f].name, colourOf(f)])];
 }
 const windowOf = (record, f) => [[CWND, 'cwnd'], [SSTHRESH, 'ssthresh']].map(([what, name]) => ({curve: record.curve(record.ofFlow(f, what)),
   colour: colourOf(f), thin: what === SSTHRESH, dash: dashOf(f), name: `${name} of ${flowName(record, f)}`}));
@@ -132,8 +132,9 @@ const PANELS = {
   delays: {says: 'delay', of: 'links', hides: 'flows', whole: false, text: ns => ns ? waitText(ns) : '0', titles: [LOOKS.panels.delay, 'delay of each packet', 'delay'], lane: (record, l, x, flows) => {
     const track = record.tracks[l], of = record.facts.flows.map(() => ({times: [], values: []})), shown = new Set(flows);
     for (let k = 0; k < track.gone; k++) { const entry = track.entryOf(k), one = of[track.flow[entry]]; one.times.push(track.entered(entry)); one.values.push(track.begun(k) - track.entered(entry)); }
-    return {name: record.facts.links[l].name, colour: linkColourOf(l), marks: dropsAt(record, l, ({flow}) => shown.has(flow)), series: of.map((dots, f) => ({dots, curve: dots, flow: f, colour: colourOf(f),
-      name: `delay of packets of ${flowName(record, f)} at ${record.facts.links[l].name}`})).filter(({dots, flow}) => dots.times.length && shown.has(flow))};
+    const {facts: {links, targets}} = record, target = targets[l] ? [{level: targets[l], thin: true, name: `CoDel's target at ${links[l].name}: ${waitText(targets[l])}`}] : [];
+    return {name: links[l].name, colour: linkColourOf(l), marks: dropsAt(record, l, ({flow}) => shown.has(flow)), series: [...of.map((dots, f) => ({dots, curve: dots, flow: f, colour: colourOf(f),
+      name: `delay of packets of ${flowName(record, f)} at ${links[l].name}`})).filter(({dots, flow}) => dots.times.length && shown.has(flow)), ...target]};
   }},
   sequence: {says: 'sequence numbers', of: 'flows', titles: [`${LOOKS.panels.sequence}: sent (dots), acknowledged (line), bytes`, `${LOOKS.panels.sequence}, bytes`], lane: (record, f) => {
     const {all, again} = sent(record, f), name = flowName(record, f);
