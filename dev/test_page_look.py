@@ -661,14 +661,20 @@ def test_bars_go_by_one_rule(sized):
     compared = of_100 = 0
     for head, cells in (column for table in tables for column in table):
         bars = [(float(text.split()[0]), bar) for text, bar in cells if bar is not None]
-        parts = any(' %' in text for text, _ in cells)
+        parts = any(' %' in text for text, bar in cells if bar is not None)
         assert head.endswith('bars: parts of 100 %') == parts and head.endswith('bars: parts of the greatest in the column') == (bool(bars) and not parts), head
         most = 100 if parts else max((number for number, _ in bars), default=0)
         assert not bars or len(bars) > 1 and (parts or max(bar for _, bar in bars) == 100)
         assert all(abs(bar - 100 * number / most) < 2 for number, bar in bars), (head, cells)
         compared += len(bars)
         of_100 += parts
-    assert len(tables) == 2 and compared > 20 and of_100 == 4
+    assert len(tables) == 2 and compared > 20 and of_100 == 3
+    # Shares of several links are not compared; those of one are.
+    bars = '[...document.querySelectorAll("#figures-table > .table:first-of-type tbody td:nth-child(3) .bar")].length'
+    assert browser.value(bars) == 0
+    choose(browser, 'lesson 13')
+    show(browser, 'figures')
+    assert browser.value(bars) == 2
     choose(browser, 'lesson 3')
     show(browser, 'figures')
     assert browser.json('[...document.querySelectorAll("#figures-table > .table:first-of-type .bar")].map(e => e.parentNode.textContent.split(" ")[1])') == ['%', '%']
@@ -700,7 +706,7 @@ def test_round_trips_that_were_timed_say_so(sized):
     assert 'the program counts in classes, and this is the bound of one: at most 1/32 above' in heads[at + 2][1]
     assert browser.value(of_classes) == 5          # of flows, and two of either table of links
     cells = browser.json('[...document.querySelectorAll("#figures-table > .table:first-of-type tbody tr")].map(row => [...row.cells].map(e => [e.textContent, e.title]))')
-    assert [[text for text, _ in row[at:at + 3]] for row in cells] == [['8', '48.8 ms', '134 ms'], ['1', '58.2 ms', '58.2 ms']]
+    assert [[text for text, _ in row[at:at + 3]] for row in cells] == [['8 of 700 segments', '48.8 ms of 8', '134 ms of 8'], ['1 of 15 segments', '58.2 ms of 1', '58.2 ms of 1']]
     assert cells[0][at + 2][1] == '134,217,727 ns, of 8 that were timed'
 
 

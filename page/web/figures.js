@@ -111,14 +111,16 @@ class Overview {
       `Jain's index of goodput: ${index === null ? '-' : index.toFixed(4)}, ${ofFlows(this.compared)}.`,
       ...tooShort(facts, begin, end, this.compared[0], portionsOf(this.record, begin, end))];
   }
+  // Shares have bars where all are of one link; of round trips that were timed each says of how many.
   flowRows() {
+    const isOne = new Set(this.facts.flows.map((_, f) => this.bottleneck(f))).size < 2;
     return this.facts.flows.map(({name}, f) => {
       const goodput = this.goodputs[f], share = this.share(f), lost = this.lost(f), sent = this.of('flow', f, 'sent'), done = this.completed[f];
       const [timed, ...trips] = this.trips(f);
       return [name, goodput === null ? '-' : [rateText(+goodput.toPrecision(4)), `${number(Math.round(goodput))} bit/s`, goodput],
-        [`${share === null ? '-' : percent(share)} of ${this.facts.links[this.bottleneck(f)].name}`, 'of the bytes that this link sent, the busiest on its way', share === null ? undefined : share],
+        [`${share === null ? '-' : percent(share)} of ${this.facts.links[this.bottleneck(f)].name}`, 'of the bytes that this link sent, the busiest on its way', share === null || !isOne ? undefined : share],
         lost === null ? '-' : [percent(lost / (sent || 1)), `${number(lost)} of ${number(sent)} segments`, lost / (sent || 1)], [number(this.of('flow', f, 'timeouts')), '', this.of('flow', f, 'timeouts')],
-        number(timed), ...trips.map(trip => trip === null ? '-' : [waitText(trip), `${number(trip)} ns, of ${number(timed)}${this.record ? '' : ' that were timed'}`, trip]), done === null ? '-' : [seconds(done, 3), `${number(done)} ns`, done]];
+        `${number(timed)}${this.record ? '' : ` of ${many(sent, 'segment')}`}`, ...trips.map(trip => trip === null ? '-' : [`${waitText(trip)}${this.record ? '' : ` of ${number(timed)}`}`, `${number(trip)} ns, of ${number(timed)}${this.record ? '' : ' that were timed'}`, trip]), done === null ? '-' : [seconds(done, 3), `${number(done)} ns`, done]];
     });
   }
   linkRows(links) {
@@ -143,7 +145,7 @@ const atMost = text => `${text}, at most`;
 const flowHeads = kept => ['flow', ['goodput from its start', 'bytes in order at the receiver, a second, from the flow\u2019s own start to its completion or the end'],
   ['share of the whole run', 'of the bytes that its bottleneck, the busiest link on its way, sent from the run\u2019s begin to its end, with headers and what was sent again'], ['loss', 'the part of its segments that was dropped'], ['time\u00adouts', 'how often its retransmission timer ended'],
   ...(kept ? [['RTTs', 'how many round trips: of each segment that was sent once and is acknowledged by its own number'], ['least RTT', 'the least of these'], ['median RTT', 'of these']] :
-    [['RTTs timed', 'how many round trips its sender timed: one segment at a time, and none that was sent again (RFC 6298 section 3). So the longer they are, the fewer are timed'],
+    [['RTTs timed', 'how many round trips its sender timed, of how many segments that it sent: one segment at a time, and none that was sent again (RFC 6298 section 3). So the longer they are, the fewer are timed'],
       ['least timed RTT', 'the least of these'], [atMost('median of timed RTTs'), `of these, not of all segments; ${IN_CLASSES}`]]), ['complete at', 'when all its bytes were acknowledged']];
 const linkHeads = kept => ['link', ['utilization', 'the part of the time in which it sends'], ...[['median wait', 'in its queue'], ['99 % wait', 'the 99th percentile of the wait in its queue']]
   .map(([text, title]) => kept ? [text, title] : [atMost(text), `${title}; ${IN_CLASSES}`]), ['most waiting', 'packets in its queue at most'], ['dropped', 'packets'],
