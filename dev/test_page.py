@@ -452,12 +452,13 @@ def test_where_the_time_went_has_a_tab(browser):
     assert text_of(browser, '#time-went .said') == '3.01 s: 94.3 % of it in the queue of a, behind packets of f'
     look(browser, 'time')
     browser.click(element('#time-went .parts button'))
-    marked = '[...document.querySelectorAll(".on-path")].map(it => it.dataset.packet)'
+    marked, named = '[...document.querySelectorAll(".on-path")].map(it => it.dataset.packet)', 'document.getElementById("at-path").checkVisibility()'
+    assert browser.value(named) and 'thick frame: what takes the flow\'s time now' in text_of(browser, '#key')
     assert browser.json(f'[page.record.at, simulator.view, {marked}]') == [4963, 'time', ['1:d:1000@3001166400']]
     assert text_of(browser, '#notice') == 'queue of a, behind packets of f: 2.84 s, first from event 4,963 on'
     browser.value('document.activeElement.blur()')
     browser.press('w')
-    assert browser.json(f'[simulator.view, {marked}]') == ['net', []]
+    assert browser.json(f'[simulator.view, {marked}, {named}]') == ['net', [], False]
     seen = '["went", "charts"].map(id => document.getElementById(id).checkVisibility())'
     browser.press('l')
     assert browser.json(seen) == [False, True]

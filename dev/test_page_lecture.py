@@ -332,6 +332,22 @@ def test_a_lecture_hides_nothing_behind_what_it_says(calm, size):
     assert browser.value('[...document.querySelectorAll(".went .parts button")].filter(e => e.checkVisibility({visibilityProperty: true})).length') >= 3
 
 
+def test_what_was_said_before_a_lecture_is_said_in_its_words(calm):
+    """A stall's words, which the page had above the panels, have room in a lecture with letters of 24 pixels, and name no tab."""
+    browser = calm
+    browser.size(1400, 900)
+    choose(browser, 'lesson 15')
+    browser.value('page.goEvent(0)')
+    browser.click(element('#stall'))
+    said = text_of(browser, '#notice')
+    assert said.endswith(' (the tab stalls says why)')
+    browser.value('simulator.lecture.begin()')
+    browser.wait('document.getElementById("net-room").clientWidth > 1350')
+    browser.wait(f'document.getElementById("notice").textContent !== {json.dumps(said)}')
+    look(browser, 'lecture_said')
+    assert browser.json('(e => [e.textContent.split(" (")[1], getComputedStyle(e).fontSize, e.scrollHeight <= e.clientHeight, e.scrollWidth <= e.clientWidth])(document.getElementById("notice"))') == ['w says why)', '24px', True, True]
+
+
 # Every letter that is seen of a document's net, its size as it is drawn, and those that lie over each other, over a node, or outside.
 LETTERS = '''((document, least = 24) => {
   const net = document.getElementById('net'), seen = e => e.textContent.trim() && !e.closest('[display=none]') && e.checkVisibility({visibilityProperty: true});

@@ -566,6 +566,15 @@ def test_spans_of_two_flows_are_no_curves(sized):
     assert all((y, tall) == (begin, end - begin) for _, _, y, _, tall in rects)
 
 
+def test_the_clock_is_told_from_the_events_time(sized):
+    """Between two events it is behind the time of the first, which its line of the trace has."""
+    browser = sized
+    choose(browser, 'lesson 11')
+    browser.value('page.goTo(319785000)')
+    assert text_of(browser, '#where') == 'event 465 of 8,803   clock 0.319785 s'
+    assert browser.json('[...document.querySelectorAll("#lines .present")].map(e => e.textContent.trim().split(/ +/).slice(0, 2))') == [['465', '0.319582']]
+
+
 def test_what_is_a_line_of_the_trace_says_so(sized):
     """In the examples' comments and in lessons, beside an editor whose own lines have numbers, and where words are found."""
     browser = sized

@@ -12,7 +12,8 @@ function rowsOf(line, letters) {
   return rows;
 }
 
-function whereText(event, last, time) { return `event ${number(event)} of ${number(last)}   ${seconds(time)}`; }
+// The clock may be behind the event's own time; on a slide it has no room for its name.
+function whereText(event, last, time) { return `event ${number(event)} of ${number(last)}   ${isSlide() ? '' : 'clock '}${seconds(time)}`; }
 const EVENT_AFTER = 100;                // ms: while it plays, its events are read no faster
 const PLAY = ['▶ play', '❚❚ pause'], LEAST_FONT = 12, LEAST_LINES = 3;
 
@@ -102,6 +103,7 @@ class Page {
   showTime(went) {
     this.went = went;
     document.getElementById('open-time').setAttribute('aria-pressed', Boolean(went));
+    document.getElementById('at-path').hidden = !went;
     this.draw();
   }
   fold() {
@@ -133,6 +135,7 @@ class Page {
     room('play', ...PLAY);
     room('pace', '0.001 ×', '10000 a second');
     fit(document.getElementById('under'));
+    this.say(this.saying);
   }
 
   // ---- where we are
@@ -372,7 +375,7 @@ class Page {
     this.jump(way > 0 ? d3.min(events) : d3.max(events));
     if (what === 'stall') {
       const stalls = this.record.stalls.filter(stall => stall.event === this.record.at);
-      this.say(stalls.map(stall => `${this.facts.flows[stall.flow].name}: no new acknowledgement for ${seconds(stall.to - stall.from, isSlide() ? 3 : 6)}`).join('; ') +
+      this.say(() => stalls.map(stall => `${this.facts.flows[stall.flow].name}: no new acknowledgement for ${seconds(stall.to - stall.from, isSlide() ? 3 : 6)}`).join('; ') +
         ` (${this.causes()})`);
     }
   }
@@ -380,9 +383,11 @@ class Page {
     if (!this.went) this.openTime();
     if (!this.went.next(way, this.record.at)) this.say(`no part ${way > 0 ? 'after' : 'before'} this event`);
   }
-  say(words) {
-    const notice = document.getElementById('notice');
-    notice.textContent = words;
+  // A function's words are those of the room that there is, also once that is another.
+  say(words = '') {
+    const notice = document.getElementById('notice'), now = words instanceof Function ? words() : words;
+    this.saying = words;
+    if (notice.textContent !== now) notice.textContent = now;
     fit(notice);
   }
 
