@@ -128,6 +128,7 @@ def test_curves_are_of_the_figure_that_is_chosen(sawtooth):
     assert browser.value('simulator.engine.count') == runs, 'a figure is read anew, not run anew'
     words = browser.json('[...document.querySelectorAll("#shelf select option")].map(e => e.textContent)')
     assert {'wait, 95 % of a', 'wait, median of a', 'round trip, least of f', 'most waiting of a'} <= {*words} and not [it for it in words if 'percentile' in it or 'delay in' in it]
+    assert len({*words}) == len(words), 'each has words of its own'
     browser.click(element('#shelf .tick input'))
     browser.wait('!simulator.shelf.drawing')
     assert browser.json('simulator.shelf.pins[0].curves.map(one => one.length)') == [40, 0]
@@ -152,6 +153,28 @@ def test_a_line_joins_steps_beside_each_other(browser):
     browser.value('simulator.shelf.draw()')
     assert browser.json('[simulator.shelf.pins[0].values.length, ...' + parts + '[0]]') == [2, 2, 0] and browser.value(dots) == 2
     look(browser, 'strip_of_two')
+    browser.size(1280, 800)
+
+
+def test_words_at_the_handle_hide_no_curve(browser):
+    """They are on the side of it, and in the row, that the curve leaves free."""
+    browser.size(1400, 900)
+    choose(browser, 'lesson 15')
+    meets = '''(() => { const {x, y, width, height} = document.querySelector('.pin .here').getBBox();
+      return [...document.querySelectorAll('.pin .curve')].flatMap(path => d3.range(path.getTotalLength()).map(at => path.getPointAtLength(at)))
+        .filter(one => one.x > x && one.x < x + width && one.y > y + 2 && one.y < y + height - 2).length; })()'''
+    for figure in ('goodput fa', 'goodput fb'):
+        browser.value(f'simulator.shelf.open("pq.capacity=1..32; {figure}")')
+        counted(browser)
+        browser.wait('!simulator.shelf.drawing')
+        look(browser, f'words_at_the_handle_{figure[-2:]}')
+        assert browser.value(meets) == 0, figure
+    # The debugger below it has panels whose curves can be read.
+    browser.value('simulator.showTab("debug")')
+    browser.wait('page.panels.charts.windows && page.panels.charts.windows.lanes')
+    look(browser, 'debugger_below_a_shelf')
+    assert min(browser.json('Object.values(page.panels.charts).flatMap(({lanes}) => lanes.map(({from, to}) => to - from))')) > 60
+    browser.value('simulator.showTab("net")')
     browser.size(1280, 800)
 
 

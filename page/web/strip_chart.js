@@ -71,10 +71,19 @@ function drawStrip(pin, curves, text, left, says) {
   const said = here.map((one, kind) => one && `${kind ? `${says.other} ` : ''}${text(one[1])}`).filter(Boolean).join(', ');
   pin.strip.setAttribute('aria-label', `${says.figure} over ${pin.of} ${pin.name}, ${wordsOf(pin.name, pin.values[0])} to ${wordsOf(pin.name, pin.values[pin.values.length - 1])}: ${said || (isInside ? 'counting' : `${wordsOf(pin.name, pin.now.value)} is outside of it`)}`);
   if (!isInside) return;
-  const present = x(pin.now.value), right = present > wide / 2, high = here.some(one => one && y(one[1]) < (STRIP.top + bottom) / 2);
+  const present = x(pin.now.value), high = here.some(one => one && y(one[1]) < (STRIP.top + bottom) / 2);
   svg.append('path').attr('class', 'handle').attr('d', `M${present} ${STRIP.top}V${bottom}`);
-  // Beside the handle, where no curve is.
-  if (said) write(present + (right ? -6 : 6), high ? bottom - 6 : STRIP.top + letters, said, right ? 'end' : 'start').attr('class', 'here');
+  if (!said) return;
+  // Beside the handle, where no curve is, if there is such a place.
+  const long = textWidth(said, `bold ${font}`), rows = high ? [bottom - 6, STRIP.top + letters] : [STRIP.top + letters, bottom - 6], sides = present > wide / 2 ? [-1, 1] : [1, -1];
+  const places = sides.flatMap(side => rows.map(row => ({side, row, from: present + side * 6 - (side < 0 ? long : 0)})));
+  const isFree = ({from, row}) => from >= left && from + long <= to && !pin.curves.some(curve => curve.some(([k, value], n) => {
+    const [other, next] = curve[n + 1] || [k, value], begin = Math.max(at(k), from), end = Math.min(at(other), from + long);
+    const ups = [begin, end].map(across => y(value) + (y(next) - y(value)) * (across - at(k)) / (at(other) - at(k) || 1));
+    return begin <= end && Math.min(...ups) < row + 0.3 * letters && Math.max(...ups) > row - letters;
+  }));
+  const {side, row} = places.find(isFree) || places[0];
+  write(present + side * 6, row, said, side < 0 ? 'end' : 'start').attr('class', 'here');
 }
 // How much room the words at the upright axis take.
 function beforeAxis(curves, text, strip) {

@@ -18,11 +18,12 @@ const STRIP_NAMES = {goodput: 'goodput', complete: 'completion', timeouts: 'time
 
 // The figures of flows or links that the program counts, each with its unit.
 const figuresOf = (csv, what) => new Map(csv ? readFigures(csv).filter(row => row.what === what).map(({figure, unit}) => [figure, unit]) : []);
-// What strips of these names can show: [value, words] each, and the same of the program's own figures.
+// What strips of these names can show: [value, words] each, and the same of the program's own figures, but for those with the same words.
 function offeredOf({flows, links}, csv) {
   const names = {flow: flows, link: links, run: [{name: ''}]};
   const ones = Object.entries(STRIPS).flatMap(([key, {of}]) => names[of].map(({name}) => [`${key} ${name}`.trim(), `${STRIP_NAMES[key]} ${name && `of ${name}`}`.trim()]));
-  return [ones, ['flow', 'link'].flatMap(what => [...figuresOf(csv, what).keys()].flatMap(figure => names[what].map(({name}) => [`${what} ${name} ${figure}`, `${inWords(figure)} of ${name}`])))];
+  const more = ['flow', 'link'].flatMap(what => [...figuresOf(csv, what).keys()].flatMap(figure => names[what].map(({name}) => [`${what} ${name} ${figure}`, `${inWords(figure)} of ${name}`])));
+  return [ones, more.filter(([, words]) => !ones.some(([, one]) => one === words))];
 }
 // How a figure is read from an overview, and written; `csv` has the units.
 function shownOf(chosen, csv) {

@@ -4,7 +4,7 @@
 
 const BEFORE = '5 4';                    // the dash of curves that were before
 const LITTLE_OF_LONGEST = 0.1;          // a queue that is shorter than this part of the longest is not ticked at first
-const LEAST_WIDE = 226, LEAST_TALL = 130;     // pixels of a panel, with the space beside it
+const LEAST_WIDE = 226, LEAST_TALL = 140;     // pixels of a panel, with the space beside it
 const MOST_TICKED = {flows: 4, links: 2}, MOST_NAMES = 5;
 const lineStyle = k => ['solid', 'dashed', 'dotted', 'double'][k % 4];
 const dashOf = k => DASHES[k % 4];
