@@ -20,20 +20,20 @@ import build
 def words_for(name, more, libraries, kit):
     """The command that checks a crate, with these words behind it."""
     made = build.check_words(name, kit, 1, libraries)
-    if "--jobs" in more:
-        at = made.index("--jobs")
+    if '--jobs' in more:
+        at = made.index('--jobs')
         del made[at:at + 2]
     folder = f"{build.TOP}/crates/{name}/out/checked{'-tests' if '--test' in more else ''}"
     os.makedirs(folder, exist_ok=True)
-    return [*made, "--incremental", folder, *more]
+    return [*made, '--incremental', folder, *more]
 
 
 def check(name, more):
     """Checks the crate; answers the status to end with."""
     kit, libraries = build.toolchain(), build.declared()
     if name not in libraries:
-        raise build.Refused(f"crates.txt has no crate {name}")
-    missing = [it for it in build.below(name, libraries) if not os.path.isdir(f"{build.KEPT}/{it}.rlib")]
+        raise build.Refused(f'crates.txt has no crate {name}')
+    missing = [it for it in build.below(name, libraries) if not os.path.isdir(f'{build.KEPT}/{it}.rlib')]
     if missing:
         raise build.Refused(f"nothing is kept of {', '.join(missing)}: `make run` proves and keeps what is below")
     begun = time.time()
@@ -43,15 +43,15 @@ def check(name, more):
 
 
 def main():
-    if len(sys.argv) < 2 or sys.argv[1].startswith("-"):
-        print(__doc__, end="")
-        return 0 if sys.argv[1:] in (["-h"], ["--help"]) else 2
+    if len(sys.argv) < 2 or sys.argv[1].startswith('-'):
+        print(__doc__, end='')
+        return 0 if sys.argv[1:] in (['-h'], ['--help']) else 2
     try:
         return check(sys.argv[1], sys.argv[2:])
     except build.Refused as why:
-        print(f"nothing is checked: {why}", file=sys.stderr)
+        print(f'nothing is checked: {why}', file=sys.stderr)
         return 1
 
 
-if __name__ == "__main__":
+if __name__ == '__main__':
     sys.exit(main())

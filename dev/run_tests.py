@@ -133,7 +133,7 @@ def run(tests, jobs):
 
 
 def main():
-    reader = argparse.ArgumentParser(description="Runs the tests of dev/ and python/tests side by side.")
+    reader = argparse.ArgumentParser(description='Runs the tests of dev/ and python/tests side by side.')
     reader.add_argument('--jobs', type=int, default=len(os.sched_getaffinity(0)), help='how many at once (left out: one a processor)')
     reader.add_argument('--python', metavar='PATH', help='a python3 that has pytest, or nothing where there is none')
     reader.add_argument('names', nargs='*', metavar='TEST', help='left out: all')

@@ -199,7 +199,7 @@ def test_the_wheel_has_its_licenses_and_d3(made):
 
 
 @pytest.mark.parametrize('lacking, sentence', [
-    ('program', "dist: crates/tcpsim/out/tcpsim is not there: build it with `make run`\n"),
+    ('program', 'dist: crates/tcpsim/out/tcpsim is not there: build it with `make run`\n'),
     ('commit', 'dist: there is no commit whose time everything would have: set SOURCE_DATE_EPOCH, in seconds\n')])
 def test_what_lacks_is_told_in_a_sentence(lacking, sentence, tmp_path):
     """In a copy of the sources, which is no clone."""

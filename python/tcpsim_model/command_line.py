@@ -43,7 +43,7 @@ SYSTEM_WORDS = {FileNotFoundError: 'No such file or directory', PermissionError:
 # What is said of words that are judged behind the input.
 NO_MOMENT = 'error: --from takes a moment, as 1.5s, 20ms or 10000ns'
 NO_STEP = 'error: --every takes a time above 0, as 1.5s or 20ms, and --series wants --every'
-TOO_MANY_ROWS = "error: more than 10000000 rows; --every takes a longer step"
+TOO_MANY_ROWS = 'error: more than 10000000 rows; --every takes a longer step'
 BEHIND_INPUT = 'refused groups', NO_MOMENT, NO_STEP, TOO_MANY_ROWS
 
 

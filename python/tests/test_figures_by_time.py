@@ -20,7 +20,7 @@ from test_trace import BY_HAND
 
 NO_MOMENT = b'error: --from takes a moment, as 1.5s, 20ms or 10000ns\n'
 NO_STEP = b'error: --every takes a time above 0, as 1.5s or 20ms, and --series wants --every\n'
-TOO_MANY = b"error: more than 10000000 rows; --every takes a longer step\n"
+TOO_MANY = b'error: more than 10000000 rows; --every takes a longer step\n'
 
 
 @pytest.fixture(params=[pytest.param(outcome, marks=pytest.mark.built), of_model], ids=['program', 'model'])
