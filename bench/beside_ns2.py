@@ -22,7 +22,7 @@ def installed():
 
 
 def simulators(program):
-    """Each simulator's name, and the command and the input for so many segments."""
+    """Each simulator's name, and the command and the input for a number of segments."""
     def ours(segments):
         return (program, 'run'), path_of(f'one flow {segments}', one_flow(segments))
 

@@ -110,7 +110,7 @@ def place(before):
 
 
 def many(session, line, count):
-    """The mean and the longest of a line's answers, typed so many times in a row."""
+    """The mean and the longest of a line's answers, typed `count` times in a row."""
     took = [session.timed(line)[1] for _ in range(count)]
     return Timed(sum(took) / count, max(took))
 
@@ -232,7 +232,7 @@ def values(path, conditions):
 
 
 def last_nodes(segments):
-    """A flow of so many segments between the last two of 256 nodes. The others are routers in a row, which pass nothing on."""
+    """A flow of `segments` segments between the last two of 256 nodes. The others are routers in a row, which pass nothing on."""
     net, link = Net(), (8 * MBIT, MS, droptail(100))
     row = [net.node(ROUTER) for _ in range(254)]
     for a, b in zip(row, row[1:]):

@@ -36,7 +36,7 @@ FLOWS = (  # name, delayed acknowledgement in nanoseconds, losses
     ('the same, delayed ACKs', 200_000_000, LOSSES),
 )
 UNDER_WAY = (40, 400, 4_000)
-# Segments of a run of 10^8 events, whose figures are to take so many seconds at most.
+# Segments of a run of 10^8 events, whose figures are to take `FIGURED` seconds at most.
 LONGEST, FIGURED = 25_000_000, 10
 # Each scenario, what it is, and the most instructions that one of its events is to cost.
 BARS = (
@@ -123,7 +123,7 @@ def watch(path):
 
 
 def seconds(path, before, subcommand='run', runs=3):
-    """The least of three runs, or of so many."""
+    """The least of `runs` runs."""
     return min(timed(run, path, before, subcommand) for _ in range(runs))
 
 

@@ -62,7 +62,7 @@ def one_flow(segments, delack=0):
 
 
 def under_way(packets, segments, delack=0):
-    """So many packets under way at once, 100 ms there and 50 ms back; nothing is lost."""
+    """`packets` packets under way at once, 100 ms there and 50 ms back; nothing is lost."""
     forth, back = ((10 * GBIT, delay * MS, droptail(65_535)) for delay in (100, 50))
     return two_ends(segments, forth, back, packets, delack)
 
@@ -107,7 +107,7 @@ def chain(routers, segments):
 
 
 def islands(flows, crossing, segments, parts=4, delay=10 * MS):
-    """Four parts or so many, each with a bottleneck of 1 Gbit/s of its own, joined in a ring by cables of 10 ms or
+    """`parts` parts, each with a bottleneck of 1 Gbit/s of its own, joined in a ring by cables of 10 ms or
     another delay; of the flows of each part some go over to the next."""
     net = Net()
     near, far = ([net.node(ROUTER) for _ in range(parts)] for _ in range(2))
@@ -137,7 +137,7 @@ def ring(flows, segments):
 
 def busy(flows, crossing, segments, window):
     """Four parts joined in a ring by cables of 10 ms, each with a bottleneck of 1 Gbit/s that is never idle
-    and loses nothing: its flows have more under way than it holds, and less than its queue takes. So many of
+    and loses nothing: its flows have more under way than it holds, and less than its queue takes. `crossing` of
     the flows of each part go over to the next. A dozen ends share a router."""
     net = Net()
     near, far = ([net.node(ROUTER) for _ in range(4)] for _ in range(2))

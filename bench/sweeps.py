@@ -35,14 +35,14 @@ print(used.ru_utime + used.ru_stime)'''
 
 
 def alone(path, count, workers):
-    """Seconds of processors of so many runs by the program alone, in so many processes side by side."""
+    """Seconds of processors of `count` runs by the program alone, in `workers` processes side by side."""
     words = [sys.executable, '-S', '-c', ALONE, PROGRAM, path, str(count // workers)]
     processes = [subprocess.Popen(words, stdout=subprocess.PIPE) for _ in range(workers)]
     return sum(float(process.communicate()[0]) for process in processes)
 
 
 def swept(clone, path, count, workers, environment):
-    """Those of a sweep of so many runs."""
+    """Those of a sweep of `count` runs."""
     def used():
         found = resource.getrusage(resource.RUSAGE_CHILDREN)
         return found.ru_utime + found.ru_stime

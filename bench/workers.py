@@ -33,12 +33,12 @@ ONE_GROUP = 'one_flow', 'dumbbell_droptail', 'dumbbell_codel', 'tree', 'chain', 
 UNTIMED = 'four_islands',
 # A run of fewer events is over before its time says anything.
 LONG = 100_000
-# A run of fewer events is timed so many times as often, since what else the machine does disturbs a short one more.
+# A run of fewer events is timed `OFTEN` times as often, since what else the machine does disturbs a short one more.
 SHORT, OFTEN = 3_000_000, 4
 CREWS = 1, 2, 4, 64
 # Shorter than in the table of events, since valgrind is slow.
 COUNTED = {'tree': lambda: tree(100, 200), 'chain': lambda: chain(16, 4_000)}
-EACH = 1.6                              # at most so many times the instructions of a run without options
+EACH = 1.6                              # at most this times the instructions of a run without options
 TEXT_MOST, TEXT_LOADED = 0.78, 1.1      # two workers of one group to a run without options, and so beside busy loops
 LEAST, MOST = 3, 40                     # a run without options to four workers, wide windows; megabytes of memory
 ALONE_MOST = 1.15                       # one worker to a run without options, wide windows
@@ -236,7 +236,7 @@ def found_table(rows):
 
 
 def drawn_groups(scenario, count):
-    """The group of each node, drawn anew from so many; the same each time that it is called."""
+    """The group of each node, drawn anew from `count` groups; the same each time that it is called."""
     draw = random.Random(count)
     return ','.join(str(draw.randrange(count)) for _ in scenario.nodes)
 
@@ -247,7 +247,7 @@ def few(rounds):
 
 
 def times(events, rounds):
-    """How often a run of so many events is timed."""
+    """How often a run of `events` events is timed."""
     return rounds * (OFTEN if events < SHORT else 1)
 
 
@@ -295,7 +295,7 @@ def most_megabytes(program, path, words, rounds):
 
 
 def memory(program, rounds):
-    """The most resident memory of so many runs, by scenario and words, and of as many beside busy loops."""
+    """The most resident memory of `rounds` runs, by scenario and words, and of as many beside busy loops."""
     long = path_of('ten million events', one_flow(2_500_000))
     jump, burst = (path_of(name, SCENARIOS[name]()) for name in ('rate_jump', 'under_way_100000'))
     cases = [('one flow, ten million events', long, ()), ('`rate_jump`', jump, ()),

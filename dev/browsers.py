@@ -16,7 +16,7 @@ from collections.abc import Callable
 CHROMIUM = next((it for it in map(shutil.which, ('chromium', 'chromium-browser', 'google-chrome')) if it), None)
 FIREFOX = next((it for it in map(shutil.which, ('firefox-esr', 'firefox')) if it), None)
 # How long a browser may take to start, a command to be answered, and a page to be loaded, in seconds. Now and then a browser of
-# either kind loads nothing of a page: it is asked so many times.
+# either kind loads nothing of a page: it is asked that often.
 START, ANSWER, LOAD, TRIES = 120, 300, 60, 4
 
 
@@ -41,7 +41,7 @@ class Wire:
             address, max_size=None, open_timeout=START, ping_interval=None)
 
     def _wait(self, task, seconds):
-        """What a task gives; after so many seconds it is ended, so that the next command reads its own answer."""
+        """What a task gives; after `seconds` it is ended, so that the next command reads its own answer."""
         try:
             return asyncio.run_coroutine_threadsafe(asyncio.wait_for(task, seconds), self._loop).result()
         except asyncio.TimeoutError:

@@ -315,7 +315,7 @@ class Crate:
 
 
 def prove(crates, count, jobs, words_for):
-    """Proves the crates that are not kept, each behind those that it stands on, by so many jobs at once, and
+    """Proves the crates that are not kept, each behind those that it stands on, by `count` jobs at once, and
     says how far it is; answers the crate that was refused, or None."""
     begun = told = time.time()
     done = {it.name for it in crates if it.is_kept()}

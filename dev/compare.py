@@ -100,7 +100,7 @@ def program_answers(path, words, data, most):
 
 
 def model_answers(words, data, most):
-    """Status, output and note. How many workers there are, where there may be so many, changes none."""
+    """Status, output and note. How many workers there are, where that many are allowed, changes none."""
     if words[-2:-1] == ('--workers',) and words[-1] in CREWS:
         words = words[:-2]
     return model_answers_kept(words, data, most)

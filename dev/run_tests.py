@@ -106,7 +106,7 @@ class Test:
 
 
 def run(tests, jobs):
-    """Runs the tests, so many at once, and tells of each once those before it were told; answers those that failed."""
+    """Runs the tests, `jobs` at once, and tells of each once those before it were told; answers those that failed."""
     rank = {name: at for at, name in enumerate(LONG)}
     left = sorted(tests, key=lambda it: rank.get(it.name, len(LONG)))
     running: list[Test] = []

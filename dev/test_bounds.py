@@ -267,7 +267,7 @@ def test_the_greatest_scenarios():
 
 
 def flow_of(segments, *commands):
-    """A session over a flow of so many segments of 1,000 bytes."""
+    """A session over a flow of `segments` segments of 1,000 bytes."""
     return FIRST.replace(b' 1000 1 0 ', b' 1000 %d 0 ' % segments).replace(
         b'sim 1000000000', b'sim 1000000000000000') + b'---\n' + b''.join(it.encode() + b'\n' for it in commands)
 

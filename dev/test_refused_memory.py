@@ -176,7 +176,7 @@ def test_a_session(counted, sort, name, commands, options):
 # ---- what is still held
 
 SCENARIO, MOVES = read(paths('two_timeouts_in_a_row')[0]), b'---\nbreak drop\nrun\nback 3\nuntil 2000000000\nstate\n'
-# Of a run by threads so many requests are refused, one in each run.
+# How many requests of a run by threads are refused, one in each run.
 MANY = 60
 
 

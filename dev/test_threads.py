@@ -43,7 +43,7 @@ def go_first():
 
 
 def most_hands(groups):
-    """How many threads so many groups give something to do, the program's own among them: one for each, and as many more
+    """How many threads a number of groups give something to do, the program's own among them: one for each, and as many more
     for text, where there are processors."""
     return max(groups, min(PROCESSORS, 2 * groups))
 

@@ -21,7 +21,7 @@ from validation.ns2_sender import ALL, SWITCHES, TIE, Ns2Receiver, Ns2Sender
 HERE = os.path.dirname(os.path.abspath(__file__))
 S, US = 10**9, 10**3
 NEAR = 10 * US          # ns
-COUNT, NEEDS = 100, 100     # scenarios; of so many it is tried which rules they take
+COUNT, NEEDS = 100, 100     # scenarios; of how many it is tried which rules they take
 SET_UP = frozenset({'segment 0 has no header'})     # no rule: a packet that ns-2 sends where there is no SYN
 # Fall and Floyd, Simulation-based comparisons of Tahoe, Reno, and SACK TCP (1996), section 4 and ns-2's test suite (tcl/ex/
 # and tcl/test/test-suite-simple.tcl, test-suite-newreno.tcl): a link of 0.8 Mbit/s and 100 ms, segments of 1,000 bytes, of

@@ -125,7 +125,7 @@ def header(end, counts, routes):
 
 
 def image_of(counts, routes):
-    """The image with so many nodes, a sender, a receiver and routers; links from node 0 to node 1 and back;
+    """The image with these counts of nodes, a sender, a receiver and routers; links from node 0 to node 1 and back;
     flows from node 0 to node 1; routes over link 0, of each router to 256 nodes and then of the next."""
     nodes, links, flows = counts
     parts = [header(1_000_000_000, counts, routes), bytes(min(it, 2) for it in range(nodes))]

@@ -231,7 +231,7 @@ COUNTED = [
 # alone can have eleven; of another's it is E3.
 WORDS = [(9, 'E3'), (10, 'E4'), (11, 'E3'), (12, 'E3')]
 
-# A link with CoDel has eleven words. So many more, and the fault of the text with them.
+# A link with CoDel has eleven words. How many more it has, and the fault of the text with them.
 CODEL = 'link a s r 1000 1 codel 1 1 1 1'
 MORE = [(0, RIGHT), (1, 'E3'), (2, 'E3')]
 

@@ -69,7 +69,7 @@ class LinkCount:
         self.begin(0, 0, 0)
 
     def begin(self, moment, offered, length):
-        """Counts from a moment on, before which so many packets were offered, and of which so many wait."""
+        """Counts from a moment on, before which `offered` packets were offered, and `length` wait."""
         self.first = offered
         self.dropped: Counter[str] = Counter()      # of each reason
         self.sent = self.bytes = 0

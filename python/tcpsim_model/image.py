@@ -32,7 +32,7 @@ class Reader:
         return found
 
     def many(self, layout, count):
-        """So many records; their bytes have to be there before any is read."""
+        """`count` records; their bytes have to be there before any is read."""
         if self.at + layout.size * count > len(self.data):
             raise TooShort
         return [self.one(layout) for _ in range(count)]

@@ -192,5 +192,5 @@ def reason(data, refused):
 
 
 def of_groups(groups, nodes):
-    """The same where these are no groups of so many nodes."""
+    """The same where these are no groups of the nodes."""
     return f'groups that are given: {len(groups.split(","))}; nodes: {nodes}\n{meaning("groups")}'

@@ -242,7 +242,7 @@ def any_line(pick, scenario, moments):
 
 
 def many_breaks(pick, scenario):
-    """More breakpoints than there may be, where the scenario has so many nodes and flows."""
+    """More breakpoints than there may be, where the scenario has enough nodes and flows."""
     many = [b'break node %d' % n for n in range(len(scenario.nodes))] + [b'break flow %d' % n for n in range(len(scenario.flows))]
     many += [b'break kind ' + kind for kind in KINDS] + [b'break drop']
     pick.shuffle(many)

@@ -266,7 +266,7 @@ def test_a_flow_alone_waits_behind_nobody_else(name):
 
 
 def main(seed, count):
-    """Compares so many drawn scenarios, and prints how often there was what."""
+    """Compares `count` drawn scenarios, and prints how often there was what."""
     found = collections.Counter()
     for each in range(seed, seed + count):
         try:

@@ -108,7 +108,7 @@ class Oracle:
         return self.events[which][position][1:]
 
     def waits(self, which, count, link):
-        """How many packets wait at a link behind so many events."""
+        """How many packets wait at a link behind `count` events."""
         reader = Reader(self.scenarios[which])
         reader.read(self.lines[which][:count])
         return len(next(each for each in reader.links if each.link.name == link).waiting)

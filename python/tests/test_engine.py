@@ -41,7 +41,7 @@ def examples():
 
 
 def drawn(seed, count, most=(5, 60)):
-    """The names and texts of random scenarios, of one flow and of many; the first have so many segments at most."""
+    """The names and texts of random scenarios, of one flow and of many; the first have `most` segments at most."""
     pick = random.Random(seed)
     for number in range(count):
         scenario = (nets.one_flow(pick, ('droptail', 'codel'), pick.choice(most)) if number % 2 else

@@ -22,7 +22,7 @@ LINKS = 'link a s r 8000000 1980000 droptail 50\nlink b r s 8000000 1980000 drop
 
 
 def over_one_link(*windows, end=2000000000, segments=1000000):
-    """Flows over one link, each with a window of so many segments."""
+    """Flows over one link, each with a window of its number of segments."""
     ends = ''.join(f'node s{n} sender\nnode r{n} receiver\nlink s{n}p s{n} p 1000000000000 1 droptail 50\n'
                    f'link ps{n} p s{n} 1000000000000 1 droptail 50\nlink qr{n} q r{n} 1000000000000 1 droptail 50\n'
                    f'link r{n}q r{n} q 1000000000000 1 droptail 50\nroute p s{n} ps{n}\nroute q r{n} qr{n}\nroute p r{n} pq\n'

@@ -123,7 +123,7 @@ def test_all_that_could_be_better_is_tried():
 
 
 def test_a_stretch_in_which_the_answer_changes_is_halved():
-    """With no further values 1,000 take the first ones and ten more, and so many stretches as there are changes."""
+    """With no further values 1,000 take the first ones and ten more, and as many stretches as there are changes."""
     for answer in (1, 17, 499, 998):
         it = quest([False] * answer + [True] * (1_000 - answer), check=0)
         assert it.answer == answer and len(it.tried) <= 11 + 10 + 2

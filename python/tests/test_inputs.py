@@ -101,7 +101,7 @@ def cases(draw):
 
 
 def drawn(count):
-    """The settings of a test that draws so many cases, the same each time."""
+    """The settings of a test that draws `count` cases, the same each time."""
     return settings(max_examples=count, derandomize=True, database=None, deadline=None, suppress_health_check=list(HealthCheck))
 
 

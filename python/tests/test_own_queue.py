@@ -326,7 +326,7 @@ def test_the_line_is_taken_away_where_a_queue_is_wrong(impatient, monkeypatch):
 # ---- sweeps over them
 
 class Fifo:
-    """Drop-tail of so many packets as the link has room for."""
+    """Drop-tail of as many packets as the link has room for."""
 
     def __init__(self, link):
         self.packets, self.limit = deque(), link.capacity

@@ -28,7 +28,7 @@ TOUCH = .5              # points by which two texts' boxes may overlap, which ha
 FORMATS = ('png', 600), ('png', 1400), ('svg', 720)       # an SVG has a size and no pixels
 QUEUES = 'droptail:50', 'droptail:BDP', 'codel:5ms:100ms', 'droptail:10'
 RATES = ('10M', '2s'), ('100M', '300ms'), ('2M', '6s')     # and how long the runs are
-# Of each shape the words that give it so many flows, and how many it can have: at most 16 links leave a router.
+# Of each shape the words that give it a number of flows, and how many it can have: at most 16 links leave a router.
 SHAPES = {'dumbbell': (lambda count: ['--flows', count], range(1, 25)), 'tree': (lambda count: ['--flows', count], range(1, 25)),
           'chain': (lambda count: ['--flows', count], range(1, 16)),
           'asymmetric': (lambda count: ['--flows', count - count // 2, '--uploads', count // 2], range(1, 16)),
@@ -69,7 +69,7 @@ def texts_drawn():
 
 
 def faults(figure, ending, width):
-    """What is wrong with a figure, as this format draws it so many pixels wide."""
+    """What is wrong with a figure, as this format draws it `width` pixels wide."""
     said, inches = [], figure.get_size_inches()
     figure.dpi = dots = width / inches[0]
     renderer = RendererSVG(*inches * dots, io.StringIO()) if ending == 'svg' else RendererAgg(*inches * dots, dots)
@@ -101,7 +101,7 @@ def check(*words):
 
 
 def words_of(shape, count):
-    """A template's words for so many flows, with round trips, rates and queues of each sort."""
+    """A template's words for `count` flows, with round trips, rates and queues of each sort."""
     rate, end = RATES[count % len(RATES)]
     words = [*SHAPES[shape][0](count), '--queue', QUEUES[count % len(QUEUES)], '--end', end]
     words += ['--rtt', '40ms,80ms'] if shape in TRIPS and count % 2 and count > 2 else []

@@ -146,7 +146,7 @@ def single_row(path, queue, start):
 
 @pytest.fixture(scope='session')
 def singles(request, tmp_path_factory):
-    """So many runs, one after another, as the bytes of rows; and the words of the sweep."""
+    """`--runs` runs, one after another, as the bytes of rows; and the words of the sweep."""
     queues = max(1, request.config.option.runs // STARTS)
     file, path = io.StringIO(), tmp_path_factory.mktemp('single') / 'one.txt'
     out = csv.writer(file, lineterminator='\n')
