@@ -30,11 +30,10 @@ from tcpsim.traces.curves import read_run
 PICTURES = os.path.join(TOP, 'docs', 'pictures')
 IN_BROWSER = pytest.mark.skipif(not CHROMIUM or not importlib.util.find_spec('websockets'),
                                 reason='no Chromium or no websockets: apt-get install chromium python3-websockets')
-# A queue that overflows, a timeout, CoDel, three routers; of each the events that its pictures show.
-COMPARED = {'slow_start_into_a_full_queue': 20, 'two_timeouts_in_a_row': 27, 'four_flows_share_codel': 2467,
-            'parking_lot_of_three_routers': 1657}
+# A queue that overflows, a timeout, CoDel, three routers.
+COMPARED = 'slow_start_into_a_full_queue', 'two_timeouts_in_a_row', 'four_flows_share_codel', 'parking_lot_of_three_routers'
 # The pages of which the documents have a picture, and the event that it shows.
-PICTURED = {**COMPARED, 'bufferbloat': 5000}
+PICTURED = {'slow_start_into_a_full_queue': 20, 'two_timeouts_in_a_row': 27, 'four_flows_share_codel': 2467, 'bufferbloat': 5000}
 POSITIONS = 50
 READ = '''(() => {
   const all = (css, what) => [...document.querySelectorAll(css)].filter(e => e.getAttribute('display') !== 'none').map(what);
