@@ -2,7 +2,7 @@
 from validation.dumbbells import Dumbbell, of_ns2, of_tcpsim
 
 TRIPS = 40, 60, 80, 100
-# A window of about 1.25 times the flow's part of what the way holds, or open.
+# A window of about 1.25 times the flow's part of what the path holds, or open.
 DUMBBELLS = [
     Dumbbell('Reno, 10 Mbit/s, queue 80, open windows', 16, 10_000_000, TRIPS, 80, False),
     Dumbbell('Reno, 10 Mbit/s, queue 80, windows of 12', 16, 10_000_000, TRIPS, 80, False, 12),

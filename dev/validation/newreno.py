@@ -1,9 +1,9 @@
-"""The row `newreno`: one flow with an open window, with the window of 1.25 times what its way holds, and in ns-2."""
+"""The row `newreno`: one flow with an open window, with the window of 1.25 times what its path holds, and in ns-2."""
 from tcpsim.scenario.net import Flow
 from tcpsim.scenario.senders import bounded_window
 from validation.dumbbells import Dumbbell, of_ns2, of_tcpsim
 
-WAYS = ((10_000_000, 20, 24), (10_000_000, 40, 48), (10_000_000, 100, 120), (2_000_000, 100, 24), (50_000_000, 50, 300))
+PATHS = ((10_000_000, 20, 24), (10_000_000, 40, 48), (10_000_000, 100, 120), (2_000_000, 100, 24), (50_000_000, 50, 300))
 
 
 def one(rate, trip, places, newreno, window=None):
@@ -16,15 +16,15 @@ def window_of(rate, trip, places, mss=1000):
 
 
 def measure(program, ns2=True):
-    """What is used of the link and the timeouts in a minute, of each way and sender. ns-2's part is that of its goodput."""
+    """What is used of the link and the timeouts in a minute, of each path and sender. ns-2's part is that of its goodput."""
     rows = []
-    for way in WAYS:
-        row = {'name': one(*way, True).name, 'window': window_of(*way)}
+    for path in PATHS:
+        row = {'name': one(*path, True).name, 'window': window_of(*path)}
         for name, newreno, window in (('Reno, open', False, None), ('NewReno, open', True, None), ('NewReno, bounded', True, row['window'])):
-            found = of_tcpsim(one(*way, newreno, window), program)
+            found = of_tcpsim(one(*path, newreno, window), program)
             row[name] = [found['used'], found['timeouts']]
         if ns2:
-            found = of_ns2(one(*way, True))
-            row['ns-2 Newreno, open'] = [found['goodput'] * 1.04 / way[0], found['timeouts']]
+            found = of_ns2(one(*path, True))
+            row['ns-2 Newreno, open'] = [found['goodput'] * 1.04 / path[0], found['timeouts']]
         rows.append(row)
     return rows

@@ -139,7 +139,7 @@ CHANGED_BYTES = [
 ]
 
 # A text in which a second router can send back to the first, and where its image has that router's route for the
-# receiver: over link 4 the way returns.
+# receiver: over link 4 the path returns.
 TWO_ROUTERS = '''sim 5
 node s sender
 node p router
