@@ -35,7 +35,8 @@ class TraceList {
     place.append(find, this.box);
     this.tall = Math.min(MOST_TALL, record.count * LINE);
     this.space.style.height = `${this.tall}px`;
-    this.box.addEventListener('scroll', () => this.draw());
+    // Where the height is another too, whoever sees that draws.
+    this.box.addEventListener('scroll', () => { if (this.high === this.drawn) this.draw(); });
     // Where the present line was seen it stays so.
     this.sized = new ResizeObserver(() => { if (this.rows.some(row => !row.hidden && row.dataset.event === String(this.at))) this.show(this.at); else this.draw(); });
     this.sized.observe(this.box);
@@ -62,6 +63,7 @@ class TraceList {
   }
   draw() {
     const {record, top} = this, many = Math.min(this.room, record.count);
+    this.drawn = this.high;
     this.heads.textContent = this.exact.checked ? EXACT_HEADS : inColumns(this.wide, HEADS);
     while (this.rows.length < many) this.rows.push(this.seen.appendChild(document.createElement('div')));
     this.seen.style.transform = `translateY(${Math.min(this.box.scrollTop, Math.max(0, this.tall - many * LINE))}px)`;
