@@ -167,7 +167,7 @@ class CriticalPaths(Spans):
             return
         super().at_sender(flow, kind, packet, before)
         watched, record = self.watched[flow.number], len(self.kinds) - 1
-        self.phases[record] = PHASES[flow.phase]
+        self.phases[record] = PHASES[flow.state[4]]
         if flow.timer_sets != watched.timer_sets:
             watched.timer_sets, watched.timer = flow.timer_sets, record
         if before <= watched.to and flow.una > before:

@@ -249,7 +249,7 @@ class Follow(Walk):
                 whole = self.time - segment.copies[0].offered
                 self.row(segment.rows, name, 'acknowledged', at, f'{seconds(whole)} after the first offering', whole)
         elif packet.number == before and flow.una < flow.nxt and before in self.open:
-            self.row(self.open[before].rows, name, 'duplicate', at, f'duplicate {flow.dups} asks for the segment')
+            self.row(self.open[before].rows, name, 'duplicate', at, f'duplicate {flow.duplicates()} asks for the segment')
 
     # ---- the sums
 

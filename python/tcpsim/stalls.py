@@ -228,7 +228,7 @@ class Spans(Walk):
                 watched.flights += [span.nxt - span.una] * (not span.timers)
                 span.timers.append(Timer(self.time, self.line, *self.expired))
             elif not span.timers:
-                span.duplicates = flow.dups
+                span.duplicates = flow.duplicates()
 
     def open(self, flow: FlowState) -> None:
         """Begins a span, where not all is acknowledged."""

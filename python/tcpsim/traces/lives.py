@@ -4,7 +4,7 @@ the state of ports and flows that decides it. walk.py goes by them through a tra
 from __future__ import annotations
 
 from collections import deque
-from collections.abc import Iterator
+from collections.abc import Container, Iterator
 from typing import TYPE_CHECKING
 
 from tcpsim.scenario.text import Flow, Link, WrongScenario
@@ -49,12 +49,13 @@ class Watch:
 class Packet:
     """A segment or an acknowledgement on its way."""
     __slots__ = ('flow', 'sort', 'number', 'word', 'text', 'offered', 'line', 'why', 'of', 'since', 'hop',
-                 'due', 'count', 'fate', 'ended', 'ended_line', 'waited', 'asked', 'watch', 'cause', 'sent_line')
+                 'due', 'count', 'fate', 'ended', 'ended_line', 'waited', 'asked', 'watch', 'cause', 'sent_line', 'entered')
     of: Packet              # an acknowledgement's: the segment that it answers
     due: int                # when it arrives over the link, once that sends it
     count: str              # which of those that the link sent it is
     cause: int              # for a watch that keeps records: that of the event that offered it
     sent_line: int          # and the line in which its link began to send it
+    entered: tuple[int, int]        # for a page: when it entered the queue where it is, and as which of those that were offered to it
 
     def __init__(self, flow: FlowState, sort: int, number: int, offered: int, line: int, why: str | None):
         self.flow, self.sort, self.number = flow, sort, number  # the flow's state; DATA or ACK
@@ -87,8 +88,9 @@ class Hop:
 class Port:
     """The sending side of a link."""
 
-    def __init__(self, number: int, link: Link, place: int, kind: str):
+    def __init__(self, number: int, link: Link, place: int, kind: str, lost: Container[int], own: bool):
         self.number, self.link, self.capacity, self.delay = number, link, link.capacity, link.delay
+        self.lost, self.own = lost, own                 # which of those offered to it are lost; whether its queue is a class of Python's
         self.tx = f'tx={number}:'
         self.node, self.timer = str(link.source), str(3 + place)    # in the key of a line `free l`
         self.acts = 7 + STATE_WORDS[kind]               # where they begin in a line `free l`
@@ -96,7 +98,8 @@ class Port:
         self.waiting: deque[Packet] = deque()
         self.flight: deque[Packet] = deque()
         self.sending: Packet | None = None
-        self.free_at, self.sent = -1, 0                 # when it becomes free that sends, how many it sent
+        self.free_at = -1                               # when it becomes free that sends
+        self.offered = self.sent = 0                    # how many packets
 
 
 class FlowState:
@@ -112,7 +115,9 @@ class FlowState:
         self.timers = {'start': [sender, '0', '0'], 'rto': [sender, '0', '1'], 'delack': [receiver, '0', '2']}
         # the sender
         self.una = self.nxt = self.high = self.dups = 0
-        self.recovering, self.phase = False, ''     # `phase`: the word of the sender's last line
+        self.dups_before = 0            # what `dups` was when una last rose: a partial acknowledgement leaves it
+        self.recovering = False
+        self.state: list[str] = []      # as words of the sender's last line
         self.recover: int | None = None     # NewReno's: the greatest nxt when it last noticed a loss; None before
         self.partial = False            # this recovery had a partial acknowledgement
         self.timing: tuple[int, int] | None = None      # (the acknowledgement that ends it, when it began)
@@ -146,12 +151,17 @@ class FlowState:
         if self.timing is not None and ack >= self.timing[0]:
             self.sample(time - self.timing[1])
             self.timing = None
-        self.una, self.dups = ack, 0
+        self.una, self.dups_before = ack, self.dups if partial else 0
+        self.dups = self.dups_before
         if not (partial and self.partial):
             self.deadline = None
             if ack < self.nxt:
                 self.set_timer(time)
         self.partial = partial
+
+    def duplicates(self) -> int:
+        """How many duplicates asked for the segment at una."""
+        return self.dups - self.dups_before
 
     def set_timer(self, time: int) -> None:
         """The timer begins to run, or begins anew (RFC 6298 section 5)."""
@@ -168,7 +178,8 @@ class FlowState:
         """The timer ends; answers how long it ran, and whether it had been doubled."""
         self.notice_loss()
         expired = self.rto, self.doubled
-        self.dups, self.timing = 0, None
+        self.dups = self.dups_before = 0
+        self.timing = None
         self.rto, self.doubled = min(2 * self.rto, MOST_RTO), True
         self.set_timer(time)
         return expired

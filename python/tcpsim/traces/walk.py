@@ -14,9 +14,9 @@ from collections.abc import Iterable, Iterator
 from contextlib import contextmanager
 
 from tcpsim.scenario.text import Scenario, Unreadable, WrongTrace
-from tcpsim.traces.lives import (AFTER_TIMEOUT, ALARM, AT_ONCE, CAME, CODEL, FIRST, PARTIAL, PHASES, THIRD_DUPLICATE, TIMEOUT,
+from tcpsim.traces.lives import (AFTER_TIMEOUT, ALARM, AT_ONCE, CAME, CODEL, FIRST, FULL, LOST, PARTIAL, PHASES, THIRD_DUPLICATE, TIMEOUT,
                                  FlowState, Packet, Port)
-from tcpsim.traces.own_queues import LOST, dropped_by
+from tcpsim.traces.own_queues import dropped_by
 from tcpsim.traces.reader import ACK, DATA
 from tcpsim.whole_trace import IMAGE_BEGINS, opened_run
 
@@ -30,13 +30,14 @@ class Walk:
         self.time, self.line, self.ended = 0, 0, False
         self.expired = 0, False     # of the last timer that ended: how long it ran, whether it had been doubled
         places = {link: place for links in scenario.leaves for place, link in enumerate(links)}
-        self.ports = [Port(number, link, places[number], scenario.nodes[link.source].kind)
+        self.ports = [Port(number, link, places[number], scenario.nodes[link.source].kind, scenario.lost.get(number, ()), number in scenario.own)
                       for number, link in enumerate(scenario.links)]
         self.flows = [FlowState(number, flow, scenario.paths[number], self.ports)
                       for number, flow in enumerate(scenario.flows)]
         self._flow = {flow.word: flow for flow in self.flows}
         self._port = {str(port.number): port for port in self.ports}
         self._arrives = {port.source: port for port in self.ports}
+        self._states: dict[str, list[str]] = {}     # of each sender and receiver, as words of its last line
 
     # ---- hooks: what a reader of lives wants to know
 
@@ -108,6 +109,8 @@ class Walk:
         packet = port.sending
         if packet is None or self.time != port.free_at or words[4] != port.timer or words[2] != port.node or words[3] != '0':
             raise ValueError('that link does not become free now')
+        if words[7:port.acts] != self._states.get(port.node, []):
+            raise ValueError('the node was otherwise before')
         port.sending = None
         port.flight.append(packet)
         if packet.watch is not None:
@@ -141,46 +144,40 @@ class Walk:
 
     def _offer(self, packet: Packet, words: list[str], at: int) -> int:
         port = packet.hop.port
-        if port.number in self.scenario.own:
-            return self._offer_own(port, packet, words, at)
-        idle = port.sending is None
-        if idle and at < len(words) and words[at] == port.tx + packet.text:
-            if packet.watch is not None:
-                packet.watch.entered(packet, port)
-            self._begin(port, packet)
+        port.offered += 1
+        lost, act = port.offered in port.lost, words[at] if at < len(words) else ''
+        if lost or len(port.waiting) >= port.capacity and not port.own:
+            fate = LOST if lost else FULL
+            if act != f'drop={fate}:{packet.text}':
+                raise ValueError('a packet is to be dropped here')
+            self._drop(port, packet, fate)
             return at + 1
-        if at < len(words) and self._refuses(port, packet, words[at]):
-            return at + 1
-        if idle or len(port.waiting) >= port.capacity:
-            raise ValueError('that link is idle, and does not begin to send the packet' if idle else 'that queue is full')
         if packet.watch is not None:
             packet.watch.entered(packet, port)
-        port.waiting.append(packet)
-        return at
+        if port.own:
+            return self._offer_own(port, packet, words, at)
+        if port.sending is not None:
+            port.waiting.append(packet)
+            return at
+        if act != port.tx + packet.text:
+            raise ValueError('that link is idle, and does not begin to send the packet')
+        self._begin(port, packet)
+        return at + 1
 
     def _offer_own(self, port: Port, packet: Packet, words: list[str], at: int) -> int:
         """To a class of Python's, which can drop this packet or others."""
-        if at < len(words) and words[at] == f'drop={LOST}:{packet.text}':
-            self._drop(port, packet, LOST)
-            return at + 1
-        if packet.watch is not None:
-            packet.watch.entered(packet, port)
-        port.waiting.append(packet)
+        found = dropped_by(words[at]) if at < len(words) else None
+        if found and found[1] == packet.text:
+            self._drop(port, packet, found[0], True)
+            at += 1
+        else:
+            port.waiting.append(packet)
         at = self._drop_own(port, words, at)
         return self._take_own(port, words, at) if port.sending is None and port.waiting else at
 
-    def _refuses(self, port: Port, packet: Packet, act: str) -> bool:
-        """Whether the act says that the packet does not enter the queue."""
-        if act != 'drop=lost:' + packet.text and act != 'drop=full:' + packet.text:
-            return False
-        if act[5] == 'f' and len(port.waiting) < port.capacity:
-            raise ValueError('that queue is not full')
-        self._drop(port, packet, act[5:9])
-        return True
-
     def _take(self, port: Port, words: list[str], at: int) -> int:
         """The link that became free takes from its queue, which is not empty."""
-        if port.number in self.scenario.own:
+        if port.own:
             return self._take_own(port, words, at)
         packet = port.waiting[0]
         if words[at] != port.tx + packet.text:
@@ -250,7 +247,8 @@ class Walk:
                 or not (una < nxt <= flow.total or una == nxt == flow.total):
             raise ValueError('the sender\'s una or nxt is another')
         numbers, why = self._sends(flow, kind, packet, una, nxt, recovering)
-        flow.nxt, flow.recovering, flow.phase = nxt, recovering, words[at + 4]
+        flow.nxt, flow.recovering = nxt, recovering
+        flow.state = self._states[words[2]] = words[at:at + 5]
         at += 5
         for number in numbers:
             at = self._offer(self._segment(flow, number, why), words, at)
@@ -304,6 +302,7 @@ class Walk:
         waits = packet is not None and flow.receive(packet, self.time)
         if words[at] != f'next={flow.next}':
             raise ValueError('the receiver\'s next byte is another')
+        self._states[words[2]] = [words[at]]
         at += 1
         if not waits:
             answer = self._answer(flow, packet)
