@@ -1249,7 +1249,19 @@ def test_compare_says_what_it_does_before_it_is_pressed(sized):
     assert browser.value(f'{says}.checkVisibility()') and 'press run both' in text_of(browser, '#compare-form p')
     show(browser, 'compare')
     assert not browser.value(f'{says}.checkVisibility()')
+    # Both nets are as large, whatever their names take.
+    choose(browser, 'lesson 15')
+    show(browser, 'compare')
+    browser.value('simulator.compare.choose("with")')
+    browser.click(element('#compare-go'))
+    browser.wait('document.querySelectorAll("#both-figures tr").length > 0')
+    settle(browser)
+    assert len(browser.json('[...new Set([...document.querySelectorAll("#both iframe")].map(({contentDocument}) => contentDocument.getElementById("net-room").clientHeight))]')) == 1
+    look(browser, 'compared_nets')
     browser.value('simulator.showTab("net")')
+    # And no dialog has a gap above its first row.
+    with dialog(browser, 'save-open', '#save-close'):
+        assert browser.value('document.getElementById("save").getBoundingClientRect().top - document.getElementById("save-dialog").getBoundingClientRect().top') < 24
 
 
 def test_on_a_phone_nothing_that_moves_the_run_is_out_of_view(sized):
@@ -1266,6 +1278,53 @@ def test_on_a_phone_nothing_that_moves_the_run_is_out_of_view(sized):
     show(browser, 'compare')
     assert browser.json('''[...document.querySelectorAll('#both .clock > *')].filter(e => e.checkVisibility()).map(e => [e.id, e.getBoundingClientRect()]).filter(([, {left, right}]) => left < 0 || right > 390).map(([id]) => id)''') == []
     browser.value('simulator.showTab("net")')
+
+
+def test_on_a_phone_a_lesson_is_shown_whole_or_with_its_run(sized):
+    """A press gives it all the room that it needs, another takes that back, and so does another lesson; elsewhere its border is moved."""
+    browser = sized
+    choose(browser, 'lesson 13')
+    more, whole = element('#lesson-more'), '(e => e.scrollHeight <= e.clientHeight + 1)(document.getElementById("lesson"))'
+    assert not browser.value(f'{more}.checkVisibility()')
+    browser.size(390, 844, mobile=True)
+    settle(browser)
+    assert browser.json(f'[{more}.textContent, {whole}]') == ['whole lesson', False]
+    browser.click(more)
+    assert browser.json(f'[{more}.textContent, {more}.ariaExpanded, {whole}]') == ['less of the lesson', 'true', True]
+    look(browser, 'phone_whole_lesson')
+    browser.click(more)
+    assert browser.json(f'[{more}.textContent, {whole}]') == ['whole lesson', False]
+    browser.click(more)
+    choose(browser, 'lesson 17')
+    assert browser.json(f'[{more}.textContent, {whole}]') == ['whole lesson', False]
+    look(browser, 'phone_lesson')
+    choose(browser, 'example bufferbloat')
+    assert not browser.value(f'{more}.checkVisibility()')
+
+
+@pytest.mark.parametrize('width', [1400, 1024])
+def test_what_moves_the_run_is_in_one_row(sized, width):
+    """Also with the button `compact`, which nets with many ends have."""
+    browser = sized
+    browser.size(width, SIZES[width])
+    choose(browser, 'lesson 17')
+    settle(browser)
+    look(browser, f'one_row_{width}')
+    assert browser.value('document.getElementById("fold").checkVisibility()')
+    assert browser.value('(([one, two]) => Math.abs(one.top + one.bottom - two.top - two.bottom) < 16)(["play", "pace"].map(id => document.getElementById(id).getBoundingClientRect()))')
+
+
+def test_further_rows_of_a_line_hang(sized):
+    """Of the trace around the moment: below its time, and none is cut."""
+    browser = sized
+    choose(browser, 'lesson 7')
+    browser.value('page.goEvent(100)')
+    settle(browser)
+    rows, list_bottom = browser.json('''[[...document.querySelectorAll("#lines li:not(.heads)")].filter(e => !e.hidden).map(e => { const range = new Range(); range.selectNodeContents(e);
+      return [e.getBoundingClientRect().bottom, e.getBoundingClientRect().left, ...[...range.getClientRects()].map(({left}) => left)]; }), document.getElementById("lines").getBoundingClientRect().bottom]''')
+    wrapped = [(left, further[-1]) for _, left, _, *further in rows if further]
+    assert wrapped and all(hangs > left + 50 for left, hangs in wrapped), rows
+    assert max(bottom for bottom, *_ in rows) <= list_bottom
 
 
 def test_what_scrolls_shows_that_there_is_more(sized, tmp_path):

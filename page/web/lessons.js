@@ -4,7 +4,8 @@
 class Lessons {
   // `open` is given the name of an example, `go` the number of an event and the example in which it is.
   constructor(place, lessons, open, go) {
-    Object.assign(this, {place, lessons, open, go, now: null});
+    Object.assign(this, {place, lessons, open, go, now: null, more: byId('lesson-more')});
+    this.more.addEventListener('click', () => this.showWhole(!place.classList.contains('whole')));
     place.addEventListener('click', event => {
       const {example, event: number, of} = event.target.dataset;
       if (example) this.open(example); else if (number) this.go(+number, of);
@@ -13,7 +14,8 @@ class Lessons {
   show(lesson) {
     this.now = lesson;
     this.place.textContent = '';
-    this.place.hidden = !lesson;
+    this.place.hidden = this.more.hidden = !lesson;
+    this.showWhole(false);
     if (!lesson) return;
     const head = document.createElement('h2');
     head.textContent = `${lesson.number}. ${lesson.title}`;
@@ -39,6 +41,12 @@ class Lessons {
     });
     this.place.append(text);
     this.place.scrollTop = 0;
+  }
+  // On a phone the lesson takes little room, or all that it needs.
+  showWhole(whole) {
+    this.place.classList.toggle('whole', whole);
+    this.more.ariaExpanded = whole;
+    this.more.textContent = whole ? 'less of the lesson' : 'whole lesson';
   }
   // Heads a run with its scenario's name, and for a lecture with the lesson that is shown, where it is of this scenario.
   putHead(place, title) {

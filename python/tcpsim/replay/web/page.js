@@ -1,12 +1,14 @@
 'use strict';
 // The page: the present moment, the keys, the address, and what is shown of it.
 
+const HANGS = 8;                        // letters before the further rows of a line, as page.css has it
 // How many rows a line takes that is wrapped between its words.
 function rowsOf(line, letters) {
-  let rows = 1, room = letters;
+  let rows = 1, whole = letters, room = letters;
+  const next = () => { rows += 1; whole = Math.max(1, letters - HANGS); };
   for (const {length} of line.split(' ')) {
-    if (length > room && room < letters) { rows += 1; room = letters; }
-    for (; room < length; room += letters) rows += 1;
+    if (length > room && room < whole) { next(); room = whole; }
+    while (room < length) { next(); room += whole; }
     room -= length + 1;
   }
   return rows;
