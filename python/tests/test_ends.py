@@ -499,7 +499,7 @@ def test_files_that_are_none(tool, place):
     for given, says in ((words(tool, 'nothing', 's.trace'), 'No such file'), (words(tool, 's.txt', 'nothing'), 'No such file'),
                         (words(tool, 'out'), 'directory'), (words(tool, 's.txt', 'out'), 'directory'), (words(tool, 'ff'), 'not ASCII'),
                         (words(tool, 'words'), 'line 1'), (words(tool, 's.trace'), 's.trace: line 1: '), (words(tool, 'back'), 'way'),
-                        (words(tool, 'itself'), 'itself' if tool in ('stalls', 'time', 'follow') else 'line '),
+                        (words(tool, 'itself'), 'itself' if tool in ('stalls', 'time', 'follow', 'replay') else 'line '),
                         ([*words(tool, trace=None), '--program', 'out'], 'no program'),
                         ([*words(tool, '01', None), '--program', PROGRAM], 'refused E4 line')):
         is_told(run(tool, *given, '-o', target(place, tool), cwd=place), 2 if says == 'No such file' else 1, says)

@@ -71,6 +71,7 @@ class Part(Walk, Watch):
     # ---- what a page needs besides, as each line is read
 
     def at_sender(self, flow: FlowState, kind: str, packet: Packet | None, before: int) -> None:
+        """Holds the sender's words against its phase, and notes when its una rose."""
         cwnd, ssthresh = map(number_of, flow.state[2:4])
         if [word.partition('=')[0] for word in flow.state] != ['una', 'nxt', 'cwnd', 'ssthresh', 'phase']:
             raise ValueError('not a sender\'s words')
@@ -80,18 +81,22 @@ class Part(Walk, Watch):
             self.since[flow] = self.time
 
     def born(self, packet: Packet) -> None:
+        """Watches a packet from the event that sends it."""
         packet.watch = self
 
     def entered(self, packet: Packet, port: Port) -> None:
+        """Notes when a packet came to a queue, and as which one."""
         packet.entered = self.time, port.offered
         self.coming, self.gone = packet, 0
 
     def began(self, packet: Packet, port: Port) -> None:
+        """Refuses a queue that sends out of its order."""
         if port.waiting and port.waiting[0].entered < packet.entered or self.gone == self.line:
             raise Unreadable('a page shows queues whose packets leave in the order in which they came, and that of link '
                              f'{port.link.name} has another order')
 
     def dropped(self, packet: Packet, port: Port) -> None:
+        """Refuses a queue that drops out of its order a packet that was not just coming."""
         if packet.waited and packet is self.coming:
             self.gone = self.line
         elif packet.waited:
