@@ -755,14 +755,14 @@ def test_a_lesson_speaks_of_what_the_page_shows():
 
 
 def test_lesson_13_says_when_its_flows_lose():
-    """Each in turn, as its claim has it: three of each within half a second of the other's, and at 12 s one alone."""
+    """Each when the queue is full, as its claim has it: three of each within half a second of the other's, and at 12 s one alone."""
     text = page_lessons.lessons()[12].text
     with open(f'{TOP}/examples/two_flows_share_fairly.trace', encoding='ascii') as file:
         drops = [(int(line.split()[1]) / 1e9, line.split()[6]) for line in file if ' drop=' in line]
     between = {flow: [time for time, of in drops if of == flow and 4 < time < 11] for flow in '01'}
     assert all(len(it) == 3 for it in between.values()) and all(.05 < abs(one - two) < .5 for one, two in zip(*between.values()))
     assert [flow for time, flow in drops if 11 < time < 13] == ['0']
-    assert 'each is halved in turn' in text and 'From 4 to 11 s each flow loses three segments, one within half a second of the other\'s; at 12 s fa loses alone' in text
+    assert 'each is halved when the queue is full' in text and 'From 4 to 11 s each flow loses three segments, one within half a second of the other\'s; at 12 s fa loses alone' in text
 
 
 def test_a_lesson_names_no_sign_that_its_run_has_not():

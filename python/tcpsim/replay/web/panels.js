@@ -129,7 +129,7 @@ const PANELS = {
     lane: (record, l, x) => ({name: record.facts.links[l].name, colour: linkColourOf(l), marks: dropsAt(record, l), series: [
       ...stacked(record, l, x).map((area, f) => ({area, most: 0, flow: f, colour: colourOf(f), name: `packets of ${flowName(record, f)} in the queue of ${record.facts.links[l].name}`})).filter(({area}) => area.length),
       {curve: record.queueCurve(l), colour: linkColourOf(l), behind: true, name: `queue of ${record.facts.links[l].name}`}]})},
-  delays: {says: 'delay', of: 'links', hides: 'flows', whole: false, text: ns => ns ? waitText(ns) : '0', titles: [LOOKS.panels.delay, 'delay of each packet', 'delay'], lane: (record, l, x, flows) => {
+  delays: {says: 'delay', of: 'links', hides: 'flows', whole: false, text: ns => ns ? waitText(ns) : '0', titles: [LOOKS.panels.delay, 'delay in the queue', 'delay'], lane: (record, l, x, flows) => {
     const track = record.tracks[l], of = record.facts.flows.map(() => ({times: [], values: []})), shown = new Set(flows);
     for (let k = 0; k < track.gone; k++) { const entry = track.entryOf(k), one = of[track.flow[entry]]; one.times.push(track.entered(entry)); one.values.push(track.begun(k) - track.entered(entry)); }
     const {facts: {links, targets}} = record, target = targets[l] ? [{level: targets[l], thin: true, name: `CoDel's target at ${links[l].name}: ${waitText(targets[l])}`}] : [];
