@@ -70,9 +70,10 @@ IN_BETWEEN = '''async () => {
 BOTH_IN_BETWEEN = '''async () => {
   const {compare} = simulator, place = document.getElementById('both'), pauses = pause;
   let parts = 0, second = null, wrong = null;
-  pause = () => {
-    if (place.classList.contains('building') && ++parts === %d) { compare.choose('example two_flows_share_fairly'); second = compare.start(); }
-    return pauses();
+  pause = async () => {
+    const isTheOne = place.classList.contains('building') && ++parts === %d;
+    await pauses();
+    if (isTheOne) { compare.choose('example two_flows_share_fairly'); second = compare.start(); }
   };
   compare.choose('example bufferbloat_with_codel');
   compare.start().catch(it => { wrong = it; });
